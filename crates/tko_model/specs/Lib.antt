@@ -1,0 +1,4 @@
+pub mod Looks
+pub mod Ranges
+pub mod Records
+pub mod Tracker

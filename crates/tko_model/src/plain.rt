@@ -1,0 +1,112 @@
+//! The tracker of one thread at a time.
+ghost use Rattle.std.specs.Prelude.{◌≡◌, ◌<◌, ◌↔◌, Some, IfOk, length};
+ghost use Rattle.tko_model.specs.Ranges.{first_fault};
+
+use crate::state::count_softs;
+use crate::verdict::Verdict;
+use crate::{Mark, Op, Reply, ServerState, Settings, SettingsFault};
+use std::alloc::{AllocError, Global};
+use std::marker::Model;
+use thiserror::Error;
+
+/// Why a tracker can't be opened.
+#[derive(Clone, Copy, Debug, PartialEq, Eq, Error)]
+pub enum OpenFault {
+    #[error("settings {0}")]
+    Settings(SettingsFault),
+    #[error("memory")]
+    Memory,
+}
+
+impl From<AllocError> for OpenFault {
+    ghost use Rattle.std.specs.Prelude.{◌≡◌};
+    ghost use Rattle.tko_model.specs.declared.plain.OpenFault.TheVariants as fault;
+
+    ghost from_gives = { λ _ e. e ≡ fault.Memory };
+
+    fn from(_: AllocError) -> OpenFault {
+        OpenFault::Memory
+    }
+}
+
+/// The sequential tracker. Contracts see its settings and the list of its servers.
+#[derive(Debug, Drop)]
+pub struct Plain {
+    settings: Settings,
+    servers: Vec<ServerState>,
+}
+
+impl Model for Plain {
+    ghost use Rattle.std.specs.Prelude.{List};
+    ghost use Rattle.tko_model.specs.Tracker.{Tracker, IsTracker};
+
+    ghost Value = { Tracker };
+
+    ghost view = { λ p. record { settings = p.settings; servers = p.servers.items } };
+
+    ghost invariant = { λ p. IsTracker (record { settings = p.settings; servers = p.servers.items }) };
+}
+
+impl Plain {
+    ghost use Rattle.tko_model.specs.Tracker.{IsTracker, after, opened, reply_of, server_at};
+
+    /// All servers are up, at the opening stamp.
+    pub fn open(alloc: Global, settings: Settings) -> Result<Plain, OpenFault>
+        ensures ok { IfOk result (λ tracker. tracker ≡ opened settings) }
+        ensures settings { (fault : SettingsFault) →
+            (result ≡ Err (OpenFault.Settings fault)) ↔ (first_fault settings ≡ Some fault) }
+    {
+        if let Err(fault) = settings.check() {
+            return Err(OpenFault::Settings(fault));
+        }
+        let server = ServerState {
+            mark: Mark::Up(0),
+            stamp: settings.opening_stamp,
+        };
+        let servers = vec![in alloc; server; settings.servers as usize]?;
+        Ok(Plain { settings, servers })
+    }
+
+    /// Does one operation of a thread on a server, and answers it.
+    pub fn apply(&mut self, thread: u32, op: Op, server: usize) -> Reply
+        requires thread { thread < self.old.settings.threads }
+        requires server { server < length self.old.servers }
+        ensures reply { result ≡ reply_of self.old thread op server }
+        ensures state { self.new ≡ after self.old thread op server }
+    {
+        let old = self.servers[server];
+        let softs = count_softs(&self.servers);
+        let verdict = Verdict::of(&self.settings, softs, thread, op, old);
+        if let Some(mark) = verdict.change {
+            self.servers[server] = ServerState {
+                mark,
+                stamp: old.stamp + 1,
+            };
+        }
+        verdict.reply
+    }
+
+    /// The mark of a server.
+    pub fn mark(&self, server: usize) -> Mark
+        requires { server < length self.now.servers }
+        ensures { result ≡ (server_at self.now.servers server).mark }
+    {
+        self.servers[server].mark
+    }
+
+    /// The stamp of a server: the opening stamp, and one for each change of its mark.
+    pub fn stamp(&self, server: usize) -> u64
+        requires { server < length self.now.servers }
+        ensures { result ≡ (server_at self.now.servers server).stamp }
+    {
+        self.servers[server].stamp
+    }
+
+    /// The settings that it was opened with.
+    pub fn settings(&self) -> &Settings
+        ensures value { result.now ≡ self.now.settings }
+        ensures tracker { IsTracker self.now }
+    {
+        &self.settings
+    }
+}
