@@ -1,0 +1,98 @@
+-- Rows of the grammar, computed: what some lines say, also of commands that aren't taken yet.
+use Rattle.std.proofs.Common.{◌≡◌, [], ◌∷◌, codes, refl, pos, negsuc, true, false}
+use Rattle.std.specs.Fmt.{digits}
+use Rattle.tko_text.specs.declared.fault.TextFault.TheVariants.{UnknownCommand, BadLine, BadKey, TooLarge}
+use Rattle.tko_text.specs.Commands.{form_said, bad_line, Stored, Compared, Deleted, Counted, Touched, Alone, Followed, Asks, Wants, Refused, Next, Pass, said, form_of}
+use Rattle.tko_text.specs.Keys.{is_key}
+use Rattle.tko_text.specs.Lines.{content}
+use Rattle.tko_text.specs.Requests.{Set, Store, Cas, Incr, Touch, Version, StatsTko, Get, printed}
+use Rattle.tko_text.specs.Words.{words}
+
+get_of_one_key : said (content (codes "  get   a \r")) ≡ Asks (Get (codes "a" ∷ []))
+unfolding is_key form_of
+get_of_one_key = refl
+
+get_of_two_keys : said (codes "get a b") ≡ Refused BadLine Next
+unfolding is_key form_of
+get_of_two_keys = refl
+
+no_word : said (codes "  ") ≡ Refused UnknownCommand Next
+no_word = refl
+
+-- a version request isn't taken yet
+version_so_far : said (codes "version") ≡ Refused UnknownCommand Next
+unfolding form_of
+version_so_far = refl
+
+set_with_zeros : form_said (Stored Set) (words (codes " a  0 -0  005 noreply "))
+    ≡ Wants 5 (λ value. Store Set (record { key = codes "a"; flags = 0; expiry = pos 0; value = value }) true)
+unfolding is_key
+set_with_zeros = refl
+
+set_plus_expiry : form_said (Stored Set) (words (codes "a 0 +5 5")) ≡ bad_line
+unfolding is_key
+set_plus_expiry = refl
+
+set_lone_minus : form_said (Stored Set) (words (codes "a 0 - 5")) ≡ bad_line
+unfolding is_key
+set_lone_minus = refl
+
+set_greatest_data : form_said (Stored Set) (words (codes "a 4294967295 1 1048576"))
+    ≡ Wants 1048576 (λ value. Store Set (record { key = codes "a"; flags = 4294967295; expiry = pos 1; value = value }) false)
+unfolding is_key
+set_greatest_data = refl
+
+set_too_large : form_said (Stored Set) (words (codes "a 0 -7 1048577")) ≡ Refused TooLarge (Pass 1048579)
+unfolding is_key
+set_too_large = refl
+
+set_flags_past_bound : form_said (Stored Set) (words (codes "a 4294967296 0 1")) ≡ bad_line
+unfolding is_key
+set_flags_past_bound = refl
+
+-- a bad key stands before a size that is too large
+set_bad_key : form_said (Stored Set) (words (127 ∷ codes " 0 0 1048577")) ≡ Refused BadKey (Pass 1048579)
+unfolding is_key
+set_bad_key = refl
+
+set_other_last_word : form_said (Stored Set) (words (codes "a 0 0 1 reply")) ≡ bad_line
+unfolding is_key
+set_other_last_word = refl
+
+cas_without_noreply : form_said Compared (words (codes "a 0 0 2 9"))
+    ≡ Wants 2 (λ value. Cas (record { key = codes "a"; flags = 0; expiry = pos 0; value = value }) 9 false)
+unfolding is_key
+cas_without_noreply = refl
+
+delete_other_word : form_said Deleted (words (codes "a x")) ≡ bad_line
+unfolding is_key
+delete_other_word = refl
+
+incr_greatest : form_said (Counted Incr) (words (codes "a 18446744073709551615"))
+    ≡ Asks (Incr (codes "a") 18446744073709551615 false)
+unfolding is_key
+incr_greatest = refl
+
+incr_past_bound : form_said (Counted Incr) (words (codes "a 18446744073709551616")) ≡ bad_line
+unfolding is_key
+incr_past_bound = refl
+
+touch_least : form_said Touched (words (codes "a -9223372036854775808 noreply"))
+    ≡ Asks (Touch (codes "a") (negsuc 9223372036854775807) true)
+unfolding is_key
+touch_least = refl
+
+touch_past_bound : form_said Touched (words (codes "a 9223372036854775808")) ≡ bad_line
+unfolding is_key
+touch_past_bound = refl
+
+version_with_a_word : form_said (Alone Version) (words (codes "x")) ≡ bad_line
+version_with_a_word = refl
+
+stats_with_more : form_said (Followed (codes "tko") StatsTko) (words (codes "tko x")) ≡ Refused UnknownCommand Next
+stats_with_more = refl
+
+printed-set : printed (Store Set (record { key = codes "k"; flags = 7; expiry = negsuc 0; value = codes "xy" }) true)
+    ≡ codes "set k 7 -1 2 noreply\r\nxy\r\n"
+unfolding printed digits
+printed-set = refl

@@ -1,0 +1,11 @@
+pub mod Buffers
+pub mod Commands
+pub mod Keys
+pub mod Lines
+pub mod Numbers
+pub mod Reading
+pub mod Requests
+pub mod ResponseFaults
+pub mod ResponseLines
+pub mod Responses
+pub mod Words

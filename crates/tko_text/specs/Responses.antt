@@ -1,0 +1,255 @@
+-- What servers answer: each answer's text, which requests it answers, and what is read where.
+use Rattle.std.specs.Prelude.{◌≡◌, ℕ, ◌^◌, ◌≤◌, ◌⊎◌, List, [], ◌∷◌, ◌++◌, length, take, codes, decimal, Option, Some, None, IsSome, Result, Ok, Err}
+use Rattle.tko_text.specs.declared.request.Request.{Request}
+use Rattle.tko_text.specs.declared.request.Request.TheVariants as request
+use Rattle.tko_text.specs.declared.response.Response.{Response}
+use Rattle.tko_text.specs.declared.response.Response.TheVariants as response
+use Rattle.tko_text.specs.declared.response.body.Value.{Value}
+use Rattle.tko_text.specs.declared.response.fault.ReadFault.{ReadFault}
+use Rattle.tko_text.specs.declared.response.fault.ReadFault.TheVariants as fault
+use Rattle.tko_text.specs.ResponseLines.{IsOpenLine, IsLine, IsTextLine, IsNumber}
+use Rattle.tko_text.specs.Words.{words}
+
+-- what a request asks, as far as its answers go
+pub data Kind : Type 0 where
+  Get : List ℕ → Kind
+  Gets : List ℕ → Kind
+  Storage : Kind
+  Delete : Kind
+  Counter : Kind
+  Touch : Kind
+  Probe : Kind
+
+-- what is found under a key, with its cas number where that was asked
+pub record Found : Type 0 where
+  pub key : List ℕ
+  pub flags : ℕ
+  pub bytes : List ℕ
+  pub cas : Option ℕ
+
+-- every answer of the protocol
+pub data Answer : Type 0 where
+  Values : Option Found → Answer
+  Stored : Answer
+  NotStored : Answer
+  Exists : Answer
+  Deleted : Answer
+  Touched : Answer
+  NotFound : Answer
+  Number : ℕ → Answer
+  Version : List ℕ → Answer
+  Error : Answer
+  ClientError : List ℕ → Answer
+  ServerError : List ℕ → Answer
+
+-- a request of this kind asked for a value with such a key and cas number
+abbrev pub Asks : Kind → List ℕ → Option ℕ → Type 0
+Asks (Get asked) key cas = (key ≡ asked) × (cas ≡ None)
+Asks (Gets asked) key cas = (key ≡ asked) × IsSome cas
+Asks _ key cas = ⊥
+
+-- which answers a request of each kind can have
+abbrev pub Suits : Kind → Answer → Type 0
+Suits (Get key) (Values None) = Unit {0}
+Suits (Gets key) (Values None) = Unit {0}
+Suits kind (Values (Some found)) = Asks kind found.key found.cas
+Suits Storage Stored = Unit {0}
+Suits Storage NotStored = Unit {0}
+Suits Storage Exists = Unit {0}
+Suits Storage NotFound = Unit {0}
+Suits Delete Deleted = Unit {0}
+Suits Delete NotFound = Unit {0}
+Suits Counter (Number n) = Unit {0}
+Suits Counter NotFound = Unit {0}
+Suits Touch Touched = Unit {0}
+Suits Touch NotFound = Unit {0}
+Suits Probe (Version text) = Unit {0}
+Suits kind Error = Unit {0}
+Suits kind (ClientError text) = Unit {0}
+Suits kind (ServerError text) = Unit {0}
+Suits _ _ = ⊥
+
+-- what a line says, where the line is the whole answer
+abbrev pub Says : List ℕ → Answer → Type 0
+Says said (Values None) = words said ≡ codes "END" ∷ []
+Says said (Values (Some found)) = ⊥
+Says said Stored = words said ≡ codes "STORED" ∷ []
+Says said NotStored = words said ≡ codes "NOT_STORED" ∷ []
+Says said Exists = words said ≡ codes "EXISTS" ∷ []
+Says said Deleted = words said ≡ codes "DELETED" ∷ []
+Says said Touched = words said ≡ codes "TOUCHED" ∷ []
+Says said NotFound = words said ≡ codes "NOT_FOUND" ∷ []
+Says said (Number n) = (word : List ℕ) × (words said ≡ word ∷ []) × IsNumber (2 ^ 64) word n
+Says said (Version text) = IsTextLine (codes "VERSION") said text
+Says said Error = words said ≡ codes "ERROR" ∷ []
+Says said (ClientError text) = IsTextLine (codes "CLIENT_ERROR") said text
+Says said (ServerError text) = IsTextLine (codes "SERVER_ERROR") said text
+
+-- the bytes are one line, which says the answer
+pub record IsAnswerLine (bytes : List ℕ) (answer : Answer) : Type 0 where
+  pub said : List ℕ
+  pub is_line : IsLine bytes said
+  pub says : Says said answer
+
+-- the words behind the size of a value are its cas number, where it has one
+abbrev pub IsCas : List (List ℕ) → Option ℕ → Type 0
+IsCas found None = found ≡ []
+IsCas found (Some n) = (word : List ℕ) × (found ≡ word ∷ []) × IsNumber (2 ^ 64) word n
+
+-- the first line of a value of so many bytes
+pub record IsHead (said key : List ℕ) (flags size : ℕ) (cas : Option ℕ) : Type 0 where
+  pub flags_word : List ℕ
+  pub size_word : List ℕ
+  pub cas_words : List (List ℕ)
+  pub words_are : words said ≡ codes "VALUE" ∷ key ∷ flags_word ∷ size_word ∷ cas_words
+  pub flags_are : IsNumber (2 ^ 32) flags_word flags
+  pub size_is : IsNumber (2 ^ 64) size_word size
+  pub small : size ≤ 1048576
+  pub cas_is : IsCas cas_words cas
+
+-- data and the CR LF behind it
+abbrev pub block : List ℕ → List ℕ
+block bytes = bytes ++ codes "\r\n"
+
+-- what stands behind a value's first line: its data, and the line `END`
+pub record IsBody (said body : List ℕ) (found : Found) : Type 0 where
+  pub last : List ℕ
+  pub is_head : IsHead said found.key found.flags (length found.bytes) found.cas
+  pub whole : body ≡ block found.bytes ++ last
+  pub is_end : IsAnswerLine last (Values None)
+
+-- the bytes are one value
+pub record IsValue (bytes : List ℕ) (found : Found) : Type 0 where
+  pub head : List ℕ
+  pub said : List ℕ
+  pub body : List ℕ
+  pub whole : bytes ≡ head ++ body
+  pub is_line : IsLine head said
+  pub is_body : IsBody said body found
+
+-- the bytes, from their first to their last, are this answer
+abbrev pub Spells : List ℕ → Answer → Type 0
+Spells bytes (Values (Some found)) = IsValue bytes found
+Spells bytes answer = IsAnswerLine bytes answer
+
+-- not all of so many bytes of data, or not yet the CR LF behind them
+abbrev pub IsCutData : ℕ → List ℕ → Type 0
+IsCutData size bytes =
+    (length bytes ≤ size)
+    ⊎ ((found : List ℕ) × (length found ≡ size) × (bytes ≡ found ++ codes "\r"))
+
+-- so many bytes of data, their CR LF, and not all of the line that follows
+abbrev pub IsCutEnd : ℕ → List ℕ → Type 0
+IsCutEnd size bytes =
+    (found last : List ℕ) × (length found ≡ size) × (bytes ≡ block found ++ last) × IsOpenLine last
+
+-- a value was asked for, its first line has come, and not all that stands behind it
+pub record IsCutBody (kind : Kind) (said body : List ℕ) : Type 0 where
+  pub key : List ℕ
+  pub flags : ℕ
+  pub size : ℕ
+  pub cas : Option ℕ
+  pub is_head : IsHead said key flags size cas
+  pub asked : Asks kind key cas
+  pub cut : IsCutData size body ⊎ IsCutEnd size body
+
+pub record IsCutValue (kind : Kind) (bytes : List ℕ) : Type 0 where
+  pub head : List ℕ
+  pub said : List ℕ
+  pub body : List ℕ
+  pub whole : bytes ≡ head ++ body
+  pub is_line : IsLine head said
+  pub is_cut : IsCutBody kind said body
+
+-- the bytes are a line that has no end yet, or a value that isn't whole
+abbrev pub Begins : Kind → List ℕ → Type 0
+Begins kind bytes = IsOpenLine bytes ⊎ IsCutValue kind bytes
+
+-- the requests whose answers are read so far
+abbrev pub IsTaken : Kind → Type 0
+IsTaken (Get key) = Unit {0}
+IsTaken _ = ⊥
+
+abbrev pub kind_of : Request → Kind
+kind_of (request.Get key) = Get key
+
+abbrev pub found_of : Value → Found
+found_of value = record { key = value.key; flags = value.flags; bytes = value.data; cas = None }
+
+abbrev pub answer_of : Response → Answer
+answer_of (response.Values None) = Values None
+answer_of (response.Values (Some value)) = Values (Some (found_of value))
+answer_of response.Error = Error
+answer_of (response.ClientError text) = ClientError text
+answer_of (response.ServerError text) = ServerError text
+
+-- the bytes, all of them, are this response to the request
+unfoldable pub IsResponse : Request → List ℕ → Response → Type 0
+IsResponse request bytes response =
+    IsTaken (kind_of request)
+    × Suits (kind_of request) (answer_of response)
+    × Spells bytes (answer_of response)
+
+-- the bytes may be the beginning of a response to the request
+unfoldable pub IsBeginning : Request → List ℕ → Type 0
+IsBeginning request bytes = IsTaken (kind_of request) × Begins (kind_of request) bytes
+
+-- no front of the bytes is a response to the request
+unfoldable pub NoResponse : Request → List ℕ → Type 0
+NoResponse request bytes =
+    (n : ℕ) (response : Response) → n ≤ length bytes
+    → IsResponse request (take n bytes) response → ⊥
+
+-- what is read of the bytes, where there is memory: the response that a front of them is, with the
+-- length of that front; that they may begin one; or that they are neither
+unfoldable pub ReadsResponse : Request → List ℕ → Result (Response × ℕ) ReadFault → Type 0
+ReadsResponse request bytes (Ok found) =
+    (found.1 ≤ length bytes) × IsResponse request (take found.1 bytes) found.0
+ReadsResponse request bytes (Err fault.Short) = IsBeginning request bytes × NoResponse request bytes
+ReadsResponse request bytes (Err fault.Unreadable) =
+    ¬ (IsBeginning request bytes) × NoResponse request bytes
+ReadsResponse request bytes (Err fault.Memory) = Unit {0}
+
+-- at most one front of the bytes is a response to a request, and it is one response
+abbrev pub OneResponse : Type 0
+OneResponse =
+    (request : Request) (first second behind_first behind_second : List ℕ) (r s : Response)
+    → IsResponse request first r → IsResponse request second s
+    → first ++ behind_first ≡ second ++ behind_second → (first ≡ second) × (r ≡ s)
+
+-- where bytes may be the beginning of a response, no front of them is one
+abbrev pub BeginningHasNone : Type 0
+BeginningHasNone =
+    (request : Request) (bytes : List ℕ) → IsBeginning request bytes → NoResponse request bytes
+
+-- a word behind a space
+abbrev pub cas_text : Option ℕ → List ℕ
+cas_text None = []
+cas_text (Some n) = codes " " ++ decimal n
+
+-- the written first line and data of a value
+abbrev pub value_text : Found → List ℕ
+value_text found =
+    codes "VALUE " ++ found.key ++ codes " " ++ decimal found.flags ++ codes " "
+    ++ decimal (length found.bytes) ++ cas_text found.cas ++ codes "\r\n"
+    ++ found.bytes ++ codes "\r\n"
+
+-- the written form of each answer
+abbrev pub answer_text : Answer → List ℕ
+answer_text (Values None) = codes "END\r\n"
+answer_text (Values (Some found)) = value_text found ++ codes "END\r\n"
+answer_text Stored = codes "STORED\r\n"
+answer_text NotStored = codes "NOT_STORED\r\n"
+answer_text Exists = codes "EXISTS\r\n"
+answer_text Deleted = codes "DELETED\r\n"
+answer_text Touched = codes "TOUCHED\r\n"
+answer_text NotFound = codes "NOT_FOUND\r\n"
+answer_text (Number n) = decimal n ++ codes "\r\n"
+answer_text (Version text) = codes "VERSION " ++ text ++ codes "\r\n"
+answer_text Error = codes "ERROR\r\n"
+answer_text (ClientError text) = codes "CLIENT_ERROR " ++ text ++ codes "\r\n"
+answer_text (ServerError text) = codes "SERVER_ERROR " ++ text ++ codes "\r\n"
+
+-- the written form of a response
+unfoldable pub response_text : Response → List ℕ
+response_text response = answer_text (answer_of response)

@@ -1,0 +1,99 @@
+//! Bytes that came and belong to no item yet.
+ghost use Rattle.std.specs.Prelude.{◌≡◌, ◌≤◌, ◌++◌, [], length, take, drop, OnOk, OnErr};
+ghost use Rattle.memchr.specs.Find.{IsFirstByte, is_byte};
+ghost use Rattle.tko_text.specs.Lines.{line_feed};
+
+use memchr::memchr;
+use std::alloc::{AllocError, Global};
+use std::marker::Model;
+
+/// A queue of bytes that is searched for LF, each byte once. Contracts see the bytes in the queue.
+#[derive(Debug, Drop)]
+pub(crate) struct Buffer {
+    /// The bytes, behind those that were taken since they last moved.
+    bytes: Vec<u8>,
+    /// Where the queue begins.
+    start: usize,
+    /// Up to here no LF is in it.
+    searched: usize,
+}
+
+impl Model for Buffer {
+    ghost use Rattle.std.specs.Prelude.{List, ℕ, drop};
+    ghost use Rattle.tko_text.specs.Buffers.{IsSearched};
+
+    ghost Value = { List ℕ };
+
+    ghost view = { λ b. drop b.start b.bytes.items };
+
+    ghost invariant = { λ b. IsSearched b.bytes.items b.start b.searched };
+}
+
+impl Buffer {
+    pub(crate) fn new(alloc: Global) -> Buffer
+        ensures { result ≡ [] }
+    {
+        Buffer {
+            bytes: Vec::new(alloc),
+            start: 0,
+            searched: 0,
+        }
+    }
+
+    pub(crate) fn len(&self) -> usize
+        ensures { result ≡ length self.now }
+    {
+        self.bytes.len() - self.start
+    }
+
+    /// Puts a piece at the end.
+    pub(crate) fn push(&mut self, piece: &[u8]) -> Result<(), AllocError>
+        ensures ok { OnOk result (self.new ≡ self.old ++ piece.now) }
+        ensures err { OnErr result (self.new ≡ self.old) }
+    {
+        self.bytes.extend_from_slice(piece)
+    }
+
+    /// Where the first LF is.
+    pub(crate) fn line_end(&mut self) -> Option<usize>
+        ensures found { IsFirstByte (is_byte line_feed) self.old result }
+        ensures kept { self.new ≡ self.old }
+    {
+        match memchr(b'\n', &self.bytes[self.searched..]) {
+            Some(at) => {
+                self.searched += at;
+                Some(self.searched - self.start)
+            }
+            None => {
+                self.searched = self.bytes.len();
+                None
+            }
+        }
+    }
+
+    /// The first so many bytes.
+    pub(crate) fn front(&self, len: usize) -> &[u8]
+        requires { len ≤ length self.now }
+        ensures { result.now ≡ take len self.now }
+    {
+        &self.bytes[self.start..self.start + len]
+    }
+
+    /// Takes the first so many bytes away.
+    pub(crate) fn pass(&mut self, len: usize)
+        requires { len ≤ length self.old }
+        ensures { self.new ≡ drop len self.old }
+    {
+        self.start += len;
+        self.searched = self.searched.max(self.start);
+    }
+
+    /// Gives up the room of what was taken away.
+    pub(crate) fn settle(&mut self)
+        ensures { self.new ≡ self.old }
+    {
+        self.bytes.drain(..self.start);
+        self.searched -= self.start;
+        self.start = 0;
+    }
+}

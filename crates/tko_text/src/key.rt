@@ -1,0 +1,50 @@
+//! What a value is stored under.
+ghost use Rattle.std.specs.Prelude.{◌≡◌, ◌↔◌, IfOk, IfSome, IsSome};
+
+use crate::NoMemory;
+use std::alloc::Global;
+use std::marker::Model;
+
+/// 1 to 250 bytes, none of them a control character, a space or 127. Contracts see the list of the bytes.
+#[derive(Debug, Drop)]
+pub struct Key {
+    bytes: Vec<u8>,
+}
+
+impl Model for Key {
+    ghost use Rattle.std.specs.Prelude.{List, ℕ};
+    ghost use Rattle.tko_text.specs.Keys.{IsKey};
+
+    ghost Value = { List ℕ };
+
+    ghost view = { λ k. k.bytes.items };
+
+    ghost invariant = { λ k. IsKey k.bytes.items };
+}
+
+impl Key {
+    ghost use Rattle.tko_text.specs.Keys.{IsKey};
+
+    /// The key of these bytes, where they are one.
+    pub fn of(alloc: Global, bytes: &[u8]) -> Result<Option<Key>, NoMemory>
+        ensures some { IfOk result (λ key. IsSome key ↔ IsKey bytes.now) }
+        ensures value { IfOk result (λ key. IfSome key (λ key. key ≡ bytes.now)) }
+    {
+        if !is_key(bytes) {
+            return Ok(None);
+        }
+        let bytes = Vec::from_slice(alloc, bytes)?;
+        Ok(Some(Key { bytes }))
+    }
+
+    pub fn as_bytes(&self) -> &[u8]
+        ensures value { result.now ≡ self.now }
+        ensures key { IsKey self.now }
+    {
+        self.bytes.as_slice()
+    }
+}
+
+mod rule;
+
+use rule::is_key;

@@ -1,0 +1,67 @@
+//! What a server answers.
+ghost use Rattle.std.specs.Prelude.{◌≡◌, ◌≤◌, ◌++◌, length, IfOk, OnOk, OnErr};
+ghost use Rattle.tko_text.specs.Responses.{ReadsResponse, response_text};
+
+use crate::{NoMemory, Request};
+use std::alloc::Global;
+
+/// An answer to a request.
+#[derive(Debug, Drop)]
+pub enum Response {
+    /// To a `get` of one key: no value or one.
+    Values(Option<Value>),
+    /// The server doesn't know the command.
+    Error,
+    /// The request was wrong, as the text says.
+    ClientError(Text),
+    /// The server failed, as the text says.
+    ServerError(Text),
+}
+
+impl Response {
+    /// The answer to the request at the front of the bytes, and how many bytes it takes.
+    /// More may follow it.
+    /// Want of memory may take the place of each answer.
+    pub fn read(
+        alloc: Global,
+        request: &Request,
+        bytes: &[u8],
+    ) -> Result<(Response, usize), ReadFault>
+        ensures reads { ReadsResponse request.now bytes.now result }
+        ensures within { IfOk result (λ found. found.1 ≤ length bytes.now) }
+    {
+        reader::read(alloc, request, bytes)
+    }
+
+    /// Puts the written form at the end of a buffer.
+    pub fn append_to(&self, out: &mut Vec<u8>) -> Result<(), NoMemory>
+        ensures ok { OnOk result (out.new.items ≡ out.old.items ++ response_text self.now) }
+        ensures err { OnErr result (out.new.items ≡ out.old.items) }
+    {
+        writer::append(self, out)
+    }
+
+    /// The written form.
+    pub fn write(&self, alloc: Global) -> Result<Vec<u8>, NoMemory>
+        ensures ok { IfOk result (λ bytes. bytes.items ≡ response_text self.now) }
+    {
+        let mut bytes = Vec::new(alloc);
+        self.append_to(&mut bytes)?;
+        Ok(bytes)
+    }
+}
+
+mod body;
+mod fault;
+mod laws;
+mod line;
+mod number;
+mod reader;
+mod writer;
+
+pub use body::{Data, Text, Value};
+pub use fault::ReadFault;
+pub use laws::one_response;
+
+#[cfg(test)]
+mod tests;

@@ -1,0 +1,96 @@
+use super::*;
+use std::alloc::Global;
+use std::test::Fail;
+
+/// What is told of an item: the printed request, or the reply to the fault.
+fn text_of(alloc: Global, item: &Item) -> Result<Vec<u8>, NoMemory> {
+    match item {
+        Item::Request(request) => request.write(alloc),
+        Item::Fault(fault) => Ok(Vec::from_slice(alloc, fault.reply())?),
+    }
+}
+
+/// Adds what a reader tells until it needs more.
+fn tell(alloc: Global, reader: &mut Reader, told: &mut Vec<u8>) -> Result<(), NoMemory> {
+    for _ in 0..u64::MAX {
+        let Some(item) = reader.next()? else {
+            break;
+        };
+        told.extend_from_slice(text_of(alloc, &item)?.as_slice())?;
+    }
+    Ok(())
+}
+
+/// What is told of an input in pieces of so many bytes, and how many bytes are unfinished.
+fn read(alloc: Global, input: &[u8], step: usize) -> Result<(Vec<u8>, usize), Fail> {
+    let mut told = Vec::new(alloc);
+    let mut reader = Reader::new(alloc);
+    for piece in input.chunks(step.max(1)) {
+        reader.feed(piece)?;
+        tell(alloc, &mut reader, &mut told)?;
+    }
+    Ok((told, reader.unfinished()))
+}
+
+#[test]
+fn each_line_is_one_item(rt: HostRuntime) -> Result<(), Fail> {
+    let rows: [(&str, &str, usize); 12] = [
+        ("get a\r\n", "get a\r\n", 0),
+        ("  get   a  \n", "get a\r\n", 0),
+        ("get a b\r\n", "CLIENT_ERROR bad command line format\r\n", 0),
+        ("get\r\n", "CLIENT_ERROR bad command line format\r\n", 0),
+        ("\r\n", "ERROR\r\n", 0),
+        ("version\r\n", "ERROR\r\n", 0),
+        ("GET a\r\n", "ERROR\r\n", 0),
+        ("get a\tb\r\n", "CLIENT_ERROR bad key\r\n", 0),
+        ("get a\r\r\n", "CLIENT_ERROR bad key\r\n", 0),
+        ("get a", "", 5),
+        ("x\nget b\nge", "ERROR\r\nget b\r\n", 2),
+        ("", "", 0),
+    ];
+    for (input, wanted, unfinished) in rows {
+        for step in [1, 3, 64] {
+            let (told, left) = read(rt.alloc(), input.as_bytes(), step)?;
+            assert_eq!(rt; told.as_slice(), wanted.as_bytes());
+            assert_eq!(rt; left, unfinished);
+        }
+    }
+    Ok(())
+}
+
+/// A word, so many bytes `x`, and an LF.
+fn long_line(alloc: Global, word: &[u8], count: usize) -> Result<Vec<u8>, NoMemory> {
+    let mut line = Vec::from_slice(alloc, word)?;
+    line.extend_from_slice(vec![in alloc; b'x'; count]?.as_slice())?;
+    line.extend_from_slice(b"\n")?;
+    Ok(line)
+}
+
+#[test]
+fn limits_of_keys_and_lines(rt: HostRuntime) -> Result<(), Fail> {
+    let rows: [(&str, usize, &str); 4] = [
+        ("get ", 250, "get x"),
+        ("get ", 251, "CLIENT_ERROR bad key\r\n"),
+        ("", 65536, "ERROR\r\n"),
+        ("", 65537, "CLIENT_ERROR line too long\r\n"),
+    ];
+    for (word, count, wanted) in rows {
+        let line = long_line(rt.alloc(), word.as_bytes(), count)?;
+        let (told, left) = read(rt.alloc(), &line, 70000)?;
+        assert!(rt; told.as_slice().starts_with(wanted.as_bytes()));
+        assert_eq!(rt; left, 0);
+    }
+    Ok(())
+}
+
+#[test]
+fn nothing_is_read_behind_a_line_too_long(rt: HostRuntime) -> Result<(), Fail> {
+    let mut reader = Reader::new(rt.alloc());
+    reader.feed(vec![in rt.alloc(); b'x'; 65536]?.as_slice())?;
+    assert!(rt; reader.next()?.is_none());
+    reader.feed(b"xget a\n")?;
+    assert!(rt; matches!(reader.next()?, Some(Item::Fault(TextFault::LineTooLong))));
+    assert!(rt; reader.next()?.is_none());
+    assert!(rt; matches!(reader.feed(b"get a\n"), Err(FeedFault::Failed)));
+    Ok(())
+}
