@@ -1,0 +1,6 @@
+pub mod CallLemmas
+pub mod CoreLemmas
+pub mod LegalLemmas
+pub mod RunLemmas
+pub mod ThreadLemmas
+pub mod TrackerLemmas

@@ -1,0 +1,22 @@
+//! Every interleaving of the calls of several threads, as the steps of one core.
+//!
+//! - `Core`: the shared state of a tracker and where each of its threads stands.
+//! - A *call* is one operation of one thread on one server: it begins, takes steps and is answered.
+//! - A *step* is what one thread does to one word at one moment: `Stepped` tells what it found and left.
+//! - A *run* is any list of turns from the opened core; `every_run` is the law of all of them.
+//!
+//! The core is coarse: a whole call is one step.
+#![tactic(auto)]
+
+mod coarse;
+mod law;
+mod step;
+mod thread;
+
+pub use coarse::Core;
+pub use law::every_run;
+pub use step::{BeginFault, Kind, Place, Stepped, Word};
+pub use thread::ThreadState;
+
+#[cfg(test)]
+mod tests;
