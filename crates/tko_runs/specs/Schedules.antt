@@ -1,0 +1,161 @@
+-- Schedules: a text of lines, which say how a tracker is opened and then, line by line, what its
+-- threads do.
+use Rattle.std.specs.Prelude.{◌≡◌, ℕ, ◌+◌, ◌≤◌, nat_lt, if◌then◌else◌, List, [], ◌∷◌, length, drop, min, slice_index_or, codes, find, Option, Some, None, is_none, Result, Ok, Err, ⊤}
+use Rattle.std.specs.List.{filter_map, position_or_len}
+use Rattle.std.specs.Option.{option_map, option_and_then}
+use Rattle.std.specs.Str.{bytes_eq}
+use Rattle.tko_model.specs.declared.mark.Op.{Op}
+use Rattle.tko_model.specs.declared.mark.Op.TheVariants.{LookUp, SoftFailure, HardFailure, Success, Release}
+use Rattle.tko_model.specs.declared.settings.Settings.{Settings}
+use Rattle.tko_model.specs.declared.settings.SettingsFault.{SettingsFault}
+use Rattle.tko_model.specs.Ranges.{IsWithinRanges, first_fault, is_within}
+use Rattle.tko_runs.specs.declared.command.Command.{Command}
+use Rattle.tko_runs.specs.declared.command.Command.TheVariants.{Begin, Step, Run}
+use Rattle.tko_runs.specs.declared.fault.ScheduleFault.{ScheduleFault}
+use Rattle.tko_runs.specs.declared.fault.ScheduleFault.TheVariants as fault
+use Rattle.tko_runs.specs.Lines.{lines_of}
+use Rattle.tko_runs.specs.Numbers.{number_of}
+use Rattle.tko_runs.specs.Texts.{op_text}
+use Rattle.tko_runs.specs.Words.{words_of}
+
+-- what a schedule says: the settings of the tracker, and the commands in order
+pub record Plan : Type 0 where
+  pub settings : Settings
+  pub commands : List Command
+
+-- what holds of a schedule that was read
+pub record IsPlan (plan : Plan) : Type 0 where
+  pub settings : IsWithinRanges plan.settings
+  pub few : length plan.commands ≤ 1000
+
+-- The forms of lines.
+
+-- the operation of that word
+abbrev pub op_of : List ℕ → Option Op
+op_of word =
+    find (λ op. bytes_eq word (op_text op)) (LookUp ∷ SoftFailure ∷ HardFailure ∷ Success ∷ Release ∷ [])
+
+-- `begin <thread> <op> <server>`, behind its first word
+abbrev pub begin_of : List (List ℕ) → Option Command
+begin_of [] = None
+begin_of (thread ∷ []) = None
+begin_of (thread ∷ op ∷ []) = None
+begin_of (thread ∷ op ∷ server ∷ []) =
+    option_and_then (λ thread. option_and_then (λ op. option_map (λ server. Begin thread op server) (number_of server)) (op_of op)) (number_of thread)
+begin_of (thread ∷ op ∷ server ∷ other ∷ others) = None
+
+-- a number of steps that one line may ask for
+abbrev pub steps_of : List ℕ → Option ℕ
+steps_of word = option_and_then (λ steps. if is_within 1 5000 steps then Some steps else None) (number_of word)
+
+-- `step <thread> <n>`
+abbrev pub step_of : List (List ℕ) → Option Command
+step_of [] = None
+step_of (thread ∷ []) = None
+step_of (thread ∷ steps ∷ []) =
+    option_and_then (λ thread. option_map (λ steps. Step thread steps) (steps_of steps)) (number_of thread)
+step_of (thread ∷ steps ∷ other ∷ others) = None
+
+-- `run <thread>`
+abbrev pub run_of : List (List ℕ) → Option Command
+run_of [] = None
+run_of (thread ∷ []) = option_map (λ thread. Run thread) (number_of thread)
+run_of (thread ∷ other ∷ others) = None
+
+-- the command of a line with these words
+abbrev pub command_of : List (List ℕ) → Option Command
+command_of [] = None
+command_of (name ∷ others) =
+    if bytes_eq name (codes "begin") then begin_of others
+    else (if bytes_eq name (codes "step") then step_of others
+    else (if bytes_eq name (codes "run") then run_of others else None))
+
+-- the command that a line is
+abbrev pub command_line : List ℕ → Option Command
+command_line line = command_of (words_of line)
+
+-- The header.
+
+-- the number of a header line of this name: `<name> <number>`
+abbrev pub numbered : List ℕ → List (List ℕ) → Option ℕ
+numbered name [] = None
+numbered name (word ∷ []) = None
+numbered name (word ∷ number ∷ []) = if bytes_eq word name then number_of number else None
+numbered name (word ∷ number ∷ other ∷ others) = None
+
+abbrev pub header_number : List ℕ → List ℕ → Option ℕ
+header_number name line = numbered name (words_of line)
+
+-- a missing line reads as an empty one, which has no form
+abbrev pub line_at : List (List ℕ) → ℕ → List ℕ
+line_at lines place = slice_index_or lines place []
+
+-- what follows from the line of this number, counted from 1, where it has its form
+abbrev pub on_line : {A B : Type 0} → ℕ → Option A → (A → Result B ScheduleFault) → Result B ScheduleFault
+on_line number None next = Err (fault.Line number)
+on_line number (Some value) next = next value
+
+-- the first header line, which is spelt out
+abbrev pub title_of : List ℕ → Option ⊤
+title_of line = if bytes_eq line (codes "schedule 1") then Some tt else None
+
+-- the numbers of the seven header lines as settings, or the first that is bad or missing
+unfoldable pub header : List (List ℕ) → Result Settings ScheduleFault
+header lines =
+    on_line 1 (title_of (line_at lines 0)) (λ title.
+    on_line 2 (header_number (codes "servers") (line_at lines 1)) (λ servers.
+    on_line 3 (header_number (codes "threads") (line_at lines 2)) (λ threads.
+    on_line 4 (header_number (codes "failures") (line_at lines 3)) (λ failures.
+    on_line 5 (header_number (codes "limit") (line_at lines 4)) (λ limit.
+    on_line 6 (header_number (codes "tries") (line_at lines 5)) (λ tries.
+    on_line 7 (header_number (codes "stamp") (line_at lines 6)) (λ stamp.
+    Ok (record {
+      servers = servers;
+      threads = threads;
+      failures = failures;
+      limit = limit;
+      tries = tries;
+      opening_stamp = stamp;
+    }))))))))
+
+-- The lines behind the header.
+
+-- the place of the first that is no command, or of the one that is one too many
+abbrev pub bad_place : List (List ℕ) → ℕ
+bad_place lines = min (position_or_len (λ line. is_none (command_line line)) lines) 1000
+
+-- the commands of up to 1,000 lines, or the first bad line
+unfoldable pub commands_of : List (List ℕ) → Result (List Command) ScheduleFault
+commands_of lines =
+    if nat_lt (bad_place lines) (length lines)
+    then Err (fault.Line (bad_place lines + 8))
+    else Ok (filter_map command_line lines)
+
+-- The whole text.
+
+-- settings outside their ranges give their first fault
+abbrev pub plan_of : Option SettingsFault → Settings → List Command → Result Plan ScheduleFault
+plan_of (Some outside) settings commands = Err (fault.Settings outside)
+plan_of None settings commands = Ok (record { settings = settings; commands = commands })
+
+abbrev pub plan_behind : Settings → Result (List Command) ScheduleFault → Result Plan ScheduleFault
+plan_behind settings (Err bad) = Err bad
+plan_behind settings (Ok commands) = plan_of (first_fault settings) settings commands
+
+-- the lines are judged first, from the first to the last, and then the settings
+abbrev pub plan_in : Result Settings ScheduleFault → Result (List Command) ScheduleFault → Result Plan ScheduleFault
+plan_in (Err bad) commands = Err bad
+plan_in (Ok settings) commands = plan_behind settings commands
+
+-- what a text says, or why it is no schedule; a text that is too long has the bad line 0
+unfoldable pub reads : List ℕ → Result Plan ScheduleFault
+reads text =
+    if nat_lt 1048576 (length text)
+    then Err (fault.Line 0)
+    else plan_in (header (lines_of text)) (commands_of (drop 7 (lines_of text)))
+
+-- the fault that a text is told: memory may take the place of any answer, and the others are exact
+abbrev pub TellsFault : List ℕ → ScheduleFault → Type 0
+TellsFault text (fault.Line number) = reads text ≡ Err (fault.Line number)
+TellsFault text (fault.Settings outside) = reads text ≡ Err (fault.Settings outside)
+TellsFault text fault.Memory = Unit {0}

@@ -1,0 +1,120 @@
+//! The lines of a schedule that say what threads do.
+ghost use Rattle.std.specs.Prelude.{◌≡◌};
+ghost use Rattle.tko_runs.specs.Schedules.{begin_of, command_line, op_of, run_of, step_of, steps_of};
+
+use crate::number::number;
+use crate::text::op_word;
+use crate::words::Words;
+use tko_model::Op;
+
+/// The most steps that one line may ask for.
+const MAX_STEPS: u64 = 5_000;
+
+/// What one line of a schedule says. A thread or a server of that number need not be there.
+#[derive(Clone, Copy, Debug, PartialEq, Eq)]
+pub enum Command {
+    /// The thread begins a call.
+    Begin {
+        thread: usize,
+        op: Op,
+        server: usize,
+    },
+    /// The thread takes so many steps, 1 to 5,000.
+    Step {
+        thread: usize,
+        steps: u64,
+    },
+    /// The thread takes steps until its call is answered.
+    Run {
+        thread: usize,
+    },
+}
+
+impl Command {
+    /// The command that a line is.
+    pub(crate) fn of_line(line: &[u8]) -> Option<Command>
+        ensures { result ≡ command_line line.now }
+    {
+        let mut words = Words::of(line);
+        let name = words.next()?;
+        if name == b"begin".as_slice() {
+            begin(words)
+        } else if name == b"step".as_slice() {
+            step(words)
+        } else if name == b"run".as_slice() {
+            run(words)
+        } else {
+            None
+        }
+    }
+}
+
+/// `begin <thread> <op> <server>`, behind its first word.
+fn begin(mut words: Words) -> Option<Command>
+    ensures { result ≡ begin_of words.entry }
+{
+    let (thread, op, server) = (words.next()?, words.next()?, words.next()?);
+    if words.next().is_some() {
+        return None;
+    }
+    Some(Command::Begin {
+        thread: number(thread)? as usize,
+        op: op_of(op)?,
+        server: number(server)? as usize,
+    })
+}
+
+/// `step <thread> <n>`
+fn step(mut words: Words) -> Option<Command>
+    ensures { result ≡ step_of words.entry }
+{
+    let (thread, steps) = (words.next()?, words.next()?);
+    if words.next().is_some() {
+        return None;
+    }
+    Some(Command::Step {
+        thread: number(thread)? as usize,
+        steps: steps_of(steps)?,
+    })
+}
+
+/// `run <thread>`
+fn run(mut words: Words) -> Option<Command>
+    ensures { result ≡ run_of words.entry }
+{
+    let thread = words.next()?;
+    if words.next().is_some() {
+        return None;
+    }
+    Some(Command::Run {
+        thread: number(thread)? as usize,
+    })
+}
+
+fn op_of(word: &[u8]) -> Option<Op>
+    ensures { result ≡ op_of word.now }
+{
+    if word == op_word(Op::LookUp) {
+        Some(Op::LookUp)
+    } else if word == op_word(Op::SoftFailure) {
+        Some(Op::SoftFailure)
+    } else if word == op_word(Op::HardFailure) {
+        Some(Op::HardFailure)
+    } else if word == op_word(Op::Success) {
+        Some(Op::Success)
+    } else if word == op_word(Op::Release) {
+        Some(Op::Release)
+    } else {
+        None
+    }
+}
+
+fn steps_of(word: &[u8]) -> Option<u64>
+    ensures { result ≡ steps_of word.now }
+{
+    let steps = number(word)?;
+    if steps == 0 || steps > MAX_STEPS {
+        return None;
+    }
+    Some(steps)
+}

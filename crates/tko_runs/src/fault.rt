@@ -1,0 +1,39 @@
+//! Why a text is no schedule.
+
+use std::alloc::{AllocError, AllocFailed};
+use thiserror::Error;
+use tko_model::SettingsFault;
+
+/// Why a text is no schedule.
+#[derive(Clone, Copy, Debug, PartialEq, Eq, Error)]
+pub enum ScheduleFault {
+    /// The first bad line, counted from 1; 0 stands for a text that is too long.
+    #[error("line {0}")]
+    Line(u32),
+    #[error("settings {0}")]
+    Settings(SettingsFault),
+    #[error("memory")]
+    Memory,
+}
+
+impl From<AllocError> for ScheduleFault {
+    ghost use Rattle.std.specs.Prelude.{◌≡◌};
+    ghost use Rattle.tko_runs.specs.declared.fault.ScheduleFault.TheVariants as fault;
+
+    ghost from_gives = { λ _ e. e ≡ fault.Memory };
+
+    fn from(_: AllocError) -> ScheduleFault {
+        ScheduleFault::Memory
+    }
+}
+
+impl<T: Drop> From<AllocFailed<T>> for ScheduleFault {
+    ghost use Rattle.std.specs.Prelude.{◌≡◌};
+    ghost use Rattle.tko_runs.specs.declared.fault.ScheduleFault.TheVariants as fault;
+
+    ghost from_gives = { λ _ e. e ≡ fault.Memory };
+
+    fn from(_: AllocFailed<T>) -> ScheduleFault {
+        ScheduleFault::Memory
+    }
+}

@@ -1,0 +1,67 @@
+//! Schedules, and how they are read.
+ghost use Rattle.std.specs.Prelude.{◌≡◌, Ok, IfOk, IfErr};
+ghost use Rattle.tko_runs.specs.Schedules.{TellsFault, reads};
+
+use crate::commands::read_commands;
+use crate::header::Header;
+use crate::{Command, ScheduleFault};
+use std::alloc::Global;
+use std::marker::Model;
+use tko_model::Settings;
+
+/// The most bytes that a schedule may have.
+const MAX_BYTES: usize = 1_048_576;
+
+/// How a tracker is opened, and then what its threads do. Contracts see the settings, which are in their
+/// ranges, and the list of the commands.
+#[derive(Debug, Drop)]
+pub struct Schedule {
+    settings: Settings,
+    commands: Vec<Command>,
+}
+
+impl Model for Schedule {
+    ghost use Rattle.tko_runs.specs.Schedules.{IsPlan, Plan};
+
+    ghost Value = { Plan };
+
+    ghost view = { λ s. record { settings = s.settings; commands = s.commands.items } };
+
+    ghost invariant = { λ s. IsPlan (record { settings = s.settings; commands = s.commands.items }) };
+}
+
+impl Schedule {
+    ghost use Rattle.tko_runs.specs.Schedules.{IsPlan};
+
+    /// Reads a schedule. The lines are judged first, and then the settings.
+    pub fn read(alloc: Global, bytes: &[u8]) -> Result<Schedule, ScheduleFault>
+        ensures ok { IfOk result (λ schedule. reads bytes.now ≡ Ok schedule) }
+        ensures err { IfErr result (λ fault. TellsFault bytes.now fault) }
+    {
+        if bytes.len() > MAX_BYTES {
+            return Err(ScheduleFault::Line(0));
+        }
+        let (header, rest) = Header::read(bytes)?;
+        let commands = read_commands(alloc, rest)?;
+        let settings = match header.settings() {
+            Ok(settings) => settings,
+            Err(fault) => return Err(ScheduleFault::Settings(fault)),
+        };
+        Ok(Schedule { settings, commands })
+    }
+
+    /// The settings that the tracker is opened with.
+    pub fn settings(&self) -> &Settings
+        ensures value { result.now ≡ self.now.settings }
+        ensures plan { IsPlan self.now }
+    {
+        &self.settings
+    }
+
+    /// What the threads do, in order.
+    pub fn commands(&self) -> &[Command]
+        ensures value { result.now ≡ self.now.commands }
+    {
+        self.commands.as_slice()
+    }
+}
