@@ -1,0 +1,4 @@
+pub mod Health
+pub mod Links
+pub mod Scripted
+pub mod Trail

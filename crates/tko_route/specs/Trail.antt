@@ -1,0 +1,128 @@
+-- The trail of a request: its attempts at one target after another. Nothing here knows a loop.
+use Rattle.std.specs.Prelude.{◌≡◌, ℕ, ◌-◌, Bool, false, ◌==◌, ◌⊎◌, List, [], ◌∷◌, ◌++◌, length, map, take, All, count_by, slice_get, slice_index, Option, Some, None, IsSome}
+use Rattle.std.specs.Option.{option_and_then}
+use Rattle.tko_model.specs.declared.mark.Op.{Op}
+use Rattle.tko_model.specs.declared.mark.Op.TheVariants.{LookUp, SoftFailure, HardFailure, Success}
+use Rattle.tko_model.specs.declared.mark.Reply.{Reply}
+use Rattle.tko_model.specs.declared.mark.Reply.TheVariants as reply
+use Rattle.tko_model.specs.Records.{Gains, HealthItem}
+use Rattle.tko_text.specs.declared.request.Request.{Request}
+use Rattle.tko_text.specs.declared.response.Response.{Response}
+use Rattle.tko_route.specs.declared.links.Outcome.{Outcome}
+use Rattle.tko_route.specs.declared.links.Outcome.TheVariants as outcome
+use Rattle.tko_route.specs.declared.attempt.Attempt.{Attempt}
+use Rattle.tko_route.specs.declared.attempt.Attempt.TheVariants as attempt
+use Rattle.tko_route.specs.Health.{item}
+use Rattle.tko_route.specs.Links.{Exchange, most_sends}
+
+-- the table of outcomes: what a tracker is told of each
+abbrev pub op_of : Outcome → Option Op
+op_of (outcome.Reply response) = Some Success
+op_of outcome.Refused = Some HardFailure
+op_of outcome.Timeout = Some SoftFailure
+op_of outcome.Broken = Some SoftFailure
+op_of outcome.Spent = None
+
+-- the server that an attempt was at
+abbrev pub server_of : Attempt → ℕ
+server_of (attempt.Skipped server mark) = server
+server_of (attempt.Sent server came answer) = server
+server_of (attempt.Spent server) = server
+
+-- what a server answered
+abbrev pub response_in : Outcome → Option Response
+response_in (outcome.Reply response) = Some response
+response_in outcome.Timeout = None
+response_in outcome.Refused = None
+response_in outcome.Broken = None
+response_in outcome.Spent = None
+
+-- the response that an attempt got
+abbrev pub response_of : Attempt → Option Response
+response_of (attempt.Skipped server mark) = None
+response_of (attempt.Sent server came answer) = response_in came
+response_of (attempt.Spent server) = None
+
+-- an attempt that got a response
+abbrev pub IsAnswer : Attempt → Type 0
+IsAnswer it = IsSome (response_of it)
+
+-- whether an attempt sent to this server
+abbrev pub is_send : ℕ → Attempt → Bool
+is_send server (attempt.Skipped at mark) = false
+is_send server (attempt.Sent at came answer) = at == server
+is_send server (attempt.Spent at) = false
+
+-- how often a trail sent to this server
+abbrev pub sends_in : ℕ → List Attempt → ℕ
+sends_in server trail = count_by (is_send server) trail
+
+-- the response of the last attempt
+abbrev pub answer_of : List Attempt → Option Response
+answer_of trail = option_and_then response_of (slice_get trail (length trail - 1))
+
+-- no attempt was answered
+abbrev pub NoneAnswered : List Attempt → Type 0
+NoneAnswered trail = All (λ it. ¬ IsAnswer it) trail
+
+-- the last attempt was answered, and none before it
+pub record LastAnswered (trail : List Attempt) : Type 0 where
+  pub before : List Attempt
+  pub last : Attempt
+  pub parts : trail ≡ before ++ last ∷ []
+  pub answer : IsAnswer last
+  pub others : NoneAnswered before
+
+-- the attempts are at the targets in order, and go on until one is answered
+pub record IsTrail (targets : List ℕ) (trail : List Attempt) : Type 0 where
+  pub servers : map server_of trail ≡ take (length trail) targets
+  pub ends : ((length trail ≡ length targets) × NoneAnswered trail) ⊎ LastAnswered trail
+
+-- the attempts are at targets in order, and none was answered
+pub record IsCutTrail (targets : List ℕ) (trail : List Attempt) : Type 0 where
+  pub servers : map server_of trail ≡ take (length trail) targets
+  pub unanswered : NoneAnswered trail
+
+-- the target behind those of a trail
+abbrev pub next_target : List ℕ → List Attempt → ℕ
+next_target targets trail = slice_index targets (length trail)
+
+-- a tracker was told by this operation and answered; without one nothing changed
+abbrev pub Told : {H : Type 0} → (H → HealthItem → H → Type 0) → H → ℕ → Option Op → Option Reply → H → Type 0
+Told steps old server (Some op) (Some answer) new = steps old (item op server answer) new
+Told steps old server (Some op) None new = ⊥
+Told steps old server None (Some answer) new = ⊥
+Told steps old server None None new = new ≡ old
+
+-- a look-up found the server up
+pub record FoundUp {H : Type 0} (steps : H → HealthItem → H → Type 0) (old : H) (server : ℕ) (new : H)
+    : Type 0 where
+  pub count : ℕ
+  pub step : steps old (item LookUp server (reply.Up count)) new
+
+-- one attempt, as a step of health and links: a look-up that found that mark; or one that found the
+-- server up, then the exchange, then what the table tells the tracker; or the count was used up
+unfoldable pub Attempted : {H L : Type 0} → (H → HealthItem → H → Type 0) → (L → Exchange → L → Type 0)
+    → (L → ℕ → ℕ) → Request → H × L → Attempt → H × L → Type 0
+Attempted steps exchanges sent request old (attempt.Skipped server mark) new =
+    steps old.0 (item LookUp server (reply.Marked mark)) new.0 × (new.1 ≡ old.1)
+Attempted {H} steps exchanges sent request old (attempt.Sent server came answer) new =
+    (found : H) × FoundUp steps old.0 server found
+    × exchanges old.1 (record { server = server; request = request; outcome = came }) new.1
+    × Told steps found server (op_of came) (Some answer) new.0
+Attempted steps exchanges sent request old (attempt.Spent server) new =
+    FoundUp steps old.0 server new.0 × (sent old.1 server ≡ most_sends) × (new.1 ≡ old.1)
+
+-- these attempts were made, and then a look-up found the next target up
+pub record RanShort {H L : Type 0} (steps : H → HealthItem → H → Type 0) (exchanges : L → Exchange → L → Type 0)
+    (sent : L → ℕ → ℕ) (request : Request) (targets : List ℕ) (old : H × L) (trail : List Attempt) (new : H × L)
+    : Type 0 where
+  pub mid : H × L
+  pub made : Gains (Attempted steps exchanges sent request) old trail mid
+  pub look : FoundUp steps mid.0 (next_target targets trail) new.0
+
+-- where memory was wanting: nothing was done, or the trail ran short in an exchange
+abbrev pub CutShort : {H L : Type 0} → (H → HealthItem → H → Type 0) → (L → Exchange → L → Type 0)
+    → (L → ℕ → ℕ) → Request → List ℕ → H × L → List Attempt → H × L → Type 0
+CutShort steps exchanges sent request targets old trail new =
+    ((trail ≡ []) × (new ≡ old)) ⊎ RanShort steps exchanges sent request targets old trail new

@@ -1,0 +1,58 @@
+//! Attempts at a target, and the trail of a request.
+ghost use Rattle.std.specs.Prelude.{◌≡◌};
+
+use crate::links::Outcome;
+use std::marker::Model;
+use tko_model::{Mark, Reply};
+
+/// One attempt at a target.
+#[derive(Debug, Drop)]
+pub enum Attempt {
+    /// The server has this mark, so nothing was sent.
+    Skipped(usize, Mark),
+    /// The request was sent, this came of it, and the tracker answered so.
+    Sent(usize, Outcome, Reply),
+    /// The server's count of sends is used up, so nothing was sent.
+    Spent(usize),
+}
+
+impl Attempt {
+    ghost use Rattle.std.specs.Prelude.{◌↔◌, IsTrue};
+    ghost use Rattle.tko_route.specs.Trail.{IsAnswer};
+
+    /// Whether the server gave a response.
+    pub fn is_answer(&self) -> bool
+        ensures { IsTrue result ↔ IsAnswer self.now }
+    {
+        matches!(self, Attempt::Sent(_, Outcome::Reply(_), _))
+    }
+}
+
+/// The attempts of one request, in order. Contracts see the list.
+#[derive(Debug, Drop)]
+pub struct Trail {
+    attempts: Vec<Attempt>,
+}
+
+impl Model for Trail {
+    ghost use Rattle.std.specs.Prelude.{List};
+    ghost use Rattle.tko_route.specs.declared.attempt.Attempt.{Attempt};
+
+    ghost Value = { List Attempt };
+
+    ghost view = { λ trail. trail.attempts.items };
+}
+
+impl Trail {
+    pub(crate) fn of(attempts: Vec<Attempt>) -> Trail
+        ensures { result ≡ attempts.items }
+    {
+        Trail { attempts }
+    }
+
+    pub fn attempts(&self) -> &[Attempt]
+        ensures { result.now ≡ self.now }
+    {
+        self.attempts.as_slice()
+    }
+}

@@ -1,0 +1,67 @@
+//! Links to the servers: one request out, and what came of it.
+ghost use Rattle.std.specs.Prelude.{◌≡◌, ◌+◌, ◌<◌, ◌↔◌, ℕ, IfOk};
+ghost use Rattle.tko_route.specs.Links.{Exchanged, is_counted, most_sends, part_of};
+
+mod scripted;
+
+use crate::outside::Outside;
+pub use scripted::{RequestText, Script, Scripted};
+use tko_model::Clear;
+use tko_text::{Request, Response};
+
+/// What came of a request.
+#[derive(Debug, Drop)]
+pub enum Outcome {
+    /// A whole response, a server's own error among them.
+    Reply(Response),
+    /// A read or a write took too long.
+    Timeout,
+    /// The server could not be reached.
+    Refused,
+    /// The response was cut or unreadable, or the connection failed.
+    Broken,
+    /// The server's count of sends is used up, and nothing was sent.
+    Spent,
+}
+
+/// No memory was there for an exchange. It says whether the server's count of sends rose.
+#[derive(Clone, Copy, Debug, PartialEq, Eq)]
+pub struct NoMemory {
+    pub sent: bool,
+}
+
+/// The connections to the servers. Each send is one item of a record that contracts see: the server,
+/// the request and the outcome.
+pub trait Links {
+    ghost use Rattle.std.specs.Prelude.{ℕ};
+    ghost use Rattle.tko_route.specs.Links.{Exchange};
+
+    /// How many servers there are.
+    ghost servers: { Self → ℕ };
+
+    /// How often each server was sent to.
+    ghost sent: { Self → ℕ → ℕ };
+
+    /// From one state to the next, this was exchanged.
+    ghost exchanges: { Self → Exchange → Self → Type 0 };
+
+    /// Sends a request to the server that the leave names, and waits for what comes of it.
+    fn exchange<R: Outside>(
+        &mut self,
+        rt: &R,
+        clear: Clear,
+        request: &Request,
+    ) -> Result<Outcome, NoMemory>
+        requires { clear < servers self.old }
+        ensures record { IfOk result (λ came. Exchanged exchanges self.old
+            (record { server = clear; request = request.now; outcome = came }) self.new) }
+        ensures spent { (result ≡ Ok Outcome.Spent) ↔ (sent self.old clear ≡ most_sends) }
+        ensures sends { (server : ℕ) → sent self.new server
+            ≡ sent self.old server + part_of (is_counted result) clear server }
+        ensures servers { servers self.new ≡ servers self.old };
+
+    /// How often a server was sent to.
+    fn sends(&self, server: usize) -> u64
+        requires { server < servers self.now }
+        ensures { result ≡ sent self.now server };
+}

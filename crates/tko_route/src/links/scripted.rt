@@ -1,0 +1,189 @@
+//! Links in memory, which play a list of scripts.
+ghost use Rattle.std.specs.Prelude.{◌≡◌, ◌<◌, [], true, false, IfOk, IfErr, OnErr, OnOk, length, replicate, slice_index};
+ghost use Rattle.tko_route.specs.Links.{most_sends};
+ghost use Rattle.tko_route.specs.Scripted.{IsPlayed};
+
+use crate::links::{Links, NoMemory, Outcome};
+use crate::outside::Outside;
+use std::alloc::{AllocError, Global};
+use std::marker::Model;
+use tko_model::Clear;
+use tko_text::{ReadFault, Request, Response};
+
+/// What comes of the next request, whatever it is.
+#[derive(Debug, Drop)]
+pub enum Script {
+    Refused,
+    Timeout,
+    /// The server answers these bytes, and then its end of the connection closes.
+    Bytes(Vec<u8>),
+}
+
+/// The bytes of a request. Contracts see their list.
+#[derive(Debug, Drop)]
+pub struct RequestText {
+    bytes: Vec<u8>,
+}
+
+impl Model for RequestText {
+    ghost use Rattle.std.specs.Prelude.{List, ℕ};
+
+    ghost Value = { List ℕ };
+
+    ghost view = { λ text. text.bytes.items };
+}
+
+impl RequestText {
+    pub fn as_bytes(&self) -> &[u8]
+        ensures { result.now ≡ self.now }
+    {
+        self.bytes.as_slice()
+    }
+}
+
+/// Links that play one script for each request, and refuse where the list is used up. They keep the
+/// bytes of each request sent.
+#[derive(Debug, Drop)]
+pub struct Scripted {
+    alloc: Global,
+    scripts: Vec<Script>,
+    next: usize,
+    sends: Vec<u64>,
+    requests: Vec<RequestText>,
+}
+
+impl Model for Scripted {
+    ghost use Rattle.std.specs.Prelude.{◌≤◌, drop, vec_len};
+    ghost use Rattle.tko_route.specs.Scripted.{ScriptedState};
+
+    ghost Value = { ScriptedState };
+
+    ghost view = { λ links. record {
+      scripts = drop links.next links.scripts.items;
+      sends = links.sends.items;
+      requests = links.requests.items;
+    } };
+
+    ghost invariant = { λ links. links.next ≤ vec_len links.scripts };
+}
+
+impl Script {
+    ghost use Rattle.tko_route.specs.Scripted.{Gives};
+
+    /// What it gives to a request.
+    fn outcome(&self, alloc: Global, request: &Request) -> Result<Outcome, NoMemory>
+        ensures ok { IfOk result (λ came. Gives self.now request.now came) }
+        ensures sent { IfErr result (λ fault. fault ≡ record { sent = true }) }
+    {
+        match self {
+            Script::Refused => Ok(Outcome::Refused),
+            Script::Timeout => Ok(Outcome::Timeout),
+            Script::Bytes(bytes) => match Response::read(alloc, request, bytes.as_slice()) {
+                Ok((response, _)) => Ok(Outcome::Reply(response)),
+                Err(ReadFault::Short | ReadFault::Unreadable) => Ok(Outcome::Broken),
+                Err(ReadFault::Memory) => Err(NoMemory { sent: true }),
+            },
+        }
+    }
+}
+
+impl Scripted {
+    ghost use Rattle.std.specs.Prelude.{drop, slice_get};
+    ghost use Rattle.tko_route.specs.Scripted.{NextGives, counted};
+
+    /// Links to so many servers, none of which was sent to.
+    pub fn new(alloc: Global, servers: usize, scripts: Vec<Script>) -> Result<Scripted, AllocError>
+        ensures { IfOk result (λ links. links
+            ≡ record { scripts = scripts.items; sends = replicate servers 0; requests = [] }) }
+    {
+        let sends = vec![in alloc; 0; servers]?;
+        let requests = Vec::new(alloc);
+        Ok(Scripted {
+            alloc,
+            scripts,
+            next: 0,
+            sends,
+            requests,
+        })
+    }
+
+    /// The bytes of each request that was sent, in order.
+    pub fn requests(&self) -> &[RequestText]
+        ensures { result.now ≡ self.now.requests }
+    {
+        self.requests.as_slice()
+    }
+
+    /// Keeps a request's bytes and counts it.
+    fn count(&mut self, server: usize, request: &Request) -> Result<(), NoMemory>
+        requires server { server < length self.old.sends }
+        requires few { slice_index self.old.sends server < most_sends }
+        ensures ok { OnOk result (self.new ≡ counted self.old server request.now) }
+        ensures err { OnErr result (self.new ≡ self.old) }
+        ensures unsent { IfErr result (λ fault. fault ≡ record { sent = false }) }
+    {
+        let bytes = request
+            .write(self.alloc)
+            .map_err(|_| NoMemory { sent: false })?;
+        self.requests
+            .push(RequestText { bytes })
+            .map_err(|_| NoMemory { sent: false })?;
+        self.sends[server] += 1;
+        Ok(())
+    }
+
+    /// Plays the next script.
+    fn play(&mut self, request: &Request) -> Result<Outcome, NoMemory>
+        ensures left { self.new ≡ record self.old { scripts = drop 1 self.old.scripts } }
+        ensures ok { IfOk result (λ came. NextGives (slice_get self.old.scripts 0) request.now came) }
+        ensures sent { IfErr result (λ fault. fault ≡ record { sent = true }) }
+    {
+        let Some(script) = self.scripts.get(self.next) else {
+            return Ok(Outcome::Refused);
+        };
+        self.next += 1;
+        script.outcome(self.alloc, request)
+    }
+}
+
+impl Links for Scripted {
+    ghost use Rattle.std.specs.Prelude.{◌+◌, ◌↔◌, ℕ, MatchBool};
+    ghost use Rattle.tko_route.specs.Links.{Exchanged, is_counted, part_of};
+    ghost use Rattle.tko_route.specs.Scripted.{sent_to};
+
+    ghost servers = { λ links. length links.sends };
+
+    ghost sent = { λ links server. slice_index links.sends server };
+
+    ghost exchanges = { λ old it new. IsPlayed old it new };
+
+    // Beside the trait's clauses: where memory was wanting for the request's bytes nothing happened, and
+    // where it was wanting for the answer the request was sent.
+    fn exchange<R: Outside>(
+        &mut self,
+        _rt: &R,
+        clear: Clear,
+        request: &Request,
+    ) -> Result<Outcome, NoMemory>
+        requires { clear < length self.old.sends }
+        ensures record { IfOk result (λ came. Exchanged IsPlayed self.old
+            (record { server = clear; request = request.now; outcome = came }) self.new) }
+        ensures spent { (result ≡ Ok Outcome.Spent) ↔ (slice_index self.old.sends clear ≡ most_sends) }
+        ensures sends { (server : ℕ) → slice_index self.new.sends server
+            ≡ slice_index self.old.sends server + part_of (is_counted result) clear server }
+        ensures fault { IfErr result (λ fault. MatchBool fault.sent
+            (self.new ≡ sent_to self.old clear request.now) (self.new ≡ self.old)) }
+        ensures servers { length self.new.sends ≡ length self.old.sends }
+    {
+        let server = clear.server();
+        if self.sends[server] == u64::MAX {
+            return Ok(Outcome::Spent);
+        }
+        self.count(server, request)?;
+        self.play(request)
+    }
+
+    fn sends(&self, server: usize) -> u64 {
+        self.sends[server]
+    }
+}

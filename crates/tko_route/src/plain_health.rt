@@ -1,0 +1,80 @@
+//! Health that one thread keeps.
+ghost use Rattle.std.specs.Prelude.{◌≡◌, ◌<◌, length};
+ghost use Rattle.tko_route.specs.Health.{IsTrackerStep, item};
+
+use crate::health::Health;
+use crate::outside::Outside;
+use std::marker::Model;
+use tko_model::{Look, Op, Plain, Reply};
+
+/// The sequential tracker in the hands of one thread. Contracts see the tracker and the thread's number.
+#[derive(Debug, Drop)]
+pub struct PlainHealth {
+    plain: Plain,
+    thread: u32,
+}
+
+impl Model for PlainHealth {
+    ghost use Rattle.std.specs.Prelude.{◌<◌};
+    ghost use Rattle.tko_route.specs.Health.{OneThread};
+
+    ghost Value = { OneThread };
+
+    ghost view = { λ h. record { tracker = h.plain; thread = h.thread } };
+
+    ghost invariant = { λ h. h.thread < h.plain.settings.threads };
+}
+
+impl PlainHealth {
+    pub fn new(plain: Plain, thread: u32) -> PlainHealth
+        requires { thread < plain.settings.threads }
+        ensures { result ≡ record { tracker = plain; thread = thread } }
+    {
+        PlainHealth { plain, thread }
+    }
+
+    /// The tracker, to look at.
+    pub fn tracker(&self) -> &Plain
+        ensures { result.now ≡ self.now.tracker }
+    {
+        &self.plain
+    }
+
+    fn apply(&mut self, op: Op, server: usize) -> Reply
+        requires { server < length self.old.tracker.servers }
+        ensures step { IsTrackerStep self.old (item op server result) self.new }
+        ensures servers { length self.new.tracker.servers ≡ length self.old.tracker.servers }
+    {
+        self.plain.apply(self.thread, op, server)
+    }
+}
+
+impl Health for PlainHealth {
+    ghost servers = { λ h. length h.tracker.servers };
+
+    ghost steps = { λ old it new. IsTrackerStep old it new };
+
+    fn look_up<R: Outside>(&mut self, _rt: &R, server: usize) -> Look {
+        Look::of(server, self.plain.mark(server))
+    }
+
+    fn soft_failure<R: Outside>(&mut self, _rt: &R, server: usize) -> Reply {
+        self.apply(Op::SoftFailure, server)
+    }
+
+    fn hard_failure<R: Outside>(&mut self, _rt: &R, server: usize) -> Reply {
+        self.apply(Op::HardFailure, server)
+    }
+
+    fn success<R: Outside>(&mut self, _rt: &R, server: usize) -> Reply {
+        self.apply(Op::Success, server)
+    }
+
+    fn release<R: Outside>(&mut self, _rt: &R, server: usize) -> Reply {
+        self.apply(Op::Release, server)
+    }
+
+    fn servers(&self) -> usize {
+        self.plain.settings().servers as usize
+    }
+}

@@ -1,0 +1,190 @@
+//! The way of a request from target to target.
+ghost use Rattle.std.specs.Option.{option_copied};
+ghost use Rattle.std.specs.Prelude.{◌≡◌, ◌+◌, ◌<◌, ◌≤◌, ℕ, [], ◌∷◌, ◌++◌, All, IfOk, IfErr, OnOk, OnErr, length, vec_capacity, vec_len};
+ghost use Rattle.tko_model.specs.Records.{Gains};
+ghost use Rattle.tko_route.specs.Links.{part_of};
+ghost use Rattle.tko_route.specs.Trail.{Attempted, CutShort, FoundUp, IsCutTrail, IsTrail, RanShort, Told, answer_of, next_target, op_of, sends_in, server_of};
+
+use crate::attempt::{Attempt, Trail};
+use crate::health::Health;
+use crate::links::{Links, NoMemory, Outcome};
+use crate::outside::Outside;
+use std::alloc::Global;
+use tko_model::{Look, Reply};
+use tko_text::{Request, Response};
+
+/// A routed request.
+#[derive(Debug, Drop)]
+pub struct Routed {
+    pub trail: Trail,
+}
+
+impl Routed {
+    /// The response of the last attempt, if it got one.
+    pub fn response(&self) -> Option<&Response>
+        ensures { option_copied result ≡ answer_of self.now.trail }
+    {
+        match self.trail.attempts().last() {
+            Some(Attempt::Sent(_, Outcome::Reply(response), _)) => Some(response),
+            _ => None,
+        }
+    }
+}
+
+/// No memory was there for a request: the attempts until then, and whether one more was sent.
+#[derive(Debug, Drop)]
+pub struct RouteFault {
+    pub trail: Trail,
+    pub sent: bool,
+}
+
+/// Tells the tracker what came of a send. This is the table of outcomes.
+fn tell<R: Outside, H: Health>(
+    rt: &R,
+    health: &mut H,
+    server: usize,
+    outcome: &Outcome,
+) -> Option<Reply>
+    requires { server < H.servers health.old }
+    ensures told { Told H.steps health.old server (op_of outcome.now) result health.new }
+    ensures servers { H.servers health.new ≡ H.servers health.old }
+{
+    match outcome {
+        Outcome::Reply(_) => Some(health.success(rt, server)),
+        Outcome::Refused => Some(health.hard_failure(rt, server)),
+        Outcome::Timeout | Outcome::Broken => Some(health.soft_failure(rt, server)),
+        Outcome::Spent => None,
+    }
+}
+
+/// One attempt: a look-up, and where it finds the server up, one send.
+#[tactic(auto, unfolding(crate::specs::Trail::Attempted))]
+fn try_server<R: Outside, H: Health, L: Links>(
+    rt: &R,
+    health: &mut H,
+    links: &mut L,
+    server: usize,
+    request: &Request,
+) -> Result<Attempt, NoMemory>
+    requires health { server < H.servers health.old }
+    requires links { server < L.servers links.old }
+    ensures server { IfOk result (λ it. server_of it ≡ server) }
+    ensures step { IfOk result (λ it. Attempted H.steps L.exchanges L.sent request.now
+        (health.old, links.old) it (health.new, links.new)) }
+    ensures sends { IfOk result (λ it. (s : ℕ) →
+        L.sent links.new s ≡ L.sent links.old s + sends_in s (it ∷ [])) }
+    ensures fault { IfErr result (λ fault. FoundUp H.steps health.old server health.new) }
+    ensures fault_sends { IfErr result (λ fault. (s : ℕ) →
+        L.sent links.new s ≡ L.sent links.old s + part_of fault.sent server s) }
+    ensures health_servers { H.servers health.new ≡ H.servers health.old }
+    ensures links_servers { L.servers links.new ≡ L.servers links.old }
+{
+    let clear = match health.look_up(rt, server) {
+        Look::Up(_, clear) => clear,
+        Look::Marked(mark) => return Ok(Attempt::Skipped(server, mark)),
+    };
+    let outcome = links.exchange(rt, clear, request)?;
+    match tell(rt, health, server, &outcome) {
+        Some(reply) => Ok(Attempt::Sent(server, outcome, reply)),
+        None => Ok(Attempt::Spent(server)),
+    }
+}
+
+/// Puts an attempt at the end, where there is room for it.
+fn note(attempts: &mut Vec<Attempt>, attempt: Attempt)
+    requires { vec_len attempts.old < vec_capacity attempts.old }
+    ensures items { attempts.new.items ≡ attempts.old.items ++ attempt ∷ [] }
+    ensures len { vec_len attempts.new ≡ vec_len attempts.old + 1 }
+    ensures room { vec_capacity attempts.old ≤ vec_capacity attempts.new }
+{
+    let Ok(()) = attempts.push(attempt) else {
+        unreachable!()
+    };
+}
+
+/// Goes from target to target until one answers, and notes each attempt.
+fn walk<R: Outside, H: Health, L: Links>(
+    rt: &R,
+    health: &mut H,
+    links: &mut L,
+    targets: &[usize],
+    request: &Request,
+    attempts: &mut Vec<Attempt>,
+) -> Result<(), NoMemory>
+    requires health { All (λ target. target < H.servers health.old) targets.now }
+    requires links { All (λ target. target < L.servers links.old) targets.now }
+    requires empty { vec_len attempts.old ≡ 0 }
+    requires room { length targets.now ≤ vec_capacity attempts.old }
+    ensures trail { OnOk result (IsTrail targets.now attempts.new.items) }
+    ensures record { OnOk result (Gains (Attempted H.steps L.exchanges L.sent request.now)
+        (health.old, links.old) attempts.new.items (health.new, links.new)) }
+    ensures sends { OnOk result ((s : ℕ) →
+        L.sent links.new s ≡ L.sent links.old s + sends_in s attempts.new.items) }
+    ensures fault { OnErr result (IsCutTrail targets.now attempts.new.items) }
+    ensures fault_record { OnErr result (RanShort H.steps L.exchanges L.sent request.now targets.now
+        (health.old, links.old) attempts.new.items (health.new, links.new)) }
+    ensures fault_sends { IfErr result (λ fault. (s : ℕ) →
+        L.sent links.new s ≡ L.sent links.old s + sends_in s attempts.new.items
+        + part_of fault.sent (next_target targets.now attempts.new.items) s) }
+    ensures health_servers { H.servers health.new ≡ H.servers health.old }
+    ensures links_servers { L.servers links.new ≡ L.servers links.old }
+{
+    for &target in targets {
+        let attempt = try_server(rt, health, links, target, request)?;
+        let answered = attempt.is_answer();
+        note(attempts, attempt);
+        if answered {
+            return Ok(());
+        }
+    }
+    Ok(())
+}
+
+/// Sends a request to one target after another, in order, until one answers, and tells the tracker of
+/// each outcome. It makes at most one exchange at each target. The expiry is for targets after the
+/// first; a `get` has none to replace.
+pub fn route<R: Outside, H: Health, L: Links>(
+    rt: &R,
+    alloc: Global,
+    health: &mut H,
+    links: &mut L,
+    targets: &[usize],
+    request: &Request,
+    _exptime: u32,
+) -> Result<Routed, RouteFault>
+    requires health { All (λ target. target < H.servers health.old) targets.now }
+    requires links { All (λ target. target < L.servers links.old) targets.now }
+
+    ensures trail { IfOk result (λ routed. IsTrail targets.now routed.trail) }
+    ensures record { IfOk result (λ routed.
+        Gains (Attempted H.steps L.exchanges L.sent request.now)
+        (health.old, links.old) routed.trail (health.new, links.new)) }
+    ensures sends { IfOk result (λ routed. (server : ℕ) →
+        L.sent links.new server ≡ L.sent links.old server + sends_in server routed.trail) }
+
+    // Where memory was wanting, the trail is what was done until then.
+    ensures fault { IfErr result (λ fault. IsCutTrail targets.now fault.trail) }
+    ensures fault_record { IfErr result (λ fault.
+        CutShort H.steps L.exchanges L.sent request.now targets.now
+        (health.old, links.old) fault.trail (health.new, links.new)) }
+    ensures fault_sends { IfErr result (λ fault. (server : ℕ) →
+        L.sent links.new server ≡ L.sent links.old server + sends_in server fault.trail
+        + part_of fault.sent (next_target targets.now fault.trail) server) }
+
+    ensures health_servers { H.servers health.new ≡ H.servers health.old }
+    ensures links_servers { L.servers links.new ≡ L.servers links.old }
+{
+    let Ok(mut attempts) = Vec::with_capacity(alloc, targets.len()) else {
+        let trail = Trail::of(Vec::new(alloc));
+        return Err(RouteFault { trail, sent: false });
+    };
+    match walk(rt, health, links, targets, request, &mut attempts) {
+        Ok(()) => Ok(Routed {
+            trail: Trail::of(attempts),
+        }),
+        Err(fault) => Err(RouteFault {
+            trail: Trail::of(attempts),
+            sent: fault.sent,
+        }),
+    }
+}

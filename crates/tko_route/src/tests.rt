@@ -1,0 +1,137 @@
+//! Routes over scripted links, with the answers of the tracker's tables.
+ghost use Rattle.std.specs.Prelude.{◌≡◌, IfOk, length};
+
+use crate::links::{Links, Script, Scripted};
+use crate::{Attempt, Health, PlainHealth, RouteFault, Routed, Trail, route};
+use std::alloc::Global;
+use std::net::{Net, TcpStream};
+use std::process::Abort;
+use std::sync::Wait;
+use std::test::Fail;
+use tko_model::{Look, Mark, Plain, Reply, Settings};
+use tko_text::{Key, Request, Response};
+
+const SETTINGS: Settings = Settings {
+    servers: 2,
+    threads: 1,
+    failures: 3,
+    limit: 2,
+    tries: 1,
+    opening_stamp: 0,
+};
+
+fn health_of(alloc: Global) -> Result<PlainHealth, Fail>
+    ensures { IfOk result (λ health. length health.tracker.servers ≡ 2) }
+{
+    Ok(PlainHealth::new(Plain::open(alloc, SETTINGS)?, 0))
+}
+
+fn get_a(rt: &impl Abort, alloc: Global) -> Result<Request, Fail> {
+    let key = Key::of(alloc, b"a".as_slice())?.expect(rt, "a key");
+    Ok(Request::Get { key })
+}
+
+fn bytes(alloc: Global, text: &[u8]) -> Result<Script, Fail> {
+    Ok(Script::Bytes(Vec::from_slice(alloc, text)?))
+}
+
+/// Asks both servers in order.
+fn ask<R: Wait + Net<Stream = TcpStream>>(
+    rt: &R,
+    alloc: Global,
+    health: &mut PlainHealth,
+    links: &mut Scripted,
+    request: &Request,
+) -> Result<Routed, RouteFault>
+    requires health { length health.old.tracker.servers ≡ 2 }
+    requires links { length links.old.sends ≡ 2 }
+    ensures health { length health.new.tracker.servers ≡ 2 }
+    ensures links { length links.new.sends ≡ 2 }
+{
+    route(rt, alloc, health, links, &[0, 1], request, 60)
+}
+
+/// Whether an attempt sent to this server and the tracker answered so.
+fn is_sent(trail: &Trail, place: usize, server: usize, reply: Reply) -> bool {
+    match trail.attempts().get(place) {
+        Some(Attempt::Sent(at, _, answer)) => *at == server && *answer == reply,
+        _ => false,
+    }
+}
+
+fn is_skipped(trail: &Trail, place: usize, server: usize, mark: Mark) -> bool {
+    match trail.attempts().get(place) {
+        Some(Attempt::Skipped(at, found)) => *at == server && *found == mark,
+        _ => false,
+    }
+}
+
+#[test]
+fn the_next_server_answers_and_the_failed_one_is_skipped(rt: HostRuntime) -> Result<(), Fail> {
+    let alloc = rt.alloc();
+    let mut health = health_of(alloc)?;
+    let miss = bytes(alloc, b"END\r\n".as_slice())?;
+    let hit = bytes(alloc, b"END\r\n".as_slice())?;
+    let scripts = vec![in alloc; Script::Refused, miss, hit]?;
+    let mut links = Scripted::new(alloc, 2, scripts)?;
+    let request = get_a(&rt, alloc)?;
+    let first = ask(&rt, alloc, &mut health, &mut links, &request).expect(&rt, "memory");
+    assert!(rt; is_sent(&first.trail, 0, 0, Reply::TookHard));
+    assert!(rt; is_sent(&first.trail, 1, 1, Reply::Clean));
+    assert!(rt; matches!(first.response(), Some(Response::Values(None))));
+    let second = ask(&rt, alloc, &mut health, &mut links, &request).expect(&rt, "memory");
+    assert!(rt; is_skipped(&second.trail, 0, 0, Mark::Hard(0)));
+    assert!(rt; is_sent(&second.trail, 1, 1, Reply::Clean));
+    assert_eq!(rt; second.trail.attempts().len(), 2);
+    assert_eq!(rt; (links.sends(0), links.sends(1)), (1, 2));
+    Ok(())
+}
+
+#[test]
+fn failures_count_up_at_each_server(rt: HostRuntime) -> Result<(), Fail> {
+    let alloc = rt.alloc();
+    let mut health = health_of(alloc)?;
+    let cut = bytes(alloc, b"VALUE".as_slice())?;
+    let mut links = Scripted::new(alloc, 2, vec![in alloc; Script::Timeout, cut]?)?;
+    let request = get_a(&rt, alloc)?;
+    let first = ask(&rt, alloc, &mut health, &mut links, &request).expect(&rt, "memory");
+    assert!(rt; is_sent(&first.trail, 0, 0, Reply::Counted(1)));
+    assert!(rt; is_sent(&first.trail, 1, 1, Reply::Counted(1)));
+    let used_up = ask(&rt, alloc, &mut health, &mut links, &request).expect(&rt, "memory");
+    assert!(rt; is_sent(&used_up.trail, 1, 1, Reply::TookHard));
+    assert!(rt; used_up.response().is_none());
+    assert_eq!(rt; links.requests().len(), 4);
+    assert!(rt;
+        links
+            .requests()
+            .iter()
+            .all(|text| text.as_bytes() == b"get a\r\n".as_slice())
+    );
+    Ok(())
+}
+
+/// The tracker's own calls, each by its operation.
+fn calls<R: Wait + Net<Stream = TcpStream>>(rt: &R, health: &mut PlainHealth) -> [Reply; 4]
+    requires { length health.old.tracker.servers ≡ 2 }
+    ensures { length health.new.tracker.servers ≡ 2 }
+{
+    [
+        health.soft_failure(rt, 1),
+        health.success(rt, 1),
+        health.hard_failure(rt, 1),
+        health.release(rt, 1),
+    ]
+}
+
+#[test]
+fn each_call_is_its_operation(rt: HostRuntime) -> Result<(), Fail> {
+    let mut health = health_of(rt.alloc())?;
+    let replies = calls(&rt, &mut health);
+    assert_eq!(rt; replies[0], Reply::Counted(1));
+    assert_eq!(rt; replies[1], Reply::Reset(1));
+    assert_eq!(rt; replies[2], Reply::TookHard);
+    assert_eq!(rt; replies[3], Reply::Released(Mark::Hard(0)));
+    assert_eq!(rt; health.servers(), 2);
+    assert_eq!(rt; health.tracker().mark(1), Mark::Up(0));
+    Ok(())
+}
