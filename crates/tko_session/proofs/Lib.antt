@@ -1,0 +1,4 @@
+mod ListLemmas
+mod ServedLemmas
+mod TextFacts
+mod TurnLemmas

@@ -1,0 +1,51 @@
+//! How often an end failed, and how often it was idle.
+ghost use Rattle.std.specs.Prelude.{◌≡◌, ◌+◌};
+ghost use Rattle.tko_session.specs.Ends.{is_fault, is_idle};
+
+use crate::Stop;
+use std::sync::Wait;
+
+/// The two counts of an end.
+#[derive(Drop)]
+pub(crate) struct Tally {
+    failures: u64,
+    idles: u64,
+}
+
+impl Tally {
+    pub(crate) fn new() -> Tally
+        ensures { result ≡ record { failures = 0; idles = 0 } }
+    {
+        Tally {
+            failures: 0,
+            idles: 0,
+        }
+    }
+
+    /// Counts a stop, and hands it back.
+    pub(crate) fn count<R: Wait>(&mut self, rt: &R, stop: Stop) -> Stop
+        ensures same { result ≡ stop }
+        ensures failures { self.new.failures ≡ self.old.failures + is_fault stop }
+        ensures idles { self.new.idles ≡ self.old.idles + is_idle stop }
+    {
+        match stop {
+            Stop::Fault => raise(rt, &mut self.failures),
+            Stop::Idle => raise(rt, &mut self.idles),
+            Stop::Again => {}
+        }
+        stop
+    }
+}
+
+/// Raises a count by 1. No run comes to its end: there it would wait forever.
+fn raise<R: Wait>(rt: &R, count: &mut u64)
+    ensures { count.new ≡ count.old + 1 }
+{
+    for _ in rt.forever() {
+        if *count < u64::MAX {
+            *count += 1;
+            return;
+        }
+    }
+    unreachable!()
+}

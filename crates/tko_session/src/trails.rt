@@ -1,0 +1,68 @@
+//! Who is told of each request and of each trail.
+ghost use Rattle.std.specs.Prelude.{◌≡◌, [], OnOk};
+ghost use Rattle.tko_session.specs.Told.{Asked, Tried};
+
+use std::alloc::Global;
+use std::marker::Model;
+use tko_route::{Outside, Trail};
+use tko_text::{NoMemory, Request};
+
+/// Is told of each item that isn't a fault, and then of the trail of its routed request.
+pub trait Trails {
+    ghost use Rattle.tko_session.specs.Told.{Told};
+
+    /// From the one to the other it was told this.
+    ghost tells: { Self → Told → Self → Type 0 };
+
+    fn request<R: Outside>(&mut self, rt: &R, request: &Request) -> Result<(), NoMemory>
+        ensures { OnOk result (tells self.old (Asked request.now) self.new) };
+
+    fn trail<R: Outside>(&mut self, rt: &R, trail: Trail) -> Result<(), NoMemory>
+        ensures { OnOk result (tells self.old (Tried trail) self.new) };
+}
+
+/// The trails, in order.
+#[derive(Drop)]
+pub struct Kept {
+    trails: Vec<Trail>,
+}
+
+impl Model for Kept {
+    ghost use Rattle.std.specs.Prelude.{List};
+    ghost use Rattle.tko_route.specs.declared.attempt.Attempt.{Attempt};
+
+    ghost Value = { List (List Attempt) };
+
+    ghost view = { λ k. k.trails.items };
+}
+
+impl Kept {
+    pub fn new(alloc: Global) -> Kept
+        ensures { result ≡ [] }
+    {
+        Kept {
+            trails: Vec::new(alloc),
+        }
+    }
+
+    pub fn trails(&self) -> &[Trail]
+        ensures { result.now ≡ self.now }
+    {
+        self.trails.as_slice()
+    }
+}
+
+impl Trails for Kept {
+    ghost use Rattle.tko_session.specs.Told.{Keeps};
+
+    ghost tells = { Keeps };
+
+    fn request<R: Outside>(&mut self, _rt: &R, _request: &Request) -> Result<(), NoMemory> {
+        Ok(())
+    }
+
+    fn trail<R: Outside>(&mut self, _rt: &R, trail: Trail) -> Result<(), NoMemory> {
+        self.trails.push(trail)?;
+        Ok(())
+    }
+}
