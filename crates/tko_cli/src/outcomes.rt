@@ -1,0 +1,53 @@
+//! The list of `--outcomes`: what the servers do, one after another.
+ghost use Rattle.std.specs.Prelude.{◌≡◌, IfOk, IfErr, IfSome, IfNone, false};
+ghost use Rattle.tko_cli.specs.Outcomes.{AllAsk, Asks, Refuses, is_outcome, texts_of, words_of};
+
+use crate::Fault;
+use std::alloc::{AllocError, Global};
+use tko_route::links::Script;
+
+/// What the words of a list ask, or the number of the first word that is none.
+pub(crate) fn scripts_of(alloc: Global, list: &str) -> Result<Vec<Script>, Fault>
+    ensures ok { IfOk result (λ scripts. AllAsk (words_of list.now) scripts.items) }
+    ensures err { IfErr result (Refuses (words_of list.now)) }
+{
+    let words = words_of(alloc, list)?;
+    scripts_of_words(alloc, words.as_slice())
+}
+
+fn scripts_of_words(alloc: Global, words: &[&str]) -> Result<Vec<Script>, Fault>
+    ensures ok { IfOk result (λ scripts. AllAsk (texts_of words.now) scripts.items) }
+    ensures err { IfErr result (Refuses (texts_of words.now)) }
+{
+    let mut scripts = Vec::new(alloc);
+    for (place, word) in words.iter().enumerate() {
+        match script_of(alloc, word)? {
+            Some(script) => scripts.push(script)?,
+            None => return Err(Fault::Outcomes(place + 1)),
+        }
+    }
+    Ok(scripts)
+}
+
+/// The words of a list, which commas part.
+fn words_of(alloc: Global, list: &str) -> Result<Vec<&str>, AllocError>
+    ensures { IfOk result (λ words. texts_of words.items ≡ words_of list.now) }
+{
+    if list.is_empty() {
+        return Ok(Vec::new(alloc));
+    }
+    list.split(',').collect(alloc)
+}
+
+/// What a word asks, where it is one of the list's.
+fn script_of(alloc: Global, word: &str) -> Result<Option<Script>, AllocError>
+    ensures some { IfOk result (λ script. IfSome script (Asks word.now)) }
+    ensures none { IfOk result (λ script. IfNone script (is_outcome word.now ≡ false)) }
+{
+    Ok(match word {
+        "refused" => Some(Script::Refused),
+        "timeout" => Some(Script::Timeout),
+        "miss" => Some(Script::Bytes(Vec::from_slice(alloc, b"END\r\n")?)),
+        _ => None,
+    })
+}

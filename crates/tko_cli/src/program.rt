@@ -1,0 +1,75 @@
+//! From the arguments to the status.
+ghost use Rattle.std.specs.Prelude.{◌≤◌};
+
+use crate::Fault;
+use crate::dry::dry;
+use crate::options::DryOptions;
+use crate::writing::write_text;
+use clap::Error;
+use clap::error::ErrorKind;
+use std::alloc::Global;
+use tko_route::Outside;
+use tko_session::{Inlet, Outlet};
+
+const DONE: u8 = 0;
+
+const FAILED: u8 = 1;
+
+const REFUSED: u8 = 2;
+
+/// Does what the words ask, of which the first is the program's name, and answers the status: 0 where
+/// it was done, 1 after a fault, 2 where the words were refused. Replies go to `output`, and what went
+/// wrong to `faults`.
+pub fn command<R: Outside, I: Inlet, O: Outlet, F: Outlet>(
+    rt: &R,
+    alloc: Global,
+    words: &[String],
+    input: &mut I,
+    output: &mut O,
+    faults: &mut F,
+) -> u8
+    ensures { result ≤ 2 }
+{
+    let done = match DryOptions::read(alloc, words) {
+        Ok(options) => dry(rt, alloc, &options, input, output),
+        Err(refusal) if refusal.kind() == ErrorKind::OutOfMemory => Err(Fault::Memory),
+        Err(refusal) if refusal.use_stderr() => return refuse(rt, alloc, faults, &refusal),
+        Err(help) => show(rt, alloc, output, &help),
+    };
+    match done {
+        Ok(()) => DONE,
+        Err(fault) => fail(rt, alloc, faults, fault),
+    }
+}
+
+/// Says why the words were refused.
+fn refuse<R: Outside, F: Outlet>(rt: &R, alloc: Global, faults: &mut F, refusal: &Error) -> u8
+    ensures { result ≤ 2 }
+{
+    match show(rt, alloc, faults, refusal) {
+        Err(Fault::Memory) => fail(rt, alloc, faults, Fault::Memory),
+        _ => REFUSED,
+    }
+}
+
+/// Writes the text of clap.
+fn show<R: Outside, O: Outlet>(
+    rt: &R,
+    alloc: Global,
+    outlet: &mut O,
+    answer: &Error,
+) -> Result<(), Fault> {
+    let text = format!(in alloc; "{answer}")?;
+    write_text(rt, outlet, text.as_bytes())
+}
+
+/// Writes the line of a fault. There is nobody to tell if that fails too.
+fn fail<R: Outside, F: Outlet>(rt: &R, alloc: Global, faults: &mut F, fault: Fault) -> u8
+    ensures { result ≤ 2 }
+{
+    let _ = match format!(in alloc; "{fault}\n") {
+        Ok(line) => write_text(rt, faults, line.as_bytes()),
+        Err(_) => write_text(rt, faults, b"fault: memory\n"),
+    };
+    FAILED
+}

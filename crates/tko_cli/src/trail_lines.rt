@@ -1,0 +1,80 @@
+//! Trails as lines of text. What is printed goes to the end of a text; where memory is wanting a part of it
+//! may stand there.
+ghost use Rattle.std.specs.Prelude.{◌≡◌, ◌++◌, OnOk, IfOk};
+ghost use Rattle.tko_cli.specs.Texts.{attempt_text, end_text, outcome_text, trail_text, trails_text};
+ghost use Rattle.tko_route.specs.Trail.{server_of};
+
+use std::alloc::{AllocError, Global};
+use tko_route::links::Outcome;
+use tko_route::{Attempt, Trail};
+use tko_runs::{append_mark, append_number, append_reply};
+
+/// The lines of the trails of all routed requests, which are numbered from 1.
+pub(crate) fn trail_lines(alloc: Global, trails: &[Trail]) -> Result<Vec<u8>, AllocError>
+    ensures { IfOk result (λ lines. lines.items ≡ trails_text 1 trails.now) }
+{
+    let mut out = Vec::new(alloc);
+    for (place, trail) in trails.iter().enumerate() {
+        append_trail(&mut out, place + 1, trail.attempts())?;
+    }
+    Ok(out)
+}
+
+fn append_trail(out: &mut Vec<u8>, number: usize, attempts: &[Attempt]) -> Result<(), AllocError>
+    ensures { OnOk result (out.new.items ≡ out.old.items ++ trail_text number attempts.now) }
+{
+    for attempt in attempts {
+        append_line(out, number, attempt)?;
+    }
+    Ok(())
+}
+
+fn append_line(out: &mut Vec<u8>, number: usize, attempt: &Attempt) -> Result<(), AllocError>
+    ensures { OnOk result (out.new.items ≡ out.old.items ++ attempt_text number attempt.now) }
+{
+    append_number(out, b"trail ", number as u64)?;
+    append_number(out, b" ", server_of(attempt) as u64)?;
+    out.extend_from_slice(b" ")?;
+    append_end(out, attempt)?;
+    out.extend_from_slice(b"\n")
+}
+
+fn server_of(attempt: &Attempt) -> usize
+    ensures { result ≡ server_of attempt.now }
+{
+    match attempt {
+        Attempt::Skipped(server, _) | Attempt::Sent(server, _, _) | Attempt::Spent(server) =>
+            *server,
+    }
+}
+
+fn append_end(out: &mut Vec<u8>, attempt: &Attempt) -> Result<(), AllocError>
+    ensures { OnOk result (out.new.items ≡ out.old.items ++ end_text attempt.now) }
+{
+    match attempt {
+        Attempt::Skipped(_, mark) => {
+            out.extend_from_slice(b"skipped ")?;
+            append_mark(out, *mark)
+        }
+        Attempt::Sent(_, outcome, reply) => {
+            out.extend_from_slice(b"sent ")?;
+            append_outcome(out, outcome)?;
+            out.extend_from_slice(b" ")?;
+            append_reply(out, *reply)
+        }
+        Attempt::Spent(_) => out.extend_from_slice(b"spent"),
+    }
+}
+
+/// Puts the word of an outcome at the end.
+fn append_outcome(out: &mut Vec<u8>, outcome: &Outcome) -> Result<(), AllocError>
+    ensures { OnOk result (out.new.items ≡ out.old.items ++ outcome_text outcome.now) }
+{
+    out.extend_from_slice(match outcome {
+        Outcome::Reply(_) => b"reply",
+        Outcome::Timeout => b"timeout",
+        Outcome::Refused => b"refused",
+        Outcome::Broken => b"broken",
+        Outcome::Spent => b"spent",
+    })
+}

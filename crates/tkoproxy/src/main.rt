@@ -1,0 +1,51 @@
+//! The program: its arguments and its standard ends, handed to the command.
+#![tactic(auto)]
+
+use std::alloc::Global;
+use std::io::{Read, Write};
+use std::net::{Net, TcpStream};
+use std::process::ExitCode;
+use std::rt::Env;
+use std::sync::Wait;
+use std::{env, io};
+use tko_cli::command;
+use tko_session::Piped;
+
+fn main(rt: HostRuntime) -> ExitCode {
+    let status = match words_of(&rt) {
+        Ok(words) => {
+            let ends = (rt.stdin(), rt.stdout(), rt.stderr());
+            run(&rt, rt.alloc(), &words, ends)
+        },
+        Err(error) => tell(&rt, error.kind()),
+    };
+    ExitCode::from(status)
+}
+
+fn words_of(rt: &(impl Env + AllocGlobal)) -> io::Result<Vec<String>> {
+    Ok(env::args(rt)?.collect(rt.alloc())?)
+}
+
+/// The command over std's readers and writers. The bounds of `Outside` are written out, since only
+/// those are covered at the runtime itself.
+fn run<R: Wait + Net<Stream = TcpStream>, I: Read + Drop, O: Write + Drop, F: Write + Drop>(
+    rt: &R,
+    alloc: Global,
+    words: &[String],
+    (input, output, faults): (I, O, F),
+) -> u8 {
+    let mut input = Piped::new(input);
+    let mut output = Piped::new(output);
+    let mut faults = Piped::new(faults);
+    command(rt, alloc, words, &mut input, &mut output, &mut faults)
+}
+
+/// Says why the words could not be read: one is no text, which refuses them, or memory was wanting.
+fn tell(rt: &impl Eprint, kind: io::ErrorKind) -> u8 {
+    let (line, status) = match kind {
+        io::ErrorKind::InvalidData => ("error: an argument is not UTF-8", 2),
+        _ => ("fault: memory", 1),
+    };
+    let _ = rt.eprintln(line);
+    status
+}
