@@ -1,9 +1,9 @@
 -- Laws of a whole session: nothing yet, one piece more, the end.
-use Rattle.std.proofs.Common.{◌≡◌, ℕ, ◌+◌, ◌<◌, ◌^◌, List, [], ◌++◌, length, refl, sym, ap, subst, ◌∙◌, append-nil, arith}
-use Rattle.tko_text.specs.Reading.{Reading, Reads, Gives, IsOpen, fed, start}
+use Rattle.std.proofs.Common.{◌≡◌, ℕ, ◌<◌, ◌^◌, List, [], ◌++◌, length, refl, sym, subst, append-nil, arith}
+use Rattle.tko_text.specs.Reading.{fed, start}
 use Rattle.tko_session.specs.declared.session.Report.{Report}
 use Rattle.tko_session.specs.Turns.{Turn}
-use Rattle.tko_session.specs.Standing.{Standing, Turned, EndsTooLong, fed_standing, fresh, text_of, items_of}
+use Rattle.tko_session.specs.Standing.{Standing, Turned, EndsTooLong, fed_standing, fresh}
 use Rattle.tko_session.specs.Served.{CameTooLong, Passed, Served, Serving}
 use Rattle.tko_text.proofs.CuttingLemmas.{fed-fed}
 use Rattle.tko_text.proofs.GivesLemmas.{Gives-fed}

@@ -1,11 +1,10 @@
 -- Laws of turns: none, one, these and then those, and bytes that come after them.
-use Rattle.std.proofs.Common.{◌≡◌, ◌≢◌, ℕ, ◌+◌, ◌-◌, ◌^◌, ◌≤◌, min, List, [], ◌∷◌, ◌++◌, length, map, refl, sym, ap, subst, ◌∙◌, append_assoc, append-nil, arith, All, count_by, sum_by, add-zero, cond}
-use Rattle.std.specs.List.{flat_map}
-use Rattle.std.proofs.lemmas.Grind.{common_steps, flat_map-append}
+use Rattle.std.proofs.Common.{◌≡◌, ◌≢◌, ℕ, ◌+◌, List, [], ◌∷◌, ◌++◌, refl, sym, ap, subst, ◌∙◌, append_assoc, append-nil, arith, All, count_by, sum_by, add-zero, cond}
+use Rattle.std.proofs.lemmas.Grind.{flat_map-append}
 use Rattle.std.proofs.lemmas.List.{map-append}
 use Rattle.std.proofs.lemmas.List.Sums.{sum_by-append}
 use Rattle.std.proofs.lemmas.List.Elements.{All-append, All-cons, All-nil}
-use Rattle.tko_model.specs.Records.{Gains, HealthItem}
+use Rattle.tko_model.specs.Records.{HealthItem}
 use Rattle.tko_model.proofs.RecordLemmas.{gains_none, gains_one, gains_append}
 use Rattle.tko_text.specs.declared.item.Item.{Item}
 use Rattle.tko_text.specs.declared.item.Item.TheVariants as item
@@ -16,10 +15,10 @@ use Rattle.tko_text.specs.Requests.{fault_text}
 use Rattle.tko_route.specs.Links.{Exchange}
 use Rattle.tko_session.specs.declared.parts.Parts.{Parts}
 use Rattle.tko_session.specs.Told.{Told}
-use Rattle.tko_text.specs.Reading.{Reading, Gives, Tells, fed}
+use Rattle.tko_text.specs.Reading.{Reading, Gives, Tells}
 use Rattle.tko_route.specs.Trail.{sends_in}
 use Rattle.tko_session.specs.Turns.{Turn, IsTurn, reply_text}
-use Rattle.tko_session.specs.Standing.{Standing, Turned, Answered, Replied, EndsTooLong, sent_by, capped, fed_standing, is_request, items_of, text_of, trails_of, requests_in, sends_to, line_too_long}
+use Rattle.tko_session.specs.Standing.{Standing, Turned, Answered, Replied, EndsTooLong, sent_by, capped, is_request, items_of, text_of, trails_of, requests_in, sends_to, line_too_long}
 use Rattle.tko_text.proofs.GivesLemmas.{Gives-none, Gives-one, Gives-append}
 
 pub items-append : (turns more : List Turn) → items_of (turns ++ more) ≡ items_of turns ++ items_of more

@@ -59,7 +59,8 @@ abbrev pub capped : ℕ → ℕ
 capped n = min n (2 ^ 64 - 1)
 
 -- each target is a server of the health and of the links
-pub record Reaches {H L T : Type 0} (servers : H → ℕ) (linked : L → ℕ) (parts : Parts H L T) : Type 0 where
+pub record Reaches {H L T : Type 0} (servers : H → ℕ) (linked : L → ℕ)
+    (parts : Parts H L T) : Type 0 where
   pub health : All (λ target. target < servers parts.health) parts.targets.items
   pub links : All (λ target. target < linked parts.links) parts.targets.items
 
@@ -72,17 +73,20 @@ pub record Turned {W : Type 0} (step : W → Turn → W → Type 0) (sent : W �
     (old : Standing) (before : W) (turns : List Turn) (new : Standing) (after : W) : Type 0 where
   pub gives : Gives old.reading (items_of turns) new.reading
   pub gains : Gains step before turns after
-  pub sends : (server : ℕ) → sent after server ≡ sent before server + sends_to server (trails_of turns)
+  pub sends : (server : ℕ)
+      → sent after server ≡ sent before server + sends_to server (trails_of turns)
   pub requests : capped new.requests ≡ capped (old.requests + requests_in (items_of turns))
   pub goes_on : All (λ item. item ≢ line_too_long) (items_of turns)
 
 -- a request was answered: one more, and the reply after its trail at the end of the outbox
-pub record Replied {H L T : Type 0} (steps : H → HealthItem → H → Type 0) (exchanges : L → Exchange → L → Type 0)
-    (sent : L → ℕ → ℕ) (tells : T → Told → T → Type 0) (old : Standing) (before : Parts H L T) (request : Request)
+pub record Replied {H L T : Type 0} (steps : H → HealthItem → H → Type 0)
+    (exchanges : L → Exchange → L → Type 0) (sent : L → ℕ → ℕ) (tells : T → Told → T → Type 0)
+    (old : Standing) (before : Parts H L T) (request : Request)
     (new : Standing) (after : Parts H L T) : Type 0 where
   pub trail : List Attempt
   pub routed : IsRouted steps exchanges sent tells before request trail after
-  pub sends : (server : ℕ) → sent after.links server ≡ sent before.links server + sends_in server trail
+  pub sends : (server : ℕ)
+      → sent after.links server ≡ sent before.links server + sends_in server trail
   pub reading : new.reading ≡ old.reading
   pub outbox : new.outbox ≡ old.outbox ++ reply_text trail
   pub requests : capped new.requests ≡ capped (old.requests + 1)

@@ -1,17 +1,15 @@
 -- What becomes of one item: the parts that it changes, and the text that goes to the client.
-use Rattle.std.specs.Prelude.{◌≡◌, ◌<◌, ℕ, Bool, true, false, List, [], ◌∷◌, ◌++◌, codes, All, map, count_by, sum_by, Option, Some, None}
-use Rattle.std.specs.List.{flat_map}
+use Rattle.std.specs.Prelude.{◌≡◌, ℕ, List, [], ◌∷◌, ◌++◌, codes, Option, Some, None}
 use Rattle.tko_model.specs.Records.{HealthItem, Gains}
 use Rattle.tko_text.specs.declared.item.Item.{Item}
 use Rattle.tko_text.specs.declared.item.Item.TheVariants as item
-use Rattle.tko_text.specs.declared.fault.TextFault.TheVariants.{LineTooLong}
 use Rattle.tko_text.specs.declared.request.Request.{Request}
 use Rattle.tko_text.specs.declared.response.Response.{Response}
 use Rattle.tko_text.specs.Requests.{fault_text}
 use Rattle.tko_text.specs.Responses.{response_text}
 use Rattle.tko_route.specs.declared.attempt.Attempt.{Attempt}
 use Rattle.tko_route.specs.Links.{Exchange}
-use Rattle.tko_route.specs.Trail.{IsTrail, Attempted, answer_of, sends_in}
+use Rattle.tko_route.specs.Trail.{IsTrail, Attempted, answer_of}
 use Rattle.tko_session.specs.declared.parts.Parts.{Parts}
 use Rattle.tko_session.specs.Told.{Told, Asked, Tried}
 
@@ -34,25 +32,32 @@ abbrev pub reply_text : List Attempt → List ℕ
 reply_text trail = text_of_answer (answer_of trail)
 
 -- the trails object was told of the request, and then of its trail
-pub record IsTold {T : Type 0} (tells : T → Told → T → Type 0) (old : T) (request : Request) (trail : List Attempt) (new : T) : Type 0 where
+pub record IsTold {T : Type 0} (tells : T → Told → T → Type 0)
+    (old : T) (request : Request) (trail : List Attempt) (new : T) : Type 0 where
   pub between : T
   pub asked : tells old (Asked request) between
   pub tried : tells between (Tried trail) new
 
-module _ {H L T : Type 0} (steps : H → HealthItem → H → Type 0) (exchanges : L → Exchange → L → Type 0) (sent : L → ℕ → ℕ) (tells : T → Told → T → Type 0) where
+module _ {H L T : Type 0} (steps : H → HealthItem → H → Type 0)
+    (exchanges : L → Exchange → L → Type 0) (sent : L → ℕ → ℕ)
+    (tells : T → Told → T → Type 0) where
   -- a request took this trail over the targets
-  pub record IsRouted (old : Parts H L T) (request : Request) (trail : List Attempt) (new : Parts H L T) : Type 0 where
+  pub record IsRouted (old : Parts H L T) (request : Request) (trail : List Attempt)
+      (new : Parts H L T) : Type 0 where
     pub tried : IsTrail old.targets.items trail
-    pub attempts : Gains (Attempted steps exchanges sent request) (old.health, old.links) trail (new.health, new.links)
+    pub attempts : Gains (Attempted steps exchanges sent request)
+        (old.health, old.links) trail (new.health, new.links)
     pub told : IsTold tells old.trails request trail new.trails
     pub targets : new.targets ≡ old.targets
 
-  -- a fault gives its text and changes nothing; a request takes one trail, and gives the reply after it
+  -- a fault gives its text and changes nothing; a request takes one trail, and gives the reply
+  -- after it
   abbrev pub Becomes : Parts H L T → Item → List (List Attempt) → List ℕ → Parts H L T → Type 0
   Becomes old (item.Fault fault) trails text new =
       (trails ≡ []) × (text ≡ fault_text fault) × (new ≡ old)
   Becomes old (item.Request request) trails text new =
-      (trail : List Attempt) × IsRouted old request trail new × (trails ≡ trail ∷ []) × (text ≡ reply_text trail)
+      (trail : List Attempt) × IsRouted old request trail new
+      × (trails ≡ trail ∷ []) × (text ≡ reply_text trail)
 
   abbrev pub IsTurn : Parts H L T → Turn → Parts H L T → Type 0
   IsTurn old turn new = Becomes old turn.item turn.trails turn.text new

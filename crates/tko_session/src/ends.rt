@@ -44,7 +44,8 @@ pub trait Inlet {
     ghost nothing: { (x : Self) → gives x [] x };
 
     /// What came in two parts came as a whole.
-    ghost goes_on: { (x y z : Self) (bytes more : List ℕ) → gives x bytes y → gives y more z → gives x (bytes ++ more) z };
+    ghost goes_on: { (x y z : Self) (bytes more : List ℕ)
+        → gives x bytes y → gives y more z → gives x (bytes ++ more) z };
 }
 
 /// Where replies go.
@@ -69,5 +70,6 @@ pub trait Outlet {
     ghost nothing: { (x : Self) → takes x [] x };
 
     /// What went out in two parts went out as a whole.
-    ghost goes_on: { (x y z : Self) (bytes more : List ℕ) → takes x bytes y → takes y more z → takes x (bytes ++ more) z };
+    ghost goes_on: { (x y z : Self) (bytes more : List ℕ)
+        → takes x bytes y → takes y more z → takes x (bytes ++ more) z };
 }

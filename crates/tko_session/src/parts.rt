@@ -12,7 +12,8 @@ use tko_text::Request;
 /// What a request's expiry is replaced by at the targets behind the first: a `get` has none.
 const NO_EXPIRY: u32 = 0;
 
-/// The health of the servers, the links to them, who is told of trails, and the servers to try, in order.
+/// The health of the servers, the links to them, who is told of trails, and the servers that are
+/// tried, in order.
 #[derive(Drop)]
 pub struct Parts<H, L, T> {
     pub health: H,
@@ -35,7 +36,8 @@ impl<H: Health, L: Links, T> Parts<H, L, T> {
             Gains (Attempted H.steps L.exchanges L.sent request.now)
             (self.old.health, self.old.links) routed.trail (self.new.health, self.new.links)) }
         ensures sends { IfOk result (λ routed. (server : ℕ) →
-            L.sent self.new.links server ≡ L.sent self.old.links server + sends_in server routed.trail) }
+            L.sent self.new.links server
+            ≡ L.sent self.old.links server + sends_in server routed.trail) }
         ensures others { self.new
             ≡ record self.old { health = self.new.health; links = self.new.links } }
         ensures reach { Reaches H.servers L.servers self.new }

@@ -49,7 +49,8 @@ impl<T: Read> Inlet for Piped<T> {
     ghost nothing = { λ x. Consumes-nil (T.remaining x.inner) };
 
     ghost goes_on = { λ x y z bytes more first second.
-        Consumes-trans (T.remaining x.inner) (T.remaining y.inner) (T.remaining z.inner) bytes more first second };
+        Consumes-trans (T.remaining x.inner) (T.remaining y.inner) (T.remaining z.inner)
+        bytes more first second };
 
     fn read<R: Outside>(&mut self, rt: &R, buffer: &mut [u8]) -> Result<usize, Stop> {
         match self.inner.read(buffer) {
@@ -71,7 +72,8 @@ impl<T: Write> Outlet for Piped<T> {
     ghost nothing = { λ x. Appends-nil (T.contents x.inner) };
 
     ghost goes_on = { λ x y z bytes more first second.
-        Appends-trans (T.contents x.inner) (T.contents y.inner) (T.contents z.inner) bytes more first second };
+        Appends-trans (T.contents x.inner) (T.contents y.inner) (T.contents z.inner)
+        bytes more first second };
 
     fn write<R: Outside>(&mut self, rt: &R, piece: &[u8]) -> Result<usize, Stop> {
         match self.inner.write(piece) {

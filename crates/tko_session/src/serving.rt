@@ -29,7 +29,8 @@ pub fn serve<R: Outside, I: Inlet, O: Outlet, H: Health, L: Links, T: Trails>(
     // An end that failed ends the session.
     ensures calm_reader { OnOk result (I.failures reader.new ≡ I.failures reader.old) }
     ensures calm_writer { OnOk result (O.failures writer.new ≡ O.failures writer.old) }
-    ensures read { IsErrOf result SessionFault.Read → I.failures reader.old < I.failures reader.new }
+    ensures read { IsErrOf result SessionFault.Read
+        → I.failures reader.old < I.failures reader.new }
     ensures write { (sent : ℕ) → IsErrOf result (SessionFault.Write sent)
         → O.failures writer.old < O.failures writer.new }
     ensures too_long { IsErrOf result SessionFault.LineTooLong
@@ -100,7 +101,8 @@ fn serve_piece<R: Outside, O: Outlet, H: Health, L: Links, T: Trails>(
     requires outbox { session.old.outbox ≡ [] }
     ensures ok { OnOk result (Passed O.takes
         (IsTurn H.steps L.exchanges L.sent T.tells) (sent_by L.sent)
-        (fed_standing session.old piece.now) writer.old parts.old session.new writer.new parts.new) }
+        (fed_standing session.old piece.now) writer.old parts.old
+        session.new writer.new parts.new) }
     ensures calm { OnOk result (O.failures writer.new ≡ O.failures writer.old) }
     ensures never_read { result ≢ Err SessionFault.Read }
     ensures write { (sent : ℕ) → IsErrOf result (SessionFault.Write sent)

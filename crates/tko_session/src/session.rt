@@ -40,7 +40,11 @@ impl Model for Session {
 
     ghost Value = { Standing };
 
-    ghost view = { λ s. record { reading = s.reader; outbox = s.outbox.items; requests = s.requests } };
+    ghost view = { λ s. record {
+      reading = s.reader;
+      outbox = s.outbox.items;
+      requests = s.requests;
+    } };
 }
 
 impl Session {
@@ -88,7 +92,8 @@ impl Session {
         piece: &[u8],
     ) -> Result<(), PieceFault>
         requires reach { Reaches H.servers L.servers parts.old }
-        ensures ok { OnOk result (Answered (IsTurn H.steps L.exchanges L.sent T.tells) (sent_by L.sent)
+        ensures ok { OnOk result (Answered
+            (IsTurn H.steps L.exchanges L.sent T.tells) (sent_by L.sent)
             (fed_standing self.old piece.now) parts.old self.new parts.new) }
         ensures open { OnOk result (IsOpen self.new.reading) }
         ensures too_long { IsErrOf result PieceFault.LineTooLong
@@ -113,7 +118,8 @@ impl Session {
         parts: &mut Parts<H, L, T>,
     ) -> Result<(), PieceFault>
         requires reach { Reaches H.servers L.servers parts.old }
-        ensures ok { OnOk result (Answered (IsTurn H.steps L.exchanges L.sent T.tells) (sent_by L.sent)
+        ensures ok { OnOk result (Answered
+            (IsTurn H.steps L.exchanges L.sent T.tells) (sent_by L.sent)
             self.old parts.old self.new parts.new) }
         ensures open { OnOk result (IsOpen self.new.reading) }
         ensures too_long { IsErrOf result PieceFault.LineTooLong → EndsTooLong self.old.reading }
@@ -135,7 +141,8 @@ impl Session {
         parts: &mut Parts<H, L, T>,
     ) -> Result<bool, PieceFault>
         requires reach { Reaches H.servers L.servers parts.old }
-        ensures ok { IfOk result (λ _. Answered (IsTurn H.steps L.exchanges L.sent T.tells) (sent_by L.sent)
+        ensures ok { IfOk result (λ _. Answered
+            (IsTurn H.steps L.exchanges L.sent T.tells) (sent_by L.sent)
             self.old parts.old self.new parts.new) }
         ensures none { IfOk result (λ some. OnFalse some (IsOpen self.new.reading)) }
         ensures too_long { IsErrOf result PieceFault.LineTooLong → EndsTooLong self.old.reading }
@@ -166,7 +173,8 @@ impl Session {
 
     /// Answers a fault; behind a line that is too long nothing more is read.
     fn answer_fault(&mut self, fault: TextFault) -> Result<(), PieceFault>
-        ensures ok { OnOk result (self.new ≡ record self.old { outbox = self.old.outbox ++ fault_text fault }) }
+        ensures ok { OnOk result (self.new
+            ≡ record self.old { outbox = self.old.outbox ++ fault_text fault }) }
         ensures goes_on { OnOk result (fault ≢ TextFault.LineTooLong) }
         ensures too_long { IsErrOf result PieceFault.LineTooLong → fault ≡ TextFault.LineTooLong }
     {

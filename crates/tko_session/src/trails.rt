@@ -1,5 +1,5 @@
 //! Who is told of each request and of each trail.
-ghost use Rattle.std.specs.Prelude.{◌≡◌, [], OnOk};
+ghost use Rattle.std.specs.Prelude.{◌≡◌, [], IsOk, OnOk};
 ghost use Rattle.tko_session.specs.Told.{Asked, Tried};
 
 use std::alloc::Global;
@@ -57,7 +57,11 @@ impl Trails for Kept {
 
     ghost tells = { Keeps };
 
-    fn request<R: Outside>(&mut self, _rt: &R, _request: &Request) -> Result<(), NoMemory> {
+    /// Requests are not kept, so it takes no memory.
+    fn request<R: Outside>(&mut self, _rt: &R, _request: &Request) -> Result<(), NoMemory>
+        ensures told { OnOk result (Keeps self.old (Asked _request.now) self.new) }
+        ensures ok { IsOk result }
+    {
         Ok(())
     }
 

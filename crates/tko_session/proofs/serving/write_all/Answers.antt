@@ -1,4 +1,4 @@
-use Rattle.std.proofs.Common.{◌≡◌, ◌∙◌, arith, length-take, length-drop}
+use Rattle.std.proofs.Common.{◌∙◌, arith, length-take, length-drop}
 use Rattle.tko_session.proofs.ListLemmas.{take-next}
 use Rattle.tko_session.proofs.serving.write_all.Goals as goal
 
