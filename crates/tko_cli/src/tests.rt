@@ -20,7 +20,7 @@ fn words_of(alloc: Global, line: &str) -> Result<Vec<String>, AllocError> {
 /// An end over these bytes that moves at most so many a call.
 fn tape(alloc: Global, bytes: &str, greatest: usize) -> Result<Taped, AllocError> {
     let bytes = Vec::from_slice(alloc, bytes.as_bytes())?;
-    Ok(Taped::new(alloc, bytes, greatest.max(1), Vec::new(alloc)))
+    Ok(Taped::new(bytes, greatest.max(1), Vec::new(alloc)))
 }
 
 /// The command of a line has this status and writes these replies and faults.
@@ -149,11 +149,11 @@ fn failing_ends_are_told(rt: HostRuntime) -> Result<(), Fail> {
     let alloc = rt.alloc();
     let line = "tkoproxy dry --trail";
     let again = vec![in alloc; (1, Stop::Again), (2, Stop::Fault)]?;
-    let input = Taped::new(alloc, Vec::from_slice(alloc, b"get a\r\n")?, 5, again);
+    let input = Taped::new(Vec::from_slice(alloc, b"get a\r\n")?, 5, again);
     let fault = (1, "", "fault: read\n");
     ends_with(&rt, alloc, line, input, tape(alloc, "", 4096)?, fault)?;
     let broken = vec![in alloc; (1, Stop::Fault)]?;
-    let output = Taped::new(alloc, Vec::new(alloc), 4096, broken);
+    let output = Taped::new(Vec::new(alloc), 4096, broken);
     let fault = (1, "SERVER_ERROR no server\r\n", "fault: write\n");
     ends_with(
         &rt,
