@@ -1,4 +1,5 @@
 //! The words of the command line.
+ghost use Rattle.std.specs.Prelude.{◌≡◌};
 
 use clap::error::ErrorKind;
 use clap::{Arg, ArgAction, ArgMatches, Command, Error, value_parser};
@@ -42,7 +43,16 @@ impl DryOptions {
     }
 
     /// The settings of the tracker.
-    pub fn settings(&self) -> Settings {
+    pub fn settings(&self) -> Settings
+        ensures { result ≡ record {
+          servers = self.now.servers;
+          threads = 4;
+          failures = self.now.failures;
+          limit = self.now.limit;
+          tries = self.now.tries;
+          opening_stamp = 0;
+        } }
+    {
         Settings {
             servers: self.servers,
             threads: 4,
