@@ -12,7 +12,7 @@ pub struct ServerState {
 }
 
 /// How many servers have a soft mark. They are counted anew each time, so no count can go wrong.
-pub(crate) fn count_softs(servers: &[ServerState]) -> usize
+pub fn count_softs(servers: &[ServerState]) -> usize
     ensures { result ≡ softs servers.now }
 {
     servers
