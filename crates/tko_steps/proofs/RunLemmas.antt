@@ -1,23 +1,21 @@
 -- The law of every run: what holds of the world is kept by each turn.
-use Rattle.std.proofs.Common.{◌≡◌, ℕ, ◌+◌, ◌<◌, Bool, true, false, cond, ltb, List, [], ◌∷◌, ◌++◌, length, get_or, set, All, Option, Some, None, refl, sym, ap, subst, ⊎_elim, get_or-set_same, get_or-set_other}
-use Rattle.std.proofs.lemmas.Bool.{cases_eq, ltb-true}
+use Rattle.std.proofs.Common.{◌≡◌, ℕ, ◌+◌, ◌<◌, List, [], ◌∷◌, length, get_or, set, All, Option, Some, None, refl, sym, ap, subst, ⊎_elim, get_or-set_same, get_or-set_other}
+use Rattle.std.proofs.lemmas.Bool.{cases_eq}
 use Rattle.std.proofs.lemmas.List.Elements.{All-nil, All-cons}
 use Rattle.tko_model.specs.declared.mark.Op.{Op}
 use Rattle.tko_model.specs.declared.settings.Settings.{Settings}
 use Rattle.tko_model.specs.Ranges.{IsWithinRanges}
 use Rattle.tko_model.specs.Tracker.{after, reply_of, server_at}
-use Rattle.tko_steps.specs.declared.step.BeginFault.{BeginFault}
-use Rattle.tko_steps.specs.declared.step.BeginFault.TheVariants as fault
 use Rattle.tko_steps.specs.declared.step.Kind.TheVariants as kind
 use Rattle.tko_steps.specs.declared.step.Place.TheVariants as place
-use Rattle.tko_steps.specs.declared.step.Stepped.TheVariants as stepped
 use Rattle.tko_steps.specs.declared.step.Word.TheVariants as word
 use Rattle.tko_steps.specs.declared.thread.ThreadState.{ThreadState}
 use Rattle.tko_steps.specs.declared.thread.ThreadState.TheVariants.{NotEnrolled, Idle, InCall}
-use Rattle.tko_steps.specs.Core.{CoreState, IsCore, abstract_of, after_enrol, after_step_from, after_whole, begin_fault, fault_at, in_call, thread_at, told_from, unless_fault, with_thread}
-use Rattle.tko_steps.specs.Runs.{Begin, Call, InEveryRun, OwnStep, Step, StepTaken, Took, Turn, World, after_turns, and_step, began, begun_call, calls_of, happens, run, start, steps_in, with_step, with_told}
+use Rattle.tko_steps.specs.Core.{CoreState, IsCore, abstract_of, after_enrol, after_whole, thread_at}
+use Rattle.tko_steps.specs.Runs.{Begin, Call, Step, InEveryRun, OwnStep, StepTaken, Took, Turn, World, after_turns, and_step, begun_call, calls_of, happens, start, steps_in, with_step}
 use Rattle.tko_steps.proofs.CallLemmas.{All-with_step, latest, latest-begun_call, latest-begun_call_other, latest-with_step_other, with_step-none}
 use Rattle.tko_steps.proofs.CoreLemmas.{IsCore-after_enrol, IsCore-after_whole, IsCore-opened_core, IsCore-with_thread, get_or-replicate_same}
+use Rattle.tko_steps.proofs.WiringLemmas.{begun, keeps-begin, keeps-step, stepped_from}
 use Rattle.tko_steps.proofs.LegalLemmas.{IsSoundCall, IsSoundCall-begun_call, IsSoundCall-whole, IsWhole}
 
 -- how a thread stands with the call that it began last: one that isn't enrolled began none, and a
@@ -60,14 +58,6 @@ Holds-start s ranges =
       stand = λ thread. rw (get_or-replicate_same s.threads thread NotEnrolled) refl;
     }
 
--- the world once a call of an idle thread began
-abbrev begun : World → ℕ → Op → ℕ → World
-begun w thread op server =
-    record {
-      core = with_thread w.core thread (in_call (thread_at w.core thread) op server);
-      past = began w.core thread op server ∷ w.past;
-    }
-
 Holds-begun : (s : Settings) (w : World) (thread number : ℕ) (op : Op) (server : ℕ) → Holds s w
     → thread < length w.core.threads → thread_at w.core thread ≡ Idle number → server < length (abstract_of w.core)
     → Holds s (begun w thread op server)
@@ -85,7 +75,7 @@ Holds-begun s w thread number op server holds inside stands on_server =
     })
 
 -- a thread enrols
-abbrev enrol_step : CoreState → ℕ → StepTaken
+abbrev pub enrol_step : CoreState → ℕ → StepTaken
 enrol_step core thread =
     record {
       thread = thread;
@@ -115,7 +105,7 @@ Holds-enrolled s w thread holds inside stands =
     }
 
 -- a thread does its whole call
-abbrev whole_step : CoreState → ℕ → ℕ → Op → ℕ → StepTaken
+abbrev pub whole_step : CoreState → ℕ → ℕ → Op → ℕ → StepTaken
 whole_step core thread number op server =
     let new = after core.tracker number op server in
     record {
@@ -157,14 +147,6 @@ Holds-whole s w thread number op server holds inside stands =
           (λ other apart. latest-with_step_other own calls other apart) holds.stand;
     }
 
--- the world after a step of the thread at this place, which stands there
-abbrev stepped_from : World → ℕ → ThreadState → World
-stepped_from w thread state =
-    record {
-      core = after_step_from w.core thread state;
-      past = with_told w.past thread (abstract_of w.core) (abstract_of (after_step_from w.core thread state)) (told_from w.core state);
-    }
-
 Holds-stepped_from : (s : Settings) (w : World) (thread : ℕ) (state : ThreadState) → Holds s w → thread < length w.core.threads
     → thread_at w.core thread ≡ state → Holds s (stepped_from w thread state)
 Holds-stepped_from s w thread NotEnrolled holds inside stands = Holds-enrolled s w thread holds inside stands
@@ -172,47 +154,16 @@ Holds-stepped_from s w thread (Idle number) holds inside stands = holds
 Holds-stepped_from s w thread (InCall number op server) holds inside stands =
     Holds-whole s w thread number op server holds inside stands
 
-Holds-either : (s : Settings) (w : World) (thread : ℕ) (state : ThreadState) (test : Bool) → Holds s w
-    → (test ≡ true → Holds s (stepped_from w thread state))
-    → (let new : CoreState = cond test (after_step_from w.core thread state) w.core in
-    let told = cond test (told_from w.core state) stepped.NoThread in
-    Holds s (record { core = new; past = with_told w.past thread (abstract_of w.core) (abstract_of new) told }))
-Holds-either s w thread state true holds next = next refl
-Holds-either s w thread state false holds next = holds
-
 Holds-step : (s : Settings) (w : World) (thread : ℕ) → Holds s w → Holds s (happens w (Step thread))
 Holds-step s w thread holds =
-    Holds-either s w thread (thread_at w.core thread) (ltb thread (length w.core.threads)) holds
-    (λ inside. Holds-stepped_from s w thread (thread_at w.core thread) holds (ltb-true thread (length w.core.threads) inside) refl)
-
--- where no fault is told, the thread is idle and the server is there
-fault_at-none : (state : ThreadState) (is_server : Bool) → fault_at state is_server ≡ None
-    → ((number : ℕ) × (state ≡ Idle number)) × (is_server ≡ true)
-fault_at-none NotEnrolled is_server e = cc
-fault_at-none (Idle number) true e = ((number, refl), refl)
-fault_at-none (Idle number) false e = cc
-fault_at-none (InCall number op server) is_server e = cc
-
-unless_no_thread-none : (test : Bool) (found : Option BeginFault) → cond test found (Some fault.NoThread) ≡ None
-    → (test ≡ true) × (found ≡ None)
-unless_no_thread-none true found e = (refl, e)
-unless_no_thread-none false found e = cc
-
-Holds-unless_fault : (s : Settings) (w new : World) (found : Option BeginFault) → Holds s w → (found ≡ None → Holds s new)
-    → Holds s (record { core = unless_fault found new.core w.core; past = unless_fault found new.past w.past })
-Holds-unless_fault s w new None holds next = next refl
-Holds-unless_fault s w new (Some fault) holds next = holds
+    keeps-step (Holds s) w thread holds
+    (λ inside. Holds-stepped_from s w thread (thread_at w.core thread) holds inside refl)
 
 Holds-begin : (s : Settings) (w : World) (thread : ℕ) (op : Op) (server : ℕ) → Holds s w
     → Holds s (happens w (Begin thread op server))
 Holds-begin s w thread op server holds =
-    let state = thread_at w.core thread in
-    let is_server = ltb server (length (abstract_of w.core)) in
-    Holds-unless_fault s w (begun w thread op server) (begin_fault w.core thread server) holds (λ none.
-    let first = unless_no_thread-none (ltb thread (length w.core.threads)) (fault_at state is_server) none in
-    let second = fault_at-none state is_server first.1 in
-    Holds-begun s w thread second.0.0 op server holds (ltb-true thread (length w.core.threads) first.0) second.0.1
-    (ltb-true server (length (abstract_of w.core)) second.1))
+    keeps-begin (Holds s) w thread op server holds
+    (λ number inside stands on_server. Holds-begun s w thread number op server holds inside stands on_server)
 
 Holds-happens : (s : Settings) (w : World) (turn : Turn) → Holds s w → Holds s (happens w turn)
 Holds-happens s w (Begin thread op server) holds = Holds-begin s w thread op server holds
@@ -224,12 +175,3 @@ Holds-after_turns s w (turn ∷ turns) holds = Holds-after_turns s (happens w tu
 
 pub Holds-run : InEveryRun Holds
 Holds-run s ranges turns = Holds-after_turns s (start s) turns (Holds-start s ranges)
-
--- a run goes on by one turn
-pub after_turns-push : (w : World) (turns : List Turn) (turn : Turn)
-    → after_turns w (turns ++ turn ∷ []) ≡ happens (after_turns w turns) turn
-after_turns-push w [] turn = refl
-after_turns-push w (first ∷ turns) turn = after_turns-push (happens w first) turns turn
-
-pub run-push : (s : Settings) (turns : List Turn) (turn : Turn) → run s (turns ++ turn ∷ []) ≡ happens (run s turns) turn
-run-push s turns turn = after_turns-push (start s) turns turn

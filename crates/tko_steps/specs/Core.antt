@@ -143,6 +143,12 @@ is_enrolled NotEnrolled = false
 is_enrolled (Idle number) = true
 is_enrolled (InCall number op server) = true
 
+-- whether a thread has a call
+abbrev pub has_call : ThreadState → Bool
+has_call NotEnrolled = false
+has_call (Idle number) = false
+has_call (InCall number op server) = true
+
 -- a call of a thread is on a server that is there
 abbrev pub IsOnServer : ℕ → ThreadState → Type 0
 IsOnServer servers NotEnrolled = Unit {0}

@@ -35,7 +35,7 @@ impl Model for Core {
 }
 
 impl Core {
-    ghost use Rattle.tko_steps.specs.Core.{after_begin, after_enrol, after_step, after_whole, begin_fault, opened_core, thread_at, told_by_enrol, told_by_step, told_by_whole};
+    ghost use Rattle.tko_steps.specs.Core.{after_begin, after_enrol, after_step, after_whole, begin_fault, has_call, opened_core, thread_at, told_by_enrol, told_by_step, told_by_whole};
     ghost use Rattle.tko_steps.specs.declared.thread.ThreadState.TheVariants as state;
 
     /// All servers are up, at the opening stamp, and no thread is enrolled.
@@ -75,6 +75,13 @@ impl Core {
                 Ok(())
             }
         }
+    }
+
+    /// Whether the thread is there and has a call.
+    pub fn has_call(&self, thread: usize) -> bool
+        ensures { result ≡ has_call (thread_at self.now thread) }
+    {
+        thread < self.threads.len() && matches!(self.threads[thread], ThreadState::InCall { .. })
     }
 
     /// One turn of a thread. The step of a thread that isn't enrolled is its enrolment.

@@ -1,6 +1,7 @@
-//! The law of every run.
-ghost use Rattle.std.specs.Prelude.{◌≡◌, ◌≢◌, ◌≤◌, Some, All};
-ghost use Rattle.tko_model.specs.Tracker.{softs};
+//! The law of every run, and that of a thread alone.
+ghost use Rattle.std.specs.Prelude.{◌≡◌, ◌≢◌, ◌≤◌, Some, All, reverse};
+ghost use Rattle.tko_model.specs.Tracker.{opened, softs};
+ghost use Rattle.tko_steps.specs.Alone.{InEveryRunAlone, IsCallOf, Replays};
 ghost use Rattle.tko_steps.specs.Core.{IsCore, abstract_of};
 ghost use Rattle.tko_steps.specs.Legal.{ChangesAtMostOnce, HasOneResponsible, IsFullAtLimit, IsLegal, IsOwnersAnswer};
 ghost use Rattle.tko_steps.specs.Runs.{InEveryRun, calls_of};
@@ -24,4 +25,15 @@ pub fn every_run()
     ensures limit { InEveryRun (λ s w. softs (abstract_of w.core) ≤ s.limit) }
     ensures settings { InEveryRun (λ s w. w.core.tracker.settings ≡ s) }
     ensures core { InEveryRun (λ s w. IsCore w.core) }
+{}
+
+/// Over every list of turns of one thread: the sequential tracker, as it opens under settings in
+/// range, does the thread's calls one after another with the same replies, and no call lost every
+/// try. The thread draws number 0.
+pub fn one_thread_alone()
+    ensures calls { InEveryRunAlone (λ s thread w. All (IsCallOf thread 0) (calls_of w.past)) }
+    ensures replies { InEveryRunAlone (λ s thread w.
+        Replays (opened s) 0 (reverse (calls_of w.past)) w.core.tracker) }
+    ensures contended { InEveryRunAlone (λ s thread w.
+        All (λ call. call.answer ≢ Some Reply.Contended) (calls_of w.past)) }
 {}

@@ -14,7 +14,7 @@ mod step;
 mod thread;
 
 pub use coarse::Core;
-pub use law::every_run;
+pub use law::{every_run, one_thread_alone};
 pub use step::{BeginFault, Kind, Place, Stepped, Word};
 pub use thread::ThreadState;
 
