@@ -68,7 +68,7 @@ fn make_buffer(alloc: Global) -> Result<Vec<u8>, AllocError>
 }
 
 /// Reads the next piece, and answers how many bytes it has; None is a failure.
-fn read_piece<R: Outside, I: Inlet>(rt: &R, reader: &mut I, buffer: &mut [u8]) -> Option<usize>
+pub fn read_piece<R: Outside, I: Inlet>(rt: &R, reader: &mut I, buffer: &mut [u8]) -> Option<usize>
     requires { 0 < length buffer.old }
     ensures within { IfSome result (λ count. count ≤ length buffer.new) }
     ensures gives { IfSome result (λ count. I.gives reader.old (take count buffer.new) reader.new) }
