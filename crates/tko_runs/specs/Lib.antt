@@ -1,6 +1,15 @@
+pub mod Claims
+pub mod Dockets
 pub mod Headers
 pub mod Lines
 pub mod Numbers
+pub mod Orders
+pub mod Plays
+pub mod Prints
+pub mod Repeats
 pub mod Schedules
+pub mod Sights
+pub mod Standings
+pub mod Stories
 pub mod Texts
 pub mod Words

@@ -1,23 +1,51 @@
-//! Schedules of what threads do with a tracker, as a text, and the words that a run is printed in.
+//! Schedules of what threads do with a tracker, the runs that they name, and the check of runs.
 //!
 //! - `Command`: one line of a schedule: a thread begins a call, takes steps, or runs its call to the end.
 //! - `Schedule`: the settings of a tracker and the commands in order; `ScheduleFault`: why a text is none.
+//! - `play`: the run that a schedule names. `Run`: its events in order; `Run::of` makes any claimed run.
+//! - `check`: whether a run's words follow one another and all its calls are legal; `Order`: at which step.
+//! - `Run::print`: the text of a run.
 #![tactic(auto)]
 
+mod becoming;
+mod calls;
+mod checking;
+mod claim;
+mod closing;
 mod command;
 mod commands;
+mod docket;
+mod event;
 mod fault;
 mod header;
+mod judging;
 mod lines;
 mod number;
+mod order;
+mod player;
+mod playing;
+mod printing;
+mod register;
+mod run;
 mod schedule;
+mod sighting;
 mod text;
 mod words;
 
+pub use checking::{RunFault, check};
+pub use claim::ClaimFault;
 pub use command::Command;
+pub use event::{Event, Remark};
 pub use fault::ScheduleFault;
+pub use order::{Order, Placed};
+pub use playing::{PlayFault, play};
+pub use run::Run;
 pub use schedule::Schedule;
 pub use text::{append_mark, append_number, append_reply, op_word};
 
+#[cfg(test)]
+mod claim_tests;
+#[cfg(test)]
+mod row_tests;
 #[cfg(test)]
 mod tests;

@@ -1,0 +1,43 @@
+-- A run that is legal is not refused.
+use Rattle.std.proofs.Common.{◌≡◌, ℕ, List, [], ◌∷◌, ◌++◌, All, refl, subst}
+use Rattle.std.proofs.lemmas.List.Elements.{All-head, All-tail}
+use Rattle.tko_model.specs.declared.settings.Settings.{Settings}
+use Rattle.tko_runs.specs.declared.event.Event.{Event}
+use Rattle.tko_runs.specs.declared.checking.RunFault.{RunFault}
+use Rattle.tko_runs.specs.declared.checking.RunFault.TheVariants as fault
+use Rattle.tko_runs.specs.Claims.{calls_in, claimed, world_after, world_after_all}
+use Rattle.tko_runs.specs.Orders.{AllFollow, Follows, IsFirstIllegal, IsFirstStray, IsLegalRun, TellsRunFault}
+use Rattle.tko_runs.specs.Stories.{Story}
+use Rattle.tko_steps.specs.Core.{opened_core}
+use Rattle.tko_steps.specs.Legal.{IsLegal}
+use Rattle.tko_steps.specs.Runs.{Call, World, start}
+
+-- in events that all follow, each follows where it stands
+follows_at : (s : Settings) (w : World) (before : List Event) (event : Event) (after : List Event)
+    → AllFollow s w.core (before ++ event ∷ after) → Follows s (world_after_all w before).core event
+follows_at s w [] event after follow = follow.0
+follows_at s w (first ∷ before) event after follow = follows_at s (world_after w first) before event after follow.1
+
+no_stray : (s : Settings) (events : List Event) (number : ℕ) → AllFollow s (opened_core s) events
+    → IsFirstStray s events number → ⊥
+unfolding claimed
+no_stray s events number follow is =
+    let P : List Event → Type 0 = λ all. AllFollow s (opened_core s) all in
+    is.strays (follows_at s (start s) is.before is.stray is.after (subst P is.split follow))
+
+legal_at : (s : Settings) (before : List Call) (call : Call) (after : List Call)
+    → All (IsLegal s) (before ++ call ∷ after) → IsLegal s call
+legal_at s [] call after all = All-head (IsLegal s) call after all
+legal_at s (first ∷ before) call after all =
+    legal_at s before call after (All-tail (IsLegal s) first (before ++ call ∷ after) all)
+
+no_illegal : (s : Settings) (calls : List Call) (number : ℕ) → All (IsLegal s) calls → IsFirstIllegal s calls number → ⊥
+no_illegal s calls number all is =
+    let P : List Call → Type 0 = λ every. All (IsLegal s) every in
+    is.not_legal (legal_at s is.before is.illegal is.after (subst P is.split all))
+
+pub memory_alone : (story : Story) (told : RunFault) → IsLegalRun story → TellsRunFault story told → told ≡ fault.Memory
+memory_alone story (fault.Step number) legal tells = absurd (no_stray story.settings story.events number legal.follow tells)
+memory_alone story (fault.Call number) legal tells =
+    absurd (no_illegal story.settings (calls_in story.settings story.events) number legal.legal tells.1)
+memory_alone story fault.Memory legal tells = refl

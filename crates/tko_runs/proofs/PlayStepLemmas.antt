@@ -1,0 +1,186 @@
+-- What each call of the player makes of what was played: begins, steps, notes, and how it opens.
+use Rattle.std.proofs.Common.{◌≡◌, ℕ, zero, suc, ◌+◌, ◌<◌, Bool, true, false, cond, ltb, List, [], ◌∷◌, ◌++◌, length, Option, Some, None, Result, Ok, Err, replicate, refl, sym, ap, ◌∙◌, arith, append_assoc, ◌-◌, ◌↔◌, ◌≤◌, add-one}
+use Rattle.std.proofs.lemmas.Bool.{le-leb}
+use Rattle.std.proofs.lemmas.List.{append-nil}
+use Rattle.tko_model.specs.declared.mark.Op.{Op}
+use Rattle.tko_model.specs.declared.settings.Settings.{Settings}
+use Rattle.tko_runs.specs.declared.event.Event.{Event}
+use Rattle.tko_runs.specs.declared.event.Event.TheVariants as event
+use Rattle.tko_runs.specs.declared.event.Remark.{Remark}
+use Rattle.tko_runs.specs.declared.event.Remark.TheVariants as remark
+use Rattle.tko_model.specs.Ranges.{IsWithinRanges, first_fault, is_within, worn}
+use Rattle.tko_runs.specs.Plays.{Played, after_all, after_command, after_commands, after_turn, enrolled, enrolments, named_by, opened_play, played, turns_of, with_begin, with_event, with_note}
+use Rattle.tko_runs.specs.Plays as plays
+use Rattle.tko_runs.specs.Stories.{Note, one_by_one}
+use Rattle.tko_runs.specs.declared.run.Noted.{Noted}
+use Rattle.tko_model.specs.declared.mark.Reply.{Reply}
+use Rattle.tko_steps.specs.declared.step.BeginFault.{BeginFault}
+use Rattle.tko_steps.specs.declared.step.Kind.{Kind}
+use Rattle.tko_steps.specs.declared.step.Place.{Place}
+use Rattle.tko_steps.specs.declared.step.Word.{Word}
+use Rattle.tko_steps.specs.declared.step.Stepped.TheVariants as stepped
+use Rattle.tko_steps.specs.declared.thread.ThreadState.{ThreadState}
+use Rattle.tko_steps.specs.declared.thread.ThreadState.TheVariants.{NotEnrolled, Idle, InCall}
+use Rattle.tko_steps.specs.Core.{CoreState, after_begin, after_step, after_step_from, begin_fault, thread_at, told_by_step, told_from}
+use Rattle.tko_steps.specs.Runs.{Begin, Step, Turn}
+
+-- Turns in which nothing happens.
+
+-- the same note so many times
+abbrev pub with_notes : Played → Remark → ℕ → Played
+with_notes p remark times =
+    record p { notes = p.notes ++ replicate times (record { after = length p.events; remark = remark }) }
+
+-- a thread of this core has no step to take, as the remark says
+abbrev pub Stalls : CoreState → ℕ → Remark → Type 0
+Stalls core thread remark =
+    (events : List Event) (notes : List Note) →
+    let p : Played = record { core = core; events = events; notes = notes } in
+    after_turn p (Step thread) ≡ with_note p remark
+
+after_all-stalls : (core : CoreState) (thread : ℕ) (remark : Remark) → Stalls core thread remark → (n : ℕ)
+    (events : List Event) (notes : List Note)
+    → (let p : Played = record { core = core; events = events; notes = notes } in
+    after_all p (replicate n (Step thread)) ≡ with_notes p remark n)
+after_all-stalls core thread remark stalls zero events notes =
+    ap (λ (all : List Note). record { core = core; events = events; notes = all }) (sym (append-nil notes))
+after_all-stalls core thread remark stalls (suc n) events notes =
+    let note : Note = record { after = length events; remark = remark } in
+    ap (λ p. after_all p (replicate n (Step thread))) (stalls events notes)
+    ∙ after_all-stalls core thread remark stalls n events (notes ++ note ∷ [])
+    ∙ ap (λ (all : List Note). record { core = core; events = events; notes = all }) (append_assoc notes (note ∷ []) (replicate n note))
+
+unmoved_from-idle : (core : CoreState) (thread : ℕ) (state : ThreadState) → told_from core state ≡ stepped.Idle
+    → after_step_from core thread state ≡ core
+unmoved_from-idle core thread NotEnrolled e = cc
+unmoved_from-idle core thread (Idle number) e = refl
+unmoved_from-idle core thread (InCall number op server) e = cc
+
+unmoved-idle : (core : CoreState) (thread : ℕ) (test : Bool)
+    → cond test (told_from core (thread_at core thread)) stepped.NoThread ≡ stepped.Idle
+    → cond test (after_step_from core thread (thread_at core thread)) core ≡ core
+unmoved-idle core thread true e = unmoved_from-idle core thread (thread_at core thread) e
+unmoved-idle core thread false e = refl
+
+unmoved_from-none : (core : CoreState) (thread : ℕ) (state : ThreadState) → told_from core state ≡ stepped.NoThread
+    → after_step_from core thread state ≡ core
+unmoved_from-none core thread NotEnrolled e = cc
+unmoved_from-none core thread (Idle number) e = refl
+unmoved_from-none core thread (InCall number op server) e = cc
+
+unmoved-none : (core : CoreState) (thread : ℕ) (test : Bool)
+    → cond test (told_from core (thread_at core thread)) stepped.NoThread ≡ stepped.NoThread
+    → cond test (after_step_from core thread (thread_at core thread)) core ≡ core
+unmoved-none core thread true e = unmoved_from-none core thread (thread_at core thread) e
+unmoved-none core thread false e = refl
+
+pub Stalls-idle : (core : CoreState) (thread : ℕ) → told_by_step core thread ≡ stepped.Idle → Stalls core thread (remark.Idle thread)
+Stalls-idle core thread told events notes =
+    let p : Played = record { core = core; events = events; notes = notes } in
+    ap (λ t. record (plays.with_step p thread t) { core = after_step core thread }) told
+    ∙ ap (λ (c : CoreState). record (with_note p (remark.Idle thread)) { core = c })
+    (unmoved-idle core thread (ltb thread (length core.threads)) told)
+
+pub Stalls-none : (core : CoreState) (thread : ℕ) → told_by_step core thread ≡ stepped.NoThread
+    → Stalls core thread (remark.NoThread thread)
+Stalls-none core thread told events notes =
+    let p : Played = record { core = core; events = events; notes = notes } in
+    ap (λ t. record (plays.with_step p thread t) { core = after_step core thread }) told
+    ∙ ap (λ (c : CoreState). record (with_note p (remark.NoThread thread)) { core = c })
+    (unmoved-none core thread (ltb thread (length core.threads)) told)
+
+-- notes that are kept with how often each stands there
+pub one_by_one-push : (kept : List Noted) (noted : Noted)
+    → one_by_one (kept ++ noted ∷ [])
+    ≡ one_by_one kept ++ replicate noted.times (record { after = noted.after; remark = noted.remark })
+one_by_one-push [] noted = append-nil _
+one_by_one-push (first ∷ kept) noted =
+    ap (λ rest. replicate first.times (record { after = first.after; remark = first.remark }) ++ rest) (one_by_one-push kept noted)
+    ∙ sym (append_assoc _ (one_by_one kept) _)
+
+-- Begins.
+
+-- a call that began has no fault
+pub no_fault : (found : Option BeginFault) → ((fault : BeginFault) → (◌≡◌ {A = Result Unit BeginFault} (Ok tt) (Err fault)) ↔ (found ≡ Some fault))
+    → found ≡ None
+no_fault None is = refl
+no_fault (Some fault) is = let no : ◌≡◌ {A = Result Unit BeginFault} (Ok tt) (Err fault) = (is fault).1 refl in cc
+
+-- `p` is what is known of the player `q` by its parts
+pub after_turn-begun : (p q : Played) (thread : ℕ) (op : Op) (server : ℕ) → p ≡ q → begin_fault p.core thread server ≡ None
+    → with_event (record p { core = after_begin p.core thread op server }) (event.Begin thread op server)
+    ≡ after_turn q (Begin thread op server)
+after_turn-begun p q thread op server is none =
+    let turned : with_event (record p { core = after_begin p.core thread op server }) (event.Begin thread op server)
+    ≡ after_turn p (Begin thread op server) = rw none refl in
+    turned ∙ ap (λ r. after_turn r (Begin thread op server)) is
+
+pub after_turn-refused : (p q : Played) (thread : ℕ) (op : Op) (server : ℕ) (fault : BeginFault) → p ≡ q
+    → begin_fault p.core thread server ≡ Some fault
+    → with_notes p (remark.Refused thread op server fault) 1 ≡ after_turn q (Begin thread op server)
+after_turn-refused p q thread op server fault is some =
+    let turned : with_notes p (remark.Refused thread op server fault) 1 ≡ after_turn p (Begin thread op server) = rw some refl in
+    turned ∙ ap (λ r. after_turn r (Begin thread op server)) is
+
+-- Steps, as they are kept.
+
+pub after_all-idle : (p q : Played) (thread n : ℕ) → p ≡ q → told_by_step p.core thread ≡ stepped.Idle
+    → with_notes (record p { core = after_step p.core thread }) (remark.Idle thread) n ≡ after_all q (replicate n (Step thread))
+after_all-idle p q thread n is told =
+    ap (λ (c : CoreState). with_notes (record p { core = c }) (remark.Idle thread) n)
+    (unmoved-idle p.core thread (ltb thread (length p.core.threads)) told)
+    ∙ sym (after_all-stalls p.core thread (remark.Idle thread) (Stalls-idle p.core thread told) n p.events p.notes)
+    ∙ ap (λ r. after_all r (replicate n (Step thread))) is
+
+pub after_all-none : (p q : Played) (thread n : ℕ) → p ≡ q → told_by_step p.core thread ≡ stepped.NoThread
+    → with_notes (record p { core = after_step p.core thread }) (remark.NoThread thread) n ≡ after_all q (replicate n (Step thread))
+after_all-none p q thread n is told =
+    ap (λ (c : CoreState). with_notes (record p { core = c }) (remark.NoThread thread) n)
+    (unmoved-none p.core thread (ltb thread (length p.core.threads)) told)
+    ∙ sym (after_all-stalls p.core thread (remark.NoThread thread) (Stalls-none p.core thread told) n p.events p.notes)
+    ∙ ap (λ r. after_all r (replicate n (Step thread))) is
+
+replicate-left : {X : Type 0} (x : X) (n k : ℕ) → k < n → replicate (n - k) x ≡ x ∷ replicate (n - (k + 1)) x
+replicate-left x n k low = let one : n - k ≡ suc (n - (k + 1)) = omega (arith, low) in ap (λ m. replicate m x) one
+
+pub after_all-did : (p q : Played) (thread steps done : ℕ) → p ≡ q → done < steps
+    → {kind : Kind} {place : Place} {found left : Word} {won : Bool} {answer : Option Reply}
+    → told_by_step p.core thread ≡ stepped.Did kind place found left won answer
+    → after_all (with_event (record p { core = after_step p.core thread }) (event.Step thread kind place found left answer))
+    (replicate (steps - (done + 1)) (Step thread))
+    ≡ after_all q (replicate (steps - done) (Step thread))
+after_all-did p q thread steps done is low told =
+    ap (λ q. after_all q (replicate (steps - (done + 1)) (Step thread)))
+    (sym (ap (λ t. record (plays.with_step p thread t) { core = after_step p.core thread }) told))
+    ∙ ap (after_all p) (sym (replicate-left (Step thread) steps done low))
+    ∙ ap (λ r. after_all r (replicate (steps - done) (Step thread))) is
+
+-- Opening.
+
+is_within-true : (low high n : ℕ) → low ≤ n → n ≤ high → is_within low high n ≡ true
+is_within-true low high n above below = rw (le-leb low n above, le-leb n high below) refl
+
+-- settings in their ranges have no fault
+pub first_fault-within : (s : Settings) → IsWithinRanges s → first_fault s ≡ None
+first_fault-within s is =
+    rw (
+      is_within-true 1 256 s.servers is.servers.0 is.servers.1,
+      is_within-true 1 64 s.threads is.threads.0 is.threads.1,
+      is_within-true 1 1000 s.failures is.failures.0 is.failures.1,
+      is_within-true 0 256 s.limit (omega arith) is.limit,
+      is_within-true 1 1000 s.tries is.tries.0 is.tries.1,
+      is_within-true 0 worn s.opening_stamp (omega arith) is.stamp,
+    ) refl
+
+after_all-push : (p : Played) (turns : List Turn) (turn : Turn)
+    → after_all p (turns ++ turn ∷ []) ≡ after_turn (after_all p turns) turn
+after_all-push p [] turn = refl
+after_all-push p (first ∷ turns) turn = after_all-push (after_turn p first) turns turn
+
+pub enrolled-more : (p new : Played) (thread : ℕ) (opened : Played) → p ≡ after_all opened (enrolments thread)
+    → new ≡ after_all p (replicate 1 (Step thread)) → new ≡ after_all opened (enrolments (thread + 1))
+enrolled-more p new thread opened is one =
+    one
+    ∙ ap (λ q. after_turn q (Step thread)) is
+    ∙ sym (after_all-push opened (enrolments thread) (Step thread))
+    ∙ ap (λ n. after_all opened (enrolments n)) (sym (add-one thread))

@@ -1,0 +1,43 @@
+use Rattle.std.proofs.Common.{◌≡◌, ◌∙◌, List, sym, subst}
+use Rattle.tko_runs.specs.Claims.{IsStory}
+use Rattle.tko_runs.specs.Orders.{IsLegalRun}
+use Rattle.tko_runs.specs.Stories.{Story, events_of}
+use Rattle.tko_steps.specs.Runs.{Turn, run}
+use Rattle.tko_runs.proofs.LinkLemmas.{IsLaw}
+use Rattle.tko_runs.proofs.PlayLemmas.{IsLegalRun-named_by, IsStory-named_by, story_of-played, turns-named_by}
+use Rattle.tko_runs.proofs.playing.play.Goals as goal
+
+pub finish-requires : goal.finish-requires
+finish-requires c =
+    let plan = c.args.schedule.now in
+    let ranges = c.settings.ensures.plan.settings in
+    let law : IsLaw plan.settings = record {
+      core = c.every_run.ensures.core plan.settings ranges;
+      settings = c.every_run.ensures.settings plan.settings ranges;
+    } in
+    let same = story_of-played plan c.settings.result.now c.in_ok-player.player c.settings.ensures.value c.in_ok-player.ensures in
+    subst IsStory (sym same) (IsStory-named_by plan ranges law)
+
+pub returns-clause-named : goal.returns-clause-named
+returns-clause-named c =
+    c.finish.ensures
+    ∙ story_of-played c.args.schedule.now c.settings.result.now c.in_ok-player.player c.settings.ensures.value c.in_ok-player.ensures
+
+pub returns-clause-turns : goal.returns-clause-turns
+returns-clause-turns c =
+    let same = c.finish.ensures
+    ∙ story_of-played c.args.schedule.now c.settings.result.now c.in_ok-player.player c.settings.ensures.value c.in_ok-player.ensures in
+    let P : Story → Type 0 = λ story. (turns : List Turn) × (story.events ≡ events_of (run story.settings turns).past) in
+    subst P (sym same) (turns-named_by c.args.schedule.now)
+
+pub returns-clause-legal : goal.returns-clause-legal
+returns-clause-legal c =
+    let plan = c.args.schedule.now in
+    let ranges = c.settings.ensures.plan.settings in
+    let law : IsLaw plan.settings = record {
+      core = c.every_run.ensures.core plan.settings ranges;
+      settings = c.every_run.ensures.settings plan.settings ranges;
+    } in
+    let same = c.finish.ensures
+    ∙ story_of-played plan c.settings.result.now c.in_ok-player.player c.settings.ensures.value c.in_ok-player.ensures in
+    subst IsLegalRun (sym same) (IsLegalRun-named_by plan law (c.every_run.ensures.legal plan.settings ranges))

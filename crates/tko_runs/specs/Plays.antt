@@ -1,0 +1,95 @@
+-- Playing a schedule: all threads enrol, in the order of their places, and then each command is followed.
+use Rattle.std.specs.Prelude.{ℕ, zero, suc, List, [], ◌∷◌, ◌++◌, length, replicate, Option, Some, None}
+use Rattle.tko_model.specs.declared.mark.Op.{Op}
+use Rattle.tko_model.specs.declared.settings.Settings.{Settings}
+use Rattle.tko_runs.specs.declared.command.Command.{Command}
+use Rattle.tko_runs.specs.declared.command.Command.TheVariants as command
+use Rattle.tko_runs.specs.declared.event.Event.{Event}
+use Rattle.tko_runs.specs.declared.event.Event.TheVariants as event
+use Rattle.tko_runs.specs.declared.event.Remark.{Remark}
+use Rattle.tko_runs.specs.declared.event.Remark.TheVariants as remark
+use Rattle.tko_runs.specs.Schedules.{Plan}
+use Rattle.tko_runs.specs.Stories.{Note, Story}
+use Rattle.tko_steps.specs.declared.step.BeginFault.{BeginFault}
+use Rattle.tko_steps.specs.declared.step.Stepped.{Stepped}
+use Rattle.tko_steps.specs.declared.step.Stepped.TheVariants.{NoThread, Idle, Did}
+use Rattle.tko_steps.specs.declared.thread.ThreadState.{ThreadState}
+use Rattle.tko_steps.specs.declared.thread.ThreadState.TheVariants as state
+use Rattle.tko_steps.specs.Core.{CoreState, after_begin, after_step, begin_fault, opened_core, thread_at, told_by_step}
+use Rattle.tko_steps.specs.Runs.{Begin, Step, Turn}
+
+-- the core, and what was told up to now
+pub record Played : Type 0 where
+  pub core : CoreState
+  pub events : List Event
+  pub notes : List Note
+
+abbrev pub with_event : Played → Event → Played
+with_event p event = record p { events = p.events ++ event ∷ [] }
+
+abbrev pub with_note : Played → Remark → Played
+with_note p remark =
+    record p { notes = p.notes ++ record { after = length p.events; remark = remark } ∷ [] }
+
+-- what is told of a begin: a call, or that it was refused
+abbrev pub with_begin : Played → ℕ → Op → ℕ → Option BeginFault → Played
+with_begin p thread op server None = with_event p (event.Begin thread op server)
+with_begin p thread op server (Some fault) = with_note p (remark.Refused thread op server fault)
+
+-- what is told of a step: the step, or that there was none
+abbrev pub with_step : Played → ℕ → Stepped → Played
+with_step p thread NoThread = with_note p (remark.NoThread thread)
+with_step p thread Idle = with_note p (remark.Idle thread)
+with_step p thread (Did kind place found left won answer) =
+    with_event p (event.Step thread kind place found left answer)
+
+-- one turn, as the core does it
+abbrev pub after_turn : Played → Turn → Played
+after_turn p (Begin thread op server) =
+    record (with_begin p thread op server (begin_fault p.core thread server)) {
+      core = after_begin p.core thread op server;
+    }
+after_turn p (Step thread) =
+    record (with_step p thread (told_by_step p.core thread)) { core = after_step p.core thread }
+
+abbrev pub after_all : Played → List Turn → Played
+after_all p [] = p
+after_all p (turn ∷ turns) = after_all (after_turn p turn) turns
+
+-- how many steps a thread takes until its call is answered: a whole call is one step
+abbrev pub steps_to_answer : ThreadState → ℕ
+steps_to_answer state.NotEnrolled = 0
+steps_to_answer (state.Idle number) = 0
+steps_to_answer (state.InCall number op server) = 1
+
+-- the turns that a command asks for
+abbrev pub turns_of : CoreState → Command → List Turn
+turns_of core (command.Begin thread op server) = Begin thread op server ∷ []
+turns_of core (command.Step thread steps) = replicate steps (Step thread)
+turns_of core (command.Run thread) = replicate (steps_to_answer (thread_at core thread)) (Step thread)
+
+abbrev pub after_command : Played → Command → Played
+after_command p command = after_all p (turns_of p.core command)
+
+abbrev pub after_commands : Played → List Command → Played
+after_commands p [] = p
+after_commands p (command ∷ commands) = after_commands (after_command p command) commands
+
+-- each of so many threads takes one step, in the order of their places
+abbrev pub enrolments : ℕ → List Turn
+enrolments zero = []
+enrolments (suc thread) = enrolments thread ++ Step thread ∷ []
+
+abbrev pub opened_play : Settings → Played
+opened_play s = record { core = opened_core s; events = []; notes = [] }
+
+abbrev pub enrolled : Settings → Played
+enrolled s = after_all (opened_play s) (enrolments s.threads)
+
+abbrev pub played : Plan → Played
+played plan = after_commands (enrolled plan.settings) plan.commands
+
+-- the run that a schedule names
+unfoldable pub named_by : Plan → Story
+named_by plan =
+    record { settings = plan.settings; events = (played plan).events; notes = (played plan).notes }

@@ -1,0 +1,65 @@
+-- How the steps of a call stand to its answer.
+use Rattle.std.specs.Prelude.{◌≡◌, ℕ, List, ◌∷◌, ◌++◌, All, Option, Some, None}
+use Rattle.tko_model.specs.declared.mark.Reply.{Reply}
+use Rattle.tko_model.specs.declared.settings.Settings.{Settings}
+use Rattle.tko_runs.specs.declared.judging.Standing.{Standing}
+use Rattle.tko_runs.specs.declared.judging.Standing.TheVariants.{Quiet, Changed}
+use Rattle.tko_steps.specs.Legal.{IsQuiet, TakesEffect}
+use Rattle.tko_steps.specs.Runs.{Call, OwnStep}
+
+-- a call with this answer has this reply; one that is open may get any yet
+abbrev pub MayHave : Option Reply → Reply → Type 0
+MayHave None reply = Unit {0}
+MayHave (Some answer) reply = reply ≡ answer
+
+-- with this effect at a step, a call with this answer may take effect there
+pub record HasReply (answer effect : Option Reply) : Type 0 where
+  pub reply : Reply
+  pub answers : MayHave answer reply
+  pub is : effect ≡ Some reply
+
+-- the call takes effect at this step, with a reply that it may have
+pub record IsEffective (s : Settings) (call : Call) (own : OwnStep) : Type 0 where
+  pub reply : Reply
+  pub answers : MayHave call.answer reply
+  pub effect : TakesEffect s call reply own.step
+
+-- the steps are quiet, and the call takes effect at none of them
+pub record IsQuietNowhere (s : Settings) (call : Call) (steps : List OwnStep) : Type 0 where
+  pub quiet : All IsQuiet steps
+  pub nowhere : All (λ own. IsEffective s call own → ⊥) steps
+
+-- the steps, the newest first, are quiet, and this is the number of the last at which the call takes effect
+pub record IsQuietAt (s : Settings) (call : Call) (steps : List OwnStep) (number : ℕ) : Type 0 where
+  pub newer : List OwnStep
+  pub own : OwnStep
+  pub older : List OwnStep
+  pub split : steps ≡ newer ++ own ∷ older
+  pub at : own.at ≡ number
+  pub effect : IsEffective s call own
+  pub quiet : All IsQuiet steps
+  pub last : All (λ other. IsEffective s call other → ⊥) newer
+
+-- some step is not quiet, and at none of them the call takes effect while the others are quiet
+pub record IsChangedNowhere (s : Settings) (call : Call) (steps : List OwnStep) : Type 0 where
+  pub changed : All IsQuiet steps → ⊥
+  pub nowhere : (newer : List OwnStep) (own : OwnStep) (older : List OwnStep) → steps ≡ newer ++ own ∷ older
+      → IsEffective s call own → All IsQuiet (newer ++ older) → ⊥
+
+-- the step of this number alone is not quiet, and the call takes effect there
+pub record IsChangedAt (s : Settings) (call : Call) (steps : List OwnStep) (number : ℕ) : Type 0 where
+  pub newer : List OwnStep
+  pub own : OwnStep
+  pub older : List OwnStep
+  pub split : steps ≡ newer ++ own ∷ older
+  pub at : own.at ≡ number
+  pub effect : IsEffective s call own
+  pub changed : IsQuiet own → ⊥
+  pub others : All IsQuiet (newer ++ older)
+
+-- so the steps, the newest first, stand to the call's answer
+abbrev pub Stands : Settings → Call → List OwnStep → Standing → Type 0
+Stands s call steps (Quiet None) = IsQuietNowhere s call steps
+Stands s call steps (Quiet (Some number)) = IsQuietAt s call steps number
+Stands s call steps (Changed None) = IsChangedNowhere s call steps
+Stands s call steps (Changed (Some number)) = IsChangedAt s call steps number

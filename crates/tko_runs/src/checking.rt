@@ -1,0 +1,60 @@
+//! The check of a run: whether its words follow one another, and where each call takes effect.
+ghost use Rattle.std.specs.Prelude.{◌≡◌, IfOk, IfErr};
+ghost use Rattle.tko_runs.specs.Claims.{calls_in};
+ghost use Rattle.tko_runs.specs.Orders.{IsLegalRun, IsOrder, TellsRunFault};
+
+use crate::docket::Docket;
+use crate::{Order, Run};
+use std::alloc::{AllocError, AllocFailed, Global};
+use thiserror::Error;
+
+/// Why a run is refused. Steps come before calls.
+#[derive(Clone, Copy, Debug, PartialEq, Eq, Error)]
+pub enum RunFault {
+    /// The number, as printed, of the first step that doesn't find the word that stands, or leaves what no
+    /// step of its kind leaves.
+    #[error("step {0}")]
+    Step(u64),
+    /// The number, in the order of begins, of the first call that isn't legal.
+    #[error("call {0}")]
+    Call(usize),
+    #[error("memory")]
+    Memory,
+}
+
+impl From<AllocError> for RunFault {
+    ghost use Rattle.std.specs.Prelude.{◌≡◌};
+    ghost use Rattle.tko_runs.specs.declared.checking.RunFault.TheVariants as fault;
+
+    ghost from_gives = { λ _ e. e ≡ fault.Memory };
+
+    fn from(_: AllocError) -> RunFault {
+        RunFault::Memory
+    }
+}
+
+impl<T: Drop> From<AllocFailed<T>> for RunFault {
+    ghost use Rattle.std.specs.Prelude.{◌≡◌};
+    ghost use Rattle.tko_runs.specs.declared.checking.RunFault.TheVariants as fault;
+
+    ghost from_gives = { λ _ e. e ≡ fault.Memory };
+
+    fn from(_: AllocFailed<T>) -> RunFault {
+        RunFault::Memory
+    }
+}
+
+/// Where each call takes effect, if the words of the run follow step by step and all calls are legal.
+pub fn check(alloc: Global, run: &Run) -> Result<Order, RunFault>
+    ensures order { IfOk result (λ order. IsOrder run.now.settings (calls_in run.now.settings run.now.events) order) }
+    ensures legal { IfOk result (λ order. IsLegalRun run.now) }
+    ensures err { IfErr result (TellsRunFault run.now) }
+    ensures never { IsLegalRun run.now → IfErr result (λ fault. fault ≡ RunFault.Memory) }
+{
+    let mut docket = Docket::open(alloc, run.settings())?;
+    let events = run.events();
+    for event in events {
+        docket.enter(alloc, event)?;
+    }
+    docket.order(alloc)
+}

@@ -1,0 +1,157 @@
+//! A core that is played on, and what is told of it.
+ghost use Rattle.std.specs.Prelude.{◌≡◌, ◌++◌, IfOk, OnOk, length, replicate};
+ghost use Rattle.tko_model.specs.Ranges.{IsWithinRanges};
+ghost use Rattle.tko_runs.specs.Claims.{IsStory};
+ghost use Rattle.tko_runs.specs.Plays.{after_all, after_command, after_turn, enrolled, with_event};
+ghost use Rattle.tko_steps.specs.Runs.{Begin, Step};
+
+use crate::run::Noted;
+use crate::{Command, Event, PlayFault, Remark, Run};
+use std::alloc::{AllocError, Global};
+use std::marker::Model;
+use tko_model::{Op, OpenFault, Settings};
+use tko_steps::{Core, Stepped};
+
+/// The core, and what was told up to now. Contracts see what was `Played`.
+#[derive(Drop)]
+pub(crate) struct Player {
+    core: Core,
+    events: Vec<Event>,
+    notes: Vec<Noted>,
+}
+
+impl Model for Player {
+    ghost use Rattle.tko_runs.specs.Plays.{Played};
+    ghost use Rattle.tko_runs.specs.Stories.{one_by_one};
+
+    ghost Value = { Played };
+
+    ghost view = { λ p. record {
+      core = p.core;
+      events = p.events.items;
+      notes = one_by_one p.notes.items;
+    } };
+}
+
+impl Player {
+    /// All threads enrol, in the order of their places.
+    pub fn open(alloc: Global, settings: Settings) -> Result<Player, PlayFault>
+        requires { IsWithinRanges settings }
+        ensures { IfOk result (λ player. player ≡ enrolled settings) }
+    {
+        let core = match Core::open(alloc, settings) {
+            Ok(core) => core,
+            Err(OpenFault::Settings(_)) => unreachable!(),
+            Err(OpenFault::Memory) => return Err(PlayFault::Memory),
+        };
+        let mut player = Player {
+            core,
+            events: Vec::new(alloc),
+            notes: Vec::new(alloc),
+        };
+        for thread in 0..settings.threads as usize {
+            player.steps(thread, 1)?;
+        }
+        Ok(player)
+    }
+
+    /// Does what a line of a schedule says.
+    pub fn follow(&mut self, command: &Command) -> Result<(), AllocError>
+        ensures { OnOk result (self.new ≡ after_command self.old command.now) }
+    {
+        match *command {
+            Command::Begin { thread, op, server } => self.begin(thread, op, server),
+            Command::Step { thread, steps } => self.steps(thread, steps),
+            Command::Run { thread } => self.run(thread),
+        }
+    }
+
+    /// A begin that is refused leaves a remark.
+    fn begin(&mut self, thread: usize, op: Op, server: usize) -> Result<(), AllocError>
+        ensures { OnOk result (self.new ≡ after_turn self.old (Begin thread op server)) }
+    {
+        match self.core.begin(thread, op, server) {
+            Ok(()) => self.tell(Event::Begin { thread, op, server }),
+            Err(fault) => {
+                let remark = Remark::Refused {
+                    thread,
+                    op,
+                    server,
+                    fault,
+                };
+                self.note(remark, 1)
+            }
+        }
+    }
+
+    /// So many steps of a thread. Once one does nothing, none of those that are left does, and one note
+    /// stands for them all.
+    fn steps(&mut self, thread: usize, steps: u64) -> Result<(), AllocError>
+        ensures { OnOk result (self.new ≡ after_all self.old (replicate steps (Step thread))) }
+    {
+        for done in 0..steps {
+            match self.core.step(thread) {
+                Stepped::Did {
+                    kind,
+                    place,
+                    found,
+                    left,
+                    answer,
+                    ..
+                } => {
+                    self.tell(Event::Step {
+                        thread,
+                        kind,
+                        place,
+                        found,
+                        left,
+                        answer,
+                    })?;
+                }
+                Stepped::Idle => return self.note(Remark::Idle { thread }, steps - done),
+                Stepped::NoThread => return self.note(Remark::NoThread { thread }, steps - done),
+            }
+        }
+        Ok(())
+    }
+
+    /// Steps of a thread until its call is answered.
+    fn run(&mut self, thread: usize) -> Result<(), AllocError>
+        ensures { OnOk result (self.new ≡ after_command self.old (Command.Run thread)) }
+    {
+        while self.core.has_call(thread) {
+            self.steps(thread, 1)?;
+        }
+        Ok(())
+    }
+
+    fn tell(&mut self, event: Event) -> Result<(), AllocError>
+        ensures { OnOk result (self.new ≡ with_event self.old event) }
+    {
+        self.events.push(event)?;
+        Ok(())
+    }
+
+    /// A remark that stands so many times behind what was told.
+    fn note(&mut self, remark: Remark, times: u64) -> Result<(), AllocError>
+        ensures { OnOk result (self.new ≡ record self.old {
+          notes = self.old.notes ++ replicate times (record { after = length self.old.events; remark = remark });
+        }) }
+    {
+        let noted = Noted {
+            after: self.events.len(),
+            remark,
+            times,
+        };
+        self.notes.push(noted)?;
+        Ok(())
+    }
+
+    /// The run that was told.
+    pub fn finish(self, settings: Settings) -> Run
+        requires { IsStory (record { settings = settings; events = self.events; notes = self.notes }) }
+        ensures { result ≡ record { settings = settings; events = self.events; notes = self.notes } }
+    {
+        Run::new(settings, self.events, self.notes)
+    }
+}

@@ -1,0 +1,93 @@
+//! What a step shows of a call.
+ghost use Rattle.std.specs.Prelude.{◌≡◌, ◌+◌, ◌<◌, ◌^◌, ◌↔◌, true, length, slice_set};
+ghost use Rattle.tko_model.specs.Ranges.{IsWithinRanges};
+ghost use Rattle.tko_model.specs.Tracker.{changed, server_at, verdict_on};
+ghost use Rattle.tko_runs.specs.Dockets.{AllFit, Shows};
+ghost use Rattle.tko_steps.specs.Legal.{tracker_in};
+
+use crate::becoming::with_change;
+use crate::judging::{OwnCall, Sight};
+use tko_model::{Mark, ServerState, Settings, Verdict, count_softs};
+
+/// What a step that leaves this of a server shows of a call.
+pub(crate) fn sight(
+    settings: &Settings,
+    servers: &[ServerState],
+    call: &OwnCall,
+    at: u64,
+    server: usize,
+    left: ServerState,
+) -> Sight
+    requires settings { IsWithinRanges settings.now }
+    requires fit { AllFit settings.now servers.now }
+    requires call { call.now.server < length servers.now }
+    requires server { server < length servers.now }
+    ensures at { result.at ≡ at }
+    ensures shows { Shows settings.now servers.now call.now.number call.now.op call.now.server server left result }
+{
+    let verdict = own_verdict(settings, servers, call);
+    let takes_effect = leaves_change(servers, call.server, verdict.change, server, left);
+    Sight {
+        at,
+        is_quiet: is_quiet(servers, server, left),
+        effect: if takes_effect {
+            Some(verdict.reply)
+        } else {
+            None
+        },
+    }
+}
+
+/// What the sequential tracker would answer and change there.
+fn own_verdict(settings: &Settings, servers: &[ServerState], call: &OwnCall) -> Verdict
+    requires settings { IsWithinRanges settings.now }
+    requires fit { AllFit settings.now servers.now }
+    requires call { call.now.server < length servers.now }
+    ensures { result ≡ verdict_on (tracker_in settings.now servers.now) call.now.number call.now.op call.now.server }
+{
+    Verdict::of(
+        settings,
+        count_softs(servers),
+        call.number,
+        call.op,
+        servers[call.server],
+    )
+}
+
+/// Whether a step that leaves this of a server changes nothing.
+fn is_quiet(servers: &[ServerState], server: usize, left: ServerState) -> bool
+    requires { server < length servers.now }
+    ensures { (result ≡ true) ↔ (slice_set servers.now server left ≡ servers.now) }
+{
+    is_same(left, servers[server])
+}
+
+/// Whether it leaves what a change of that one does.
+fn leaves_change(
+    servers: &[ServerState],
+    on: usize,
+    change: Option<Mark>,
+    server: usize,
+    left: ServerState,
+) -> bool
+    requires on { on < length servers.now }
+    requires server { server < length servers.now }
+    requires stamp { (server_at servers.now on).stamp + 1 < 2 ^ 64 }
+    ensures { (result ≡ true) ↔ (changed servers.now on change ≡ slice_set servers.now server left) }
+{
+    if server == on {
+        is_same(left, with_change(servers[on], change))
+    } else {
+        match change {
+            Some(_) => false,
+            None => is_same(left, servers[server]),
+        }
+    }
+}
+
+/// Whether two words are one.
+pub(crate) fn is_same(one: ServerState, other: ServerState) -> bool
+    ensures { (result ≡ true) ↔ (one ≡ other) }
+{
+    one == other
+}
