@@ -1,4 +1,5 @@
 pub mod Faults
 pub mod Outcomes
+pub mod Replays
 pub mod Targets
 pub mod Texts

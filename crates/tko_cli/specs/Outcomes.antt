@@ -46,3 +46,5 @@ Refuses words fault.Read = ⊥
 Refuses words fault.Write = ⊥
 Refuses words fault.LineTooLong = ⊥
 Refuses words (fault.Settings setting) = ⊥
+Refuses words (fault.Line number) = ⊥
+Refuses words fault.Check = ⊥

@@ -3,6 +3,7 @@
 use std::alloc::{AllocError, AllocFailed};
 use thiserror::Error;
 use tko_model::SettingsFault;
+use tko_runs::{PlayFault, RunFault, ScheduleFault};
 use tko_session::SessionFault;
 
 /// Why a command ended with the status 1. Its text is the line that says so, without the line's end.
@@ -21,6 +22,12 @@ pub enum Fault {
     /// The number of the first word of `--outcomes` that is none, counted from 1.
     #[error("fault: outcomes {0}")]
     Outcomes(usize),
+    /// The number of a schedule's first bad line, counted from 1; 0 stands for a text that is too long.
+    #[error("fault: schedule line {0}")]
+    Line(u32),
+    /// The check refuses the run that was played.
+    #[error("fault: check")]
+    Check,
 }
 
 impl From<AllocError> for Fault {
@@ -57,6 +64,48 @@ impl From<SessionFault> for Fault {
             SessionFault::Write(_) => Fault::Write,
             SessionFault::LineTooLong => Fault::LineTooLong,
             SessionFault::Memory => Fault::Memory,
+        }
+    }
+}
+
+impl From<ScheduleFault> for Fault {
+    ghost use Rattle.tko_cli.specs.Faults.{fault_of_schedule};
+    ghost use Rattle.std.specs.Prelude.{◌≡◌};
+
+    ghost from_gives = { λ cause fault. fault ≡ fault_of_schedule cause };
+
+    fn from(cause: ScheduleFault) -> Fault {
+        match cause {
+            ScheduleFault::Line(number) => Fault::Line(number),
+            ScheduleFault::Settings(setting) => Fault::Settings(setting),
+            ScheduleFault::Memory => Fault::Memory,
+        }
+    }
+}
+
+impl From<PlayFault> for Fault {
+    ghost use Rattle.std.specs.Prelude.{◌≡◌};
+    ghost use Rattle.tko_cli.specs.declared.fault.Fault.TheVariants.{Memory};
+
+    ghost from_gives = { λ _ fault. fault ≡ Memory };
+
+    fn from(cause: PlayFault) -> Fault {
+        match cause {
+            PlayFault::Memory => Fault::Memory,
+        }
+    }
+}
+
+impl From<RunFault> for Fault {
+    ghost use Rattle.tko_cli.specs.Faults.{fault_of_run};
+    ghost use Rattle.std.specs.Prelude.{◌≡◌};
+
+    ghost from_gives = { λ cause fault. fault ≡ fault_of_run cause };
+
+    fn from(cause: RunFault) -> Fault {
+        match cause {
+            RunFault::Step(_) | RunFault::Call(_) => Fault::Check,
+            RunFault::Memory => Fault::Memory,
         }
     }
 }

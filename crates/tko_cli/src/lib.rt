@@ -10,11 +10,15 @@ mod fault;
 mod options;
 mod outcomes;
 mod program;
+mod reading;
+mod replay;
 mod trail_lines;
 mod writing;
 
 pub use fault::Fault;
 pub use program::command;
 
+#[cfg(test)]
+mod replay_tests;
 #[cfg(test)]
 mod tests;

@@ -6,6 +6,13 @@ use clap::{Arg, ArgAction, ArgMatches, Command, Error, value_parser};
 use std::alloc::{AllocError, Global};
 use tko_model::Settings;
 
+/// What the words ask for.
+#[derive(Debug, Drop)]
+pub(crate) enum Options {
+    Dry(DryOptions),
+    Replay,
+}
+
 /// The options of `dry`.
 #[derive(Debug, Drop)]
 pub(crate) struct DryOptions {
@@ -17,19 +24,21 @@ pub(crate) struct DryOptions {
     pub trail: bool,
 }
 
-impl DryOptions {
+impl Options {
     /// Reads the words, of which the first is the program's name.
-    pub fn read(alloc: Global, words: &[String]) -> Result<DryOptions, Error> {
+    pub fn read(alloc: Global, words: &[String]) -> Result<Options, Error> {
         let matches = program(alloc)?.try_get_matches_from(words)?;
-        match matches.subcommand_matches("dry") {
-            Some(found) => Ok(DryOptions::of(alloc, found)?),
-            None => Err(program(alloc)?.error(
-                ErrorKind::MissingSubcommand,
-                "a command is wanted",
-            )?),
+        if let Some(found) = matches.subcommand_matches("dry") {
+            return Ok(Options::Dry(DryOptions::of(alloc, found)?));
         }
+        if matches.subcommand_matches("replay").is_some() {
+            return Ok(Options::Replay);
+        }
+        Err(program(alloc)?.error(ErrorKind::MissingSubcommand, "a command is wanted")?)
     }
+}
 
+impl DryOptions {
     fn of(alloc: Global, found: &ArgMatches<'_>) -> Result<DryOptions, AllocError> {
         let outcomes = found.get_str("outcomes").unwrap_or("");
         Ok(DryOptions {
@@ -73,7 +82,14 @@ fn program<'a>(alloc: Global) -> Result<Command<'a>, AllocError> {
     Command::new(alloc, "tkoproxy")
         .about("A failover cache proxy with shared server health")
         .subcommand_required(true)
-        .subcommand(dry(alloc)?)
+        .subcommand(dry(alloc)?)?
+        .subcommand(replay(alloc))
+}
+
+fn replay<'a>(alloc: Global) -> Command<'a> {
+    Command::new(alloc, "replay").about(
+        "Plays a schedule from standard input, checks that each call is legal, and prints the run",
+    )
 }
 
 fn dry<'a>(alloc: Global) -> Result<Command<'a>, AllocError> {

@@ -3,7 +3,8 @@ ghost use Rattle.std.specs.Prelude.{◌≤◌};
 
 use crate::Fault;
 use crate::dry::dry;
-use crate::options::DryOptions;
+use crate::options::Options;
+use crate::replay::replay;
 use crate::writing::write_text;
 use clap::Error;
 use clap::error::ErrorKind;
@@ -18,7 +19,7 @@ const FAILED: u8 = 1;
 const REFUSED: u8 = 2;
 
 /// Does what the words ask, of which the first is the program's name, and answers the status: 0 where
-/// it was done, 1 after a fault, 2 where the words were refused. Replies go to `output`, and what went
+/// it was done, 1 after a fault, 2 where the words were refused. Replies and runs go to `output`, and what went
 /// wrong to `faults`.
 pub fn command<R: Outside, I: Inlet, O: Outlet, F: Outlet>(
     rt: &R,
@@ -30,8 +31,9 @@ pub fn command<R: Outside, I: Inlet, O: Outlet, F: Outlet>(
 ) -> u8
     ensures { result ≤ 2 }
 {
-    let done = match DryOptions::read(alloc, words) {
-        Ok(options) => dry(rt, alloc, &options, input, output),
+    let done = match Options::read(alloc, words) {
+        Ok(Options::Dry(options)) => dry(rt, alloc, &options, input, output),
+        Ok(Options::Replay) => replay(rt, alloc, input, output),
         Err(refusal) if refusal.kind() == ErrorKind::OutOfMemory => Err(Fault::Memory),
         Err(refusal) if refusal.use_stderr() => return refuse(rt, alloc, faults, &refusal),
         Err(help) => show(rt, alloc, output, &help),

@@ -18,13 +18,13 @@ fn words_of(alloc: Global, line: &str) -> Result<Vec<String>, AllocError> {
 }
 
 /// An end over these bytes that moves at most so many a call.
-fn tape(alloc: Global, bytes: &str, greatest: usize) -> Result<Taped, AllocError> {
+pub fn tape(alloc: Global, bytes: &str, greatest: usize) -> Result<Taped, AllocError> {
     let bytes = Vec::from_slice(alloc, bytes.as_bytes())?;
     Ok(Taped::new(bytes, greatest.max(1), Vec::new(alloc)))
 }
 
 /// The command of a line has this status and writes these replies and faults.
-fn ends_with<R: Wait + Net<Stream = TcpStream> + Abort>(
+pub fn ends_with<R: Wait + Net<Stream = TcpStream> + Abort>(
     rt: &R,
     alloc: Global,
     line: &str,
@@ -49,7 +49,7 @@ fn ends_with<R: Wait + Net<Stream = TcpStream> + Abort>(
 }
 
 /// The command of a line ends well and answers so, in whatever pieces bytes come and go.
-fn answers<R: Wait + Net<Stream = TcpStream> + Abort>(
+pub fn answers<R: Wait + Net<Stream = TcpStream> + Abort>(
     rt: &R,
     alloc: Global,
     line: &str,
@@ -201,8 +201,10 @@ fn refused_words_have_status_2(rt: HostRuntime) -> Result<(), Fail> {
         ("tkoproxy dry --servers 4294967296", 2),
         ("tkoproxy dry --pools 1", 2),
         ("tkoproxy dry a", 2),
+        ("tkoproxy replay a", 2),
         ("tkoproxy --help", 0),
         ("tkoproxy dry --help", 0),
+        ("tkoproxy replay --help", 0),
     ] {
         says_only(&rt, alloc, line, status)?;
     }

@@ -1,5 +1,5 @@
 //! Whole texts onto an outlet.
-ghost use Rattle.std.specs.Prelude.{OnOk};
+ghost use Rattle.std.specs.Prelude.{◌≡◌, IfErr, OnOk};
 
 use crate::Fault;
 use tko_route::Outside;
@@ -11,7 +11,8 @@ pub(crate) fn write_text<R: Outside, O: Outlet>(
     outlet: &mut O,
     text: &[u8],
 ) -> Result<(), Fault>
-    ensures { OnOk result (O.takes outlet.old text.now outlet.new) }
+    ensures ok { OnOk result (O.takes outlet.old text.now outlet.new) }
+    ensures err { IfErr result (λ fault. fault ≡ Fault.Write) }
 {
     let mut rest = text;
     'turns: for _ in 0..u64::MAX {

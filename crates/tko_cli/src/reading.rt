@@ -1,0 +1,64 @@
+//! Whole texts from an inlet.
+ghost use Rattle.std.specs.Prelude.{◌≡◌, ◌<◌, ◌≤◌, ◌+◌, ◌⊎◌, Ok, IfOk, IfErr, OnOk, length, vec_len};
+ghost use Rattle.tko_cli.specs.Replays.{CannotRead};
+
+use crate::Fault;
+use std::alloc::{AllocError, Global};
+use tko_route::Outside;
+use tko_session::{Inlet, read_piece};
+
+/// The greatest piece that is read at once.
+const PIECE: usize = 16_384;
+
+/// Reads a text to its end, or so many bytes of it.
+pub(crate) fn read_text<R: Outside, I: Inlet>(
+    rt: &R,
+    alloc: Global,
+    input: &mut I,
+    most: usize,
+) -> Result<Vec<u8>, Fault>
+    ensures gives { IfOk result (λ text. I.gives input.old text.items input.new) }
+    ensures limit { IfOk result (λ text. length text.items ≤ most) }
+    ensures whole { IfOk result (λ text. I.is_ended input.new ⊎ (most ≤ length text.items)) }
+    ensures err { IfErr result (CannotRead I.failures input.old input.new) }
+{
+    let mut buffer = make_buffer(alloc)?;
+    let mut text = Vec::new(alloc);
+    while text.len() < most {
+        let room = (most - text.len()).min(buffer.len());
+        if append_piece(rt, input, &mut buffer[..room], &mut text)? == 0 {
+            return Ok(text);
+        }
+    }
+    Ok(text)
+}
+
+/// Room for a piece.
+fn make_buffer(alloc: Global) -> Result<Vec<u8>, AllocError>
+    ensures { IfOk result (λ buffer. 0 < vec_len buffer) }
+{
+    vec![in alloc; 0u8; PIECE]
+}
+
+/// Puts the next piece behind a text, and answers how many bytes it has.
+fn append_piece<R: Outside, I: Inlet>(
+    rt: &R,
+    input: &mut I,
+    buffer: &mut [u8],
+    text: &mut Vec<u8>,
+) -> Result<usize, Fault>
+    requires { 0 < length buffer.old }
+    ensures gives { (start : I) → I.gives start text.old.items input.old
+        → OnOk result (I.gives start text.new.items input.new) }
+    ensures count { IfOk result (λ count. length text.new.items ≡ length text.old.items + count) }
+    ensures within { IfOk result (λ count. count ≤ length buffer.old) }
+    ensures ended { result ≡ Ok 0 → I.is_ended input.new }
+    ensures calm { OnOk result (I.failures input.new ≡ I.failures input.old) }
+    ensures err { IfErr result (CannotRead I.failures input.old input.new) }
+{
+    let Some(count) = read_piece(rt, input, buffer) else {
+        return Err(Fault::Read);
+    };
+    text.extend_from_slice(&buffer[..count])?;
+    Ok(count)
+}

@@ -1,0 +1,198 @@
+//! Schedules that were worked out by hand.
+
+use crate::tests::{answers, ends_with, tape};
+use std::alloc::{AllocError, Global};
+use std::net::{Net, TcpStream};
+use std::process::Abort;
+use std::sync::Wait;
+use std::test::Fail;
+use tko_session::{Stop, Taped};
+
+const REPLAY: &str = "tkoproxy replay";
+
+const HEADER: &str = "schedule 1\nservers 2\nthreads 2\nfailures 1\nlimit 1\ntries 3\nstamp 0\n";
+
+#[test]
+fn second_soft_mark_is_full(rt: HostRuntime) -> Result<(), Fail> {
+    let lines = "begin 0 soft 0\nrun 0\nbegin 1 soft 1\nrun 1\n";
+    let run = "begin 0 soft 0\n1 0 whole server:0 done\nanswer 0 took-soft\n\
+        begin 1 soft 1\n2 1 whole server:1 done\nanswer 1 full\n\
+        call 1 at 1\ncall 2 at 2\nserver 0 soft:0@1\nserver 1 up:0@0\nsoft firm:1,held:0\nok\n";
+    let schedule = format!(in rt.alloc(); "{HEADER}{lines}")?;
+    answers(&rt, rt.alloc(), REPLAY, schedule.as_str(), run)?;
+    Ok(())
+}
+
+#[test]
+fn soft_mark_hardens(rt: HostRuntime) -> Result<(), Fail> {
+    let schedule = "schedule 1\nservers 1\nthreads 2\nfailures 1\nlimit 1\ntries 8\nstamp 0\n\
+        begin 0 soft 0\nrun 0\nbegin 1 hard 0\nrun 1\nbegin 0 hard 0\nrun 0\n";
+    let run = "begin 0 soft 0\n1 0 whole server:0 done\nanswer 0 took-soft\n\
+        begin 1 hard 0\n2 1 whole server:0 done\nanswer 1 already:soft:0\n\
+        begin 0 hard 0\n3 0 whole server:0 done\nanswer 0 hardened\n\
+        call 1 at 1\ncall 2 at 2\ncall 3 at 3\nserver 0 hard:0@2\nsoft firm:0,held:0\nok\n";
+    answers(&rt, rt.alloc(), REPLAY, schedule, run)?;
+    Ok(())
+}
+
+/// A header with one server, one thread and this opening stamp.
+fn opened_at(alloc: Global, stamp: u64) -> Result<String, AllocError> {
+    format!(in alloc;
+        "schedule 1\nservers 1\nthreads 1\nfailures 2\nlimit 1\ntries 8\nstamp {stamp}\n"
+    )
+}
+
+#[test]
+fn worn_stamp(rt: HostRuntime) -> Result<(), Fail> {
+    let header = opened_at(rt.alloc(), 2_251_799_813_685_240)?;
+    let schedule = format!(in rt.alloc();
+        "{header}begin 0 soft 0\nrun 0\nbegin 0 hard 0\nrun 0\n\
+        begin 0 look 0\nrun 0\nbegin 0 success 0\nrun 0\n"
+    )?;
+    let run = "begin 0 soft 0\n1 0 whole server:0 done\nanswer 0 worn\n\
+        begin 0 hard 0\n2 0 whole server:0 done\nanswer 0 worn\n\
+        begin 0 look 0\n3 0 whole server:0 done\nanswer 0 found:up:0\n\
+        begin 0 success 0\n4 0 whole server:0 done\nanswer 0 clean\n\
+        call 1 at 1\ncall 2 at 2\ncall 3 at 3\ncall 4 at 4\n\
+        server 0 up:0@2251799813685240\nsoft firm:0,held:0\nok\n";
+    answers(&rt, rt.alloc(), REPLAY, schedule.as_str(), run)?;
+    Ok(())
+}
+
+#[test]
+fn nearly_worn_stamp(rt: HostRuntime) -> Result<(), Fail> {
+    let header = opened_at(rt.alloc(), 2_251_799_813_685_239)?;
+    let schedule = format!(in rt.alloc();
+        "{header}begin 0 hard 0\nrun 0\n\
+        begin 0 success 0\nrun 0\nbegin 0 soft 0\nrun 0\n"
+    )?;
+    let run = "begin 0 hard 0\n1 0 whole server:0 done\nanswer 0 took-hard\n\
+        begin 0 success 0\n2 0 whole server:0 done\nanswer 0 unmarked:hard:0\n\
+        begin 0 soft 0\n3 0 whole server:0 done\nanswer 0 worn\n\
+        call 1 at 1\ncall 2 at 2\ncall 3 at 3\n\
+        server 0 up:0@2251799813685241\nsoft firm:0,held:0\nok\n";
+    answers(&rt, rt.alloc(), REPLAY, schedule.as_str(), run)?;
+    Ok(())
+}
+
+#[test]
+fn what_is_refused_is_told(rt: HostRuntime) -> Result<(), Fail> {
+    let lines =
+        "begin 9 soft 0\nstep 1 2\nbegin 0 look 2\nbegin 0 look 1\nbegin 0 look 1\nstep 0 2\n\
+        step 2 1\nrun 1\nrun 5\nbegin 1 release 0\n";
+    let run =
+        "begin 9 soft 0 refused no-thread\n- 1 idle\n- 1 idle\nbegin 0 look 2 refused no-server\n\
+        begin 0 look 1\nbegin 0 look 1 refused busy\n1 0 whole server:1 done\nanswer 0 found:up:0\n\
+        - 0 idle\n- 2 no-thread\nbegin 1 release 0\ncall 1 at 1\ncall 2 open\n\
+        server 0 up:0@0\nserver 1 up:0@0\nsoft firm:0,held:0\nok\n";
+    let schedule = format!(in rt.alloc(); "{HEADER}{lines}")?;
+    answers(&rt, rt.alloc(), REPLAY, schedule.as_str(), run)?;
+    Ok(())
+}
+
+/// A replay of these bytes ends with this fault and prints nothing.
+fn fails_with<R: Wait + Net<Stream = TcpStream> + Abort>(
+    rt: &R,
+    alloc: Global,
+    schedule: &[u8],
+    fault: &str,
+) -> Result<(), AllocError> {
+    let input = Taped::new(Vec::from_slice(alloc, schedule)?, 4096, Vec::new(alloc));
+    ends_with(
+        rt,
+        alloc,
+        REPLAY,
+        input,
+        tape(alloc, "", 4096)?,
+        (1, "", fault),
+    )
+}
+
+#[test]
+fn malformed_schedules(rt: HostRuntime) -> Result<(), Fail> {
+    let alloc = rt.alloc();
+    for (text, fault) in [
+        ("", "fault: schedule line 1\n"),
+        ("schedule 01\n", "fault: schedule line 1\n"),
+        ("schedule 1\r\nservers 2\n", "fault: schedule line 3\n"),
+        ("schedule 1\nservers  2\n", "fault: schedule line 2\n"),
+        (
+            "schedule 1\nservers 18446744073709551616\n",
+            "fault: schedule line 2\n",
+        ),
+    ] {
+        fails_with(&rt, alloc, text.as_bytes(), fault)?;
+    }
+    for (line, fault) in [
+        ("step 0 0\n", "fault: schedule line 8\n"),
+        ("run 0\r\nstep 0 5001", "fault: schedule line 9\n"),
+        ("run 0\n\n", "fault: schedule line 9\n"),
+        ("run 0\r", "fault: schedule line 8\n"),
+        (
+            "begin 0 soft 18446744073709551616\n",
+            "fault: schedule line 8\n",
+        ),
+        ("begin 0 gets 0\n", "fault: schedule line 8\n"),
+        ("run 0 \n", "fault: schedule line 8\n"),
+    ] {
+        let text = format!(in alloc; "{HEADER}{line}")?;
+        fails_with(&rt, alloc, text.as_bytes(), fault)?;
+    }
+    Ok(())
+}
+
+#[test]
+fn settings_outside_their_ranges(rt: HostRuntime) -> Result<(), Fail> {
+    let alloc = rt.alloc();
+    for (limit, stamp, fault) in [
+        ("257", "0", "fault: settings limit\n"),
+        ("4294967296", "0", "fault: settings limit\n"),
+        ("256", "2251799813685241", "fault: settings stamp\n"),
+        ("256", "18446744073709551615", "fault: settings stamp\n"),
+    ] {
+        let text = format!(in alloc;
+            "schedule 1\nservers 1\nthreads 1\nfailures 2\nlimit {limit}\ntries 8\nstamp {stamp}"
+        )?;
+        fails_with(&rt, alloc, text.as_bytes(), fault)?;
+    }
+    Ok(())
+}
+
+#[test]
+fn schedules_that_are_too_long(rt: HostRuntime) -> Result<(), Fail> {
+    let alloc = rt.alloc();
+    let lines = "run 0\n".repeat(alloc, 1_001)?;
+    let text = format!(in alloc; "{HEADER}{lines}")?;
+    fails_with(&rt, alloc, text.as_bytes(), "fault: schedule line 1008\n")?;
+    let long = vec![in alloc; 0u8; 1_048_577]?;
+    fails_with(&rt, alloc, &long, "fault: schedule line 0\n")?;
+    fails_with(&rt, alloc, &long[1..], "fault: schedule line 1\n")?;
+    fails_with(&rt, alloc, &[255, 254, 10], "fault: schedule line 1\n")?;
+    Ok(())
+}
+
+#[test]
+fn failing_ends_are_told(rt: HostRuntime) -> Result<(), Fail> {
+    let alloc = rt.alloc();
+    let stops = vec![in alloc; (1, Stop::Again), (2, Stop::Fault)]?;
+    let input = Taped::new(Vec::from_slice(alloc, HEADER.as_bytes())?, 5, stops);
+    ends_with(
+        &rt,
+        alloc,
+        REPLAY,
+        input,
+        tape(alloc, "", 4096)?,
+        (1, "", "fault: read\n"),
+    )?;
+    let stops = vec![in alloc; (0, Stop::Fault)]?;
+    let output = Taped::new(Vec::new(alloc), 4096, stops);
+    ends_with(
+        &rt,
+        alloc,
+        REPLAY,
+        tape(alloc, HEADER, 4096)?,
+        output,
+        (1, "", "fault: write\n"),
+    )?;
+    Ok(())
+}
