@@ -23,6 +23,19 @@ pub fn tape(alloc: Global, bytes: &str, greatest: usize) -> Result<Taped, AllocE
     Ok(Taped::new(bytes, greatest.max(1), Vec::new(alloc)))
 }
 
+/// Does the command of a line over these ends, and answers its status.
+fn status_of<R: Wait + Net<Stream = TcpStream>>(
+    rt: &R,
+    alloc: Global,
+    line: &str,
+    input: &mut Taped,
+    output: &mut Taped,
+    faults: &mut Taped,
+) -> Result<u8, AllocError> {
+    let words = words_of(alloc, line)?;
+    Ok(command(rt, alloc, words.as_slice(), input, output, faults))
+}
+
 /// The command of a line has this status and writes these replies and faults.
 pub fn ends_with<R: Wait + Net<Stream = TcpStream> + Abort>(
     rt: &R,
@@ -32,16 +45,8 @@ pub fn ends_with<R: Wait + Net<Stream = TcpStream> + Abort>(
     mut output: Taped,
     (status, replies, fault): (u8, &str, &str),
 ) -> Result<(), AllocError> {
-    let words = words_of(alloc, line)?;
     let mut faults = tape(alloc, "", 4096)?;
-    let came = command(
-        rt,
-        alloc,
-        words.as_slice(),
-        &mut input,
-        &mut output,
-        &mut faults,
-    );
+    let came = status_of(rt, alloc, line, &mut input, &mut output, &mut faults)?;
     assert_eq!(rt; came, status, "{line}");
     assert_eq!(rt; output.bytes(), replies.as_bytes(), "{line}");
     assert_eq!(rt; faults.bytes(), fault.as_bytes(), "{line}");
@@ -173,18 +178,10 @@ fn says_only<R: Wait + Net<Stream = TcpStream> + Abort>(
     line: &str,
     status: u8,
 ) -> Result<(), AllocError> {
-    let words = words_of(alloc, line)?;
     let mut input = tape(alloc, "get a\r\n", 4096)?;
     let mut output = tape(alloc, "", 4096)?;
     let mut faults = tape(alloc, "", 1)?;
-    let came = command(
-        rt,
-        alloc,
-        words.as_slice(),
-        &mut input,
-        &mut output,
-        &mut faults,
-    );
+    let came = status_of(rt, alloc, line, &mut input, &mut output, &mut faults)?;
     assert_eq!(rt; came, status, "{line}");
     assert_eq!(rt; output.bytes().is_empty(), status == 2, "{line}");
     assert_eq!(rt; faults.bytes().is_empty(), status == 0, "{line}");

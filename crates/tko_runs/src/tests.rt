@@ -89,55 +89,24 @@ fn settings_fault(
 #[test]
 fn settings_are_judged_after_the_lines(rt: HostRuntime) -> Result<(), Fail> {
     for (servers, threads, limit, stamp, fault) in [
-        (
-            "2",
-            "2",
-            "257",
-            "0",
-            Some(ScheduleFault::Settings(SettingsFault::Limit)),
-        ),
-        (
-            "4294967298",
-            "2",
-            "1",
-            "0",
-            Some(ScheduleFault::Settings(SettingsFault::Servers)),
-        ),
-        (
-            "0",
-            "65",
-            "257",
-            "0",
-            Some(ScheduleFault::Settings(SettingsFault::Servers)),
-        ),
+        ("2", "2", "257", "0", SettingsFault::Limit),
+        ("4294967298", "2", "1", "0", SettingsFault::Servers),
+        ("0", "65", "257", "0", SettingsFault::Servers),
         (
             "2",
             "18446744073709551615",
             "257",
             "0",
-            Some(ScheduleFault::Settings(SettingsFault::Threads)),
+            SettingsFault::Threads,
         ),
-        (
-            "2",
-            "2",
-            "1",
-            "2251799813685241",
-            Some(ScheduleFault::Settings(SettingsFault::Stamp)),
-        ),
-        (
-            "0",
-            "2",
-            "1",
-            "18446744073709551616",
-            Some(ScheduleFault::Line(7)),
-        ),
-        ("256", "64", "256", "00", None),
+        ("2", "2", "1", "2251799813685241", SettingsFault::Stamp),
     ] {
-        assert_eq!(rt;
-            settings_fault(rt.alloc(), servers, threads, limit, stamp)?,
-            fault
-        );
+        let told = settings_fault(rt.alloc(), servers, threads, limit, stamp)?;
+        assert_eq!(rt; told, Some(ScheduleFault::Settings(fault)));
     }
+    let told = settings_fault(rt.alloc(), "0", "2", "1", "18446744073709551616")?;
+    assert_eq!(rt; told, Some(ScheduleFault::Line(7)));
+    assert_eq!(rt; settings_fault(rt.alloc(), "256", "64", "256", "00")?, None);
     Ok(())
 }
 
