@@ -1,6 +1,6 @@
--- The law of a thread alone: what holds of the world is kept by each turn of the thread.
-use Rattle.std.proofs.Common.{◌≡◌, ℕ, ◌<◌, List, [], ◌∷◌, ◌++◌, length, get_or-set_same, All, refl, sym, ap, subst, reverse}
-use Rattle.std.proofs.lemmas.Bool.{eq-eqb}
+-- The law of a thread alone: where no other thread stepped, what holds of the world is kept by each turn.
+use Rattle.std.proofs.Common.{◌≡◌, ℕ, ◌<◌, List, [], ◌∷◌, ◌++◌, length, get_or, set, ◌∙◌, get_or-set_same, get_or-set_other, ⊎_elim, All, refl, sym, ap, subst, reverse}
+use Rattle.std.proofs.lemmas.Bool.{cases_eq, eq-eqb}
 use Rattle.std.proofs.lemmas.List.{reverse-append}
 use Rattle.std.proofs.lemmas.List.Elements.{All-nil, All-cons, All-head, All-tail}
 use Rattle.tko_model.specs.declared.mark.Op.{Op}
@@ -8,9 +8,9 @@ use Rattle.tko_model.specs.declared.settings.Settings.{Settings}
 use Rattle.tko_model.specs.Tracker.{Tracker, after, opened}
 use Rattle.tko_steps.specs.declared.thread.ThreadState.{ThreadState}
 use Rattle.tko_steps.specs.declared.thread.ThreadState.TheVariants.{NotEnrolled, Idle, InCall}
-use Rattle.tko_steps.specs.Alone.{HasReply, InEveryRunAlone, IsCallOf, IsOf, Replays, after_call}
+use Rattle.tko_steps.specs.Alone.{HasReply, InEveryRunAlone, IsCallOf, IsStepOf, Replays, after_call}
 use Rattle.tko_steps.specs.Core.{CoreState, after_enrol, after_whole, thread_at}
-use Rattle.tko_steps.specs.Runs.{Begin, Call, OwnStep, Step, StepTaken, Took, Turn, World, after_turns, and_step, begun_call, calls_of, happens, start, steps_in, with_step}
+use Rattle.tko_steps.specs.Runs.{Begin, Call, Moment, OwnStep, Step, StepTaken, Took, Turn, World, after_turns, and_step, began, begun_call, calls_of, happens, start, steps_in, with_step}
 use Rattle.tko_steps.proofs.CoreLemmas.{get_or-replicate_same}
 use Rattle.tko_steps.proofs.RunLemmas.{enrol_step, whole_step}
 use Rattle.tko_steps.proofs.WiringLemmas.{begun, keeps-begin, keeps-step, stepped_from}
@@ -47,16 +47,28 @@ StandsAlone s thread core calls (Idle number) = (number ≡ 0) × Done s calls c
 StandsAlone s thread core calls (InCall number op server) =
     (number ≡ 0) × IsNewest s (begun_call thread number op server) calls core.tracker
 
+-- no thread but this one is enrolled
+abbrev pub NoOther : CoreState → ℕ → Type 0
+NoOther core thread = (other : ℕ) → (other ≡ thread → ⊥) → thread_at core other ≡ NotEnrolled
+
+-- whatever this thread does, the others stand as they did
+NoOther-set : (core : CoreState) (thread : ℕ) (new : ThreadState) → NoOther core thread
+    → (other : ℕ) → (other ≡ thread → ⊥) → get_or (set core.threads thread new) other NotEnrolled ≡ NotEnrolled
+NoOther-set core thread new none other apart =
+    rw (get_or-set_other core.threads thread other new NotEnrolled apart) (none other apart)
+
 -- what holds of the world in each run of this thread alone
 pub record HoldsAlone (s : Settings) (thread : ℕ) (w : World) : Type 0 where
   pub calls : All (IsCallOf thread 0) (calls_of w.past)
   pub stands : StandsAlone s thread w.core (calls_of w.past) (thread_at w.core thread)
+  pub others : NoOther w.core thread
 
 HoldsAlone-start : (s : Settings) (thread : ℕ) → HoldsAlone s thread (start s)
 HoldsAlone-start s thread =
     record {
       calls = All-nil (IsCallOf thread 0);
       stands = rw (get_or-replicate_same s.threads thread NotEnrolled) (refl, refl, refl);
+      others = λ other apart. get_or-replicate_same s.threads other NotEnrolled;
     }
 
 HoldsAlone-begun : (s : Settings) (w : World) (thread number : ℕ) (op : Op) (server : ℕ) → HoldsAlone s thread w
@@ -69,6 +81,7 @@ HoldsAlone-begun s w thread number op server holds inside stands =
       calls = All-cons (IsCallOf thread 0) call calls (record { thread = refl; number = was.0 }) holds.calls;
       stands = rw (get_or-set_same w.core.threads thread (InCall number op server) NotEnrolled inside)
           (was.0, record { older = calls; newest = refl; done = was.1 });
+      others = NoOther-set w.core thread (InCall number op server) holds.others;
     })
 
 HoldsAlone-enrolled : (s : Settings) (w : World) (thread : ℕ) → HoldsAlone s thread w → thread < length w.core.threads
@@ -81,6 +94,7 @@ HoldsAlone-enrolled s w thread holds inside stands =
     record {
       calls = rw none (All-nil (IsCallOf thread 0));
       stands = rw (get_or-set_same w.core.threads thread (Idle w.core.enrolled) NotEnrolled inside, none) (was.0, was.2);
+      others = NoOther-set w.core thread (Idle w.core.enrolled) holds.others;
     }
 
 HoldsAlone-whole : (s : Settings) (w : World) (thread number : ℕ) (op : Op) (server : ℕ) → HoldsAlone s thread w
@@ -108,35 +122,66 @@ HoldsAlone-whole s w thread number op server holds inside stands =
           (All-tail (IsCallOf thread 0) call older (rw was.1.newest at holds.calls)));
       stands = rw (get_or-set_same w.core.threads thread (Idle number) NotEnrolled inside, answered)
           (zeroth, subst P (sym zeroth) done);
+      others = NoOther-set w.core thread (Idle number) holds.others;
     }
 
-HoldsAlone-stepped_from : (s : Settings) (w : World) (thread : ℕ) (state : ThreadState) → HoldsAlone s thread w
-    → thread < length w.core.threads → thread_at w.core thread ≡ state → HoldsAlone s thread (stepped_from w thread state)
-HoldsAlone-stepped_from s w thread NotEnrolled holds inside stands = HoldsAlone-enrolled s w thread holds inside stands
-HoldsAlone-stepped_from s w thread (Idle number) holds inside stands = holds
-HoldsAlone-stepped_from s w thread (InCall number op server) holds inside stands =
-    HoldsAlone-whole s w thread number op server holds inside stands
+-- the same, where no other thread stepped up to now
+abbrev pub IsAlone : Settings → ℕ → World → Type 0
+IsAlone s thread w = All (IsStepOf thread) w.past → HoldsAlone s thread w
 
-HoldsAlone-happens : (s : Settings) (w : World) (thread : ℕ) (turn : Turn) → IsOf thread turn → HoldsAlone s thread w
-    → HoldsAlone s thread (happens w turn)
-HoldsAlone-happens s w thread (Begin own op server) same holds =
-    let P : ℕ → Type 0 = λ it. HoldsAlone s thread (happens w (Begin it op server)) in
-    subst P (sym same) (keeps-begin (HoldsAlone s thread) w thread op server holds
-    (λ number inside stands on_server. HoldsAlone-begun s w thread number op server holds inside stands))
-HoldsAlone-happens s w thread (Step own) same holds =
-    let P : ℕ → Type 0 = λ it. HoldsAlone s thread (happens w (Step it)) in
-    subst P (sym same) (keeps-step (HoldsAlone s thread) w thread holds
-    (λ inside. HoldsAlone-stepped_from s w thread (thread_at w.core thread) holds inside refl))
+-- the thread that began is this one, since no other is enrolled
+IsAlone-begun : (s : Settings) (w : World) (thread own number : ℕ) (op : Op) (server : ℕ) → IsAlone s thread w
+    → own < length w.core.threads → thread_at w.core own ≡ Idle number → IsAlone s thread (begun w own op server)
+IsAlone-begun s w thread own number op server alone inside stands all =
+    let moment : Moment = began w.core own op server in
+    let holds = alone (All-tail (IsStepOf thread) moment w.past all) in
+    let P : ℕ → Type 0 = λ it. HoldsAlone s it (begun w own op server) in
+    let Q : ℕ → Type 0 = λ it. HoldsAlone s it w in
+    ⊎_elim
+    (λ (same : own ≡ thread).
+    subst P same (HoldsAlone-begun s w own number op server (subst Q (sym same) holds) inside stands))
+    (λ (apart : own ≡ thread → ⊥).
+    let none : thread_at w.core own ≡ NotEnrolled = holds.others own apart in
+    let clash : NotEnrolled ≡ Idle number = sym none ∙ stands in
+    absurd cc)
+    (cases_eq own thread)
 
-HoldsAlone-after_turns : (s : Settings) (w : World) (thread : ℕ) (turns : List Turn) → All (IsOf thread) turns
-    → HoldsAlone s thread w → HoldsAlone s thread (after_turns w turns)
-HoldsAlone-after_turns s w thread [] all holds = holds
-HoldsAlone-after_turns s w thread (turn ∷ turns) all holds =
-    HoldsAlone-after_turns s (happens w turn) thread turns (All-tail (IsOf thread) turn turns all)
-    (HoldsAlone-happens s w thread turn (All-head (IsOf thread) turn turns all) holds)
+-- the thread that stepped is this one, since its step says so
+IsAlone-stepped_from : (s : Settings) (w : World) (thread own : ℕ) (state : ThreadState) → IsAlone s thread w
+    → own < length w.core.threads → thread_at w.core own ≡ state → IsAlone s thread (stepped_from w own state)
+IsAlone-stepped_from s w thread own NotEnrolled alone inside stands all =
+    let moment : Moment = Took (enrol_step w.core own) in
+    let same : own ≡ thread = All-head (IsStepOf thread) moment w.past all in
+    let holds = alone (All-tail (IsStepOf thread) moment w.past all) in
+    let P : ℕ → Type 0 = λ it. HoldsAlone s it (stepped_from w own NotEnrolled) in
+    let Q : ℕ → Type 0 = λ it. HoldsAlone s it w in
+    subst P same (HoldsAlone-enrolled s w own (subst Q (sym same) holds) inside stands)
+IsAlone-stepped_from s w thread own (Idle number) alone inside stands all = alone all
+IsAlone-stepped_from s w thread own (InCall number op server) alone inside stands all =
+    let moment : Moment = Took (whole_step w.core own number op server) in
+    let same : own ≡ thread = All-head (IsStepOf thread) moment w.past all in
+    let holds = alone (All-tail (IsStepOf thread) moment w.past all) in
+    let P : ℕ → Type 0 = λ it. HoldsAlone s it (stepped_from w own (InCall number op server)) in
+    let Q : ℕ → Type 0 = λ it. HoldsAlone s it w in
+    subst P same (HoldsAlone-whole s w own number op server (subst Q (sym same) holds) inside stands)
+
+IsAlone-happens : (s : Settings) (w : World) (thread : ℕ) (turn : Turn) → IsAlone s thread w → IsAlone s thread (happens w turn)
+IsAlone-happens s w thread (Begin own op server) alone =
+    keeps-begin (IsAlone s thread) w own op server alone
+    (λ number inside stands on_server. IsAlone-begun s w thread own number op server alone inside stands)
+IsAlone-happens s w thread (Step own) alone =
+    keeps-step (IsAlone s thread) w own alone
+    (λ inside. IsAlone-stepped_from s w thread own (thread_at w.core own) alone inside refl)
+
+IsAlone-after_turns : (s : Settings) (w : World) (thread : ℕ) (turns : List Turn) → IsAlone s thread w
+    → IsAlone s thread (after_turns w turns)
+IsAlone-after_turns s w thread [] alone = alone
+IsAlone-after_turns s w thread (turn ∷ turns) alone =
+    IsAlone-after_turns s (happens w turn) thread turns (IsAlone-happens s w thread turn alone)
 
 pub HoldsAlone-run : InEveryRunAlone HoldsAlone
-HoldsAlone-run s ranges thread turns all = HoldsAlone-after_turns s (start s) thread turns all (HoldsAlone-start s thread)
+HoldsAlone-run s ranges thread turns all =
+    IsAlone-after_turns s (start s) thread turns (λ none. HoldsAlone-start s thread) all
 
 Done-stands : (s : Settings) (thread : ℕ) (core : CoreState) (calls : List Call) (state : ThreadState)
     → StandsAlone s thread core calls state → Done s calls core.tracker

@@ -1,22 +1,23 @@
--- One thread alone: runs in which no other thread takes a turn, and their calls as the sequential
+-- One thread alone: runs in which no other thread takes a step, and their calls as the sequential
 -- tracker does them, one after another.
 use Rattle.std.specs.Prelude.{◌≡◌, ℕ, List, [], ◌∷◌, All, Option, Some, None}
 use Rattle.tko_model.specs.declared.mark.Reply.{Reply}
 use Rattle.tko_model.specs.declared.settings.Settings.{Settings}
 use Rattle.tko_model.specs.Ranges.{IsWithinRanges}
 use Rattle.tko_model.specs.Tracker.{Tracker, after, reply_of}
-use Rattle.tko_steps.specs.Runs.{Begin, Call, Step, Turn, World, run}
+use Rattle.tko_steps.specs.Runs.{Began, Call, Moment, Took, Turn, World, run}
 
--- the turn is of the thread at this place
-abbrev pub IsOf : ℕ → Turn → Type 0
-IsOf thread (Begin own op server) = own ≡ thread
-IsOf thread (Step own) = own ≡ thread
+-- the step of this moment, if it is one, is of the thread at this place
+abbrev pub IsStepOf : ℕ → Moment → Type 0
+IsStepOf thread (Began own number op server) = Unit {0}
+IsStepOf thread (Took step) = step.thread ≡ thread
 
--- what holds after every list of turns of one thread, under all settings in range
+-- what holds after every list of turns in which one thread alone stepped, under all settings in
+-- range; other threads may have tried to begin, and were refused
 abbrev pub InEveryRunAlone : (Settings → ℕ → World → Type 0) → Type 0
 InEveryRunAlone P =
-    (s : Settings) → IsWithinRanges s → (thread : ℕ) (turns : List Turn) → All (IsOf thread) turns →
-    P s thread (run s turns)
+    (s : Settings) → IsWithinRanges s → (thread : ℕ) (turns : List Turn) →
+    All (IsStepOf thread) (run s turns).past → P s thread (run s turns)
 
 -- the call is of the thread at this place, with this number
 pub record IsCallOf (place drawn : ℕ) (call : Call) : Type 0 where

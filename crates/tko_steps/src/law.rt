@@ -27,9 +27,10 @@ pub fn every_run()
     ensures core { InEveryRun (λ s w. IsCore w.core) }
 {}
 
-/// Over every list of turns of one thread: the sequential tracker, as it opens under settings in
-/// range, does the thread's calls one after another with the same replies, and no call lost every
-/// try. The thread draws number 0.
+/// Where one thread alone steps, over every list of turns: the sequential tracker, as it opens under
+/// settings in range, does the thread's calls one after another with the same replies, and no call
+/// lost every try. The thread draws number 0. Other threads may try to begin: they never enrolled,
+/// so they are refused.
 pub fn one_thread_alone()
     ensures calls { InEveryRunAlone (λ s thread w. All (IsCallOf thread 0) (calls_of w.past)) }
     ensures replies { InEveryRunAlone (λ s thread w.
