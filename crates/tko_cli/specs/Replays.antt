@@ -57,13 +57,28 @@ CannotRead failures old new (fault.Line number) = ⊥
 CannotRead failures old new (fault.Settings setting) = ⊥
 CannotRead failures old new (fault.Outcomes number) = ⊥
 
--- why a replay fails: what came is no schedule, an end failed, or memory is wanting
-abbrev pub ReplayFails : {I : Type 0} → (I → List ℕ → I → Type 0) → (I → ℕ) → I → I → Fault → Type 0
-ReplayFails gives failures old new (fault.Line number) = Came gives old new (fault.Line number)
-ReplayFails gives failures old new (fault.Settings setting) = Came gives old new (fault.Settings setting)
-ReplayFails gives failures old new fault.Read = failures old < failures new
-ReplayFails gives failures old new fault.Write = Unit {0}
-ReplayFails gives failures old new fault.Memory = Unit {0}
-ReplayFails gives failures old new fault.Check = ⊥
-ReplayFails gives failures old new fault.LineTooLong = ⊥
-ReplayFails gives failures old new (fault.Outcomes number) = ⊥
+-- why a text can't be written: the end failed
+abbrev pub CannotWrite : {O : Type 0} → (O → ℕ) → O → O → Fault → Type 0
+CannotWrite failures old new fault.Write = failures old < failures new
+CannotWrite failures old new fault.Read = ⊥
+CannotWrite failures old new fault.Memory = ⊥
+CannotWrite failures old new fault.Check = ⊥
+CannotWrite failures old new fault.LineTooLong = ⊥
+CannotWrite failures old new (fault.Line number) = ⊥
+CannotWrite failures old new (fault.Settings setting) = ⊥
+CannotWrite failures old new (fault.Outcomes number) = ⊥
+
+-- why a replay fails: what came is no schedule, an end failed, or memory is wanting; nothing went out but
+-- where writing failed
+abbrev pub ReplayFails : {I O : Type 0} → (I → List ℕ → I → Type 0) → (I → ℕ) → (O → ℕ) → I → I → O → O → Fault → Type 0
+ReplayFails gives read_failures write_failures old new from to (fault.Line number) =
+    Came gives old new (fault.Line number) × (to ≡ from)
+ReplayFails gives read_failures write_failures old new from to (fault.Settings setting) =
+    Came gives old new (fault.Settings setting) × (to ≡ from)
+ReplayFails gives read_failures write_failures old new from to fault.Read =
+    (read_failures old < read_failures new) × (to ≡ from)
+ReplayFails gives read_failures write_failures old new from to fault.Write = write_failures from < write_failures to
+ReplayFails gives read_failures write_failures old new from to fault.Memory = to ≡ from
+ReplayFails gives read_failures write_failures old new from to fault.Check = ⊥
+ReplayFails gives read_failures write_failures old new from to fault.LineTooLong = ⊥
+ReplayFails gives read_failures write_failures old new from to (fault.Outcomes number) = ⊥

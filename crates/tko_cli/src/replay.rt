@@ -1,5 +1,5 @@
 //! The command `replay`: a schedule is played, checked and printed.
-ghost use Rattle.std.specs.Prelude.{◌≡◌, ◌⊎◌, IfOk, IfErr, OnOk};
+ghost use Rattle.std.specs.Prelude.{IfOk, IfErr, OnOk};
 ghost use Rattle.tko_cli.specs.Replays.{IsReplay, NoReplay, ReplayFails, Replays};
 
 use crate::Fault;
@@ -22,8 +22,7 @@ pub(crate) fn replay<R: Outside, I: Inlet, O: Outlet>(
     output: &mut O,
 ) -> Result<(), Fault>
     ensures ok { OnOk result (Replays I.gives I.is_ended O.takes input.old output.old input.new output.new) }
-    ensures err { IfErr result (ReplayFails I.gives I.failures input.old input.new) }
-    ensures silent { IfErr result (λ fault. (fault ≡ Fault.Write) ⊎ (output.new ≡ output.old)) }
+    ensures err { IfErr result (ReplayFails I.gives I.failures O.failures input.old input.new output.old output.new) }
 {
     let text = read_text(rt, alloc, input, MOST)?;
     let printed = replayed(alloc, &text)?;

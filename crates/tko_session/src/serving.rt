@@ -119,8 +119,14 @@ fn serve_piece<R: Outside, O: Outlet, H: Health, L: Links, T: Trails>(
     Ok(answered?)
 }
 
-/// Writes the text, and answers whether all of it went out. What went out is added to the count.
-fn write_all<R: Outside, O: Outlet>(rt: &R, writer: &mut O, text: &[u8], written: &mut u64) -> bool
+/// Writes the text, and answers whether all of it went out. What went out is added to the count, which
+/// stays at 2^64 - 1.
+pub fn write_all<R: Outside, O: Outlet>(
+    rt: &R,
+    writer: &mut O,
+    text: &[u8],
+    written: &mut u64,
+) -> bool
     ensures takes { OnTrue result (O.takes writer.old text.now writer.new) }
     ensures calm { OnTrue result (O.failures writer.new ≡ O.failures writer.old) }
     ensures failed { OnFalse result (O.failures writer.old < O.failures writer.new) }
