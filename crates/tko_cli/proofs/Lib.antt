@@ -1,2 +1,3 @@
+pub mod DryLemmas
 pub mod ReplayLemmas
 pub mod TargetLemmas

@@ -1,3 +1,4 @@
+pub mod DryRuns
 pub mod Faults
 pub mod Outcomes
 pub mod Replays

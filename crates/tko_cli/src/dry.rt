@@ -1,6 +1,7 @@
 //! The command `dry`: a session over scripted servers.
-ghost use Rattle.std.specs.Prelude.{◌≡◌, [], IfOk, IfErr, replicate};
+ghost use Rattle.std.specs.Prelude.{◌≡◌, [], IfOk, IfErr, OnOk, replicate};
 ghost use Rattle.tko_model.specs.Tracker.{opened};
+ghost use Rattle.tko_cli.specs.DryRuns.{Begins, CannotPrint, DryFails, IsDry, NoParts, TrailsGo};
 ghost use Rattle.tko_cli.specs.Faults.{NoTracker};
 ghost use Rattle.tko_cli.specs.Targets.{numbers_below};
 
@@ -12,7 +13,7 @@ use crate::writing::write_text;
 use std::alloc::{AllocError, Global};
 use tko_model::{OpenFault, Plain, Settings};
 use tko_route::links::{Script, Scripted};
-use tko_route::{Outside, PlainHealth};
+use tko_route::{Outside, PlainHealth, Trail};
 use tko_session::{Inlet, Kept, Outlet, Parts, serve};
 
 type DryParts = Parts<PlainHealth, Scripted, Kept>;
@@ -24,15 +25,42 @@ pub(crate) fn dry<R: Outside, I: Inlet, O: Outlet>(
     options: &DryOptions,
     input: &mut I,
     output: &mut O,
-) -> Result<(), Fault> {
-    let scripts = scripts_of(alloc, options.outcomes.as_str())?;
-    let mut parts = parts_of(alloc, options.settings(), scripts)?;
+) -> Result<(), Fault>
+    ensures ok { OnOk result (IsDry I.gives I.is_ended O.takes options.now
+        input.old output.old input.new output.new) }
+    ensures err { IfErr result (DryFails I.gives I.failures O.failures options.now
+        input.old input.new output.old output.new) }
+{
+    let mut parts = parts_asked(alloc, options)?;
     serve(rt, alloc, input, output, &mut parts)?;
-    if options.trail {
-        let lines = trail_lines(alloc, parts.trails.trails())?;
-        write_text(rt, output, lines.as_slice())?;
+    print_trails(rt, alloc, options.trail, parts.trails.trails(), output)
+}
+
+/// The parts that the options name.
+fn parts_asked(alloc: Global, options: &DryOptions) -> Result<DryParts, Fault>
+    ensures ok { IfOk result (λ parts. Begins options.now parts) }
+    ensures err { IfErr result (NoParts options.now) }
+{
+    let scripts = scripts_of(alloc, options.outcomes.as_str())?;
+    parts_of(alloc, options.settings(), scripts)
+}
+
+/// Prints the trails' lines if they are asked for.
+fn print_trails<R: Outside, O: Outlet>(
+    rt: &R,
+    alloc: Global,
+    asked: bool,
+    trails: &[Trail],
+    output: &mut O,
+) -> Result<(), Fault>
+    ensures ok { OnOk result (TrailsGo O.takes asked trails.now output.old output.new) }
+    ensures err { IfErr result (CannotPrint O.failures output.old output.new) }
+{
+    if !asked {
+        return Ok(());
     }
-    Ok(())
+    let lines = trail_lines(alloc, trails)?;
+    write_text(rt, output, lines.as_slice())
 }
 
 /// A tracker in the hands of thread 0, the scripted servers, and all of them as targets.

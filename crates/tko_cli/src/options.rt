@@ -1,5 +1,6 @@
 //! The words of the command line.
 ghost use Rattle.std.specs.Prelude.{◌≡◌};
+ghost use Rattle.tko_cli.specs.DryRuns.{settings_of};
 
 use clap::error::ErrorKind;
 use clap::{Arg, ArgAction, ArgMatches, Command, Error, value_parser};
@@ -53,14 +54,7 @@ impl DryOptions {
 
     /// The settings of the tracker.
     pub fn settings(&self) -> Settings
-        ensures { result ≡ record {
-          servers = self.now.servers;
-          threads = 4;
-          failures = self.now.failures;
-          limit = self.now.limit;
-          tries = self.now.tries;
-          opening_stamp = 0;
-        } }
+        ensures { result ≡ settings_of self.now }
     {
         Settings {
             servers: self.servers,

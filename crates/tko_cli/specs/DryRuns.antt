@@ -1,0 +1,114 @@
+-- What a dry run begins with, what it reads and writes, and why it fails.
+use Rattle.std.specs.Prelude.{◌≡◌, ◌<◌, ℕ, Bool, true, false, Some, List, [], replicate, slice_index, string_bytes}
+use Rattle.tko_model.specs.Ranges.{first_fault}
+use Rattle.tko_model.specs.Tracker.{opened}
+use Rattle.tko_model.specs.declared.settings.Settings.{Settings}
+use Rattle.tko_model.specs.declared.settings.SettingsFault.{SettingsFault}
+use Rattle.tko_route.specs.declared.attempt.Attempt.{Attempt}
+use Rattle.tko_route.specs.declared.links.scripted.Script.{Script}
+use Rattle.tko_route.specs.Health.{OneThread, IsTrackerStep}
+use Rattle.tko_route.specs.Scripted.{ScriptedState, IsPlayed}
+use Rattle.tko_session.specs.declared.parts.Parts.{Parts}
+use Rattle.tko_session.specs.declared.session.Report.{Report}
+use Rattle.tko_session.specs.Served.{CameTooLong, Served}
+use Rattle.tko_session.specs.Standing.{sent_by}
+use Rattle.tko_session.specs.Told.{Keeps}
+use Rattle.tko_session.specs.Turns.{Turn, IsTurn}
+use Rattle.tko_cli.specs.declared.fault.Fault.{Fault}
+use Rattle.tko_cli.specs.declared.fault.Fault.TheVariants as fault
+use Rattle.tko_cli.specs.declared.options.DryOptions.{DryOptions}
+use Rattle.tko_cli.specs.Outcomes.{AllAsk, first_bad, words_of}
+use Rattle.tko_cli.specs.Targets.{numbers_below}
+use Rattle.tko_cli.specs.Texts.{trails_text}
+
+-- a tracker of one thread, scripted servers, and the trails so far
+abbrev pub DryParts : Type 0
+DryParts = Parts OneThread ScriptedState (List (List Attempt))
+
+-- the tracker's settings that the options name
+abbrev pub settings_of : DryOptions → Settings
+settings_of options = record {
+  servers = options.servers;
+  threads = 4;
+  failures = options.failures;
+  limit = options.limit;
+  tries = options.tries;
+  opening_stamp = 0;
+}
+
+-- parts as they are before the first request: a new tracker in the hands of thread 0, the scripts that the list
+-- of outcomes asks for and nothing sent, no trail, and all servers as targets
+pub record Begins (options : DryOptions) (parts : DryParts) : Type 0 where
+  pub scripts : List Script
+  pub asked : AllAsk (words_of (string_bytes options.outcomes)) scripts
+  pub health : parts.health ≡ record { tracker = opened (settings_of options); thread = 0 }
+  pub links : parts.links
+      ≡ record { scripts = scripts; sends = replicate options.servers 0; requests = [] }
+  pub trails : parts.trails ≡ []
+  pub targets : parts.targets.items ≡ numbers_below options.servers
+
+-- every word of the list is one, and this is the first setting that is outside its range
+pub record IsOutside (options : DryOptions) (setting : SettingsFault) : Type 0 where
+  pub scripts : List Script
+  pub asked : AllAsk (words_of (string_bytes options.outcomes)) scripts
+  pub first : first_fault (settings_of options) ≡ Some setting
+
+-- why there are no such parts: a word of the list is none, else a setting is outside its range, or memory is wanting
+abbrev pub NoParts : DryOptions → Fault → Type 0
+NoParts options (fault.Outcomes number) = first_bad (words_of (string_bytes options.outcomes)) ≡ Some number
+NoParts options (fault.Settings setting) = IsOutside options setting
+NoParts options fault.Memory = Unit {0}
+NoParts options fault.Read = ⊥
+NoParts options fault.Write = ⊥
+NoParts options fault.LineTooLong = ⊥
+NoParts options (fault.Line number) = ⊥
+NoParts options fault.Check = ⊥
+
+-- a turn over these parts
+abbrev pub IsDryTurn : DryParts → Turn → DryParts → Type 0
+IsDryTurn old turn new =
+    IsTurn IsTrackerStep IsPlayed (λ links server. slice_index links.sends server) Keeps old turn new
+
+-- the trails' lines went out where they are asked for, and else nothing
+abbrev pub TrailsGo : {O : Type 0} → (O → List ℕ → O → Type 0) → Bool → List (List Attempt) → O → O → Type 0
+TrailsGo takes true trails from to = takes from (trails_text 1 trails) to
+TrailsGo takes false trails from to = to ≡ from
+
+-- why the trails are not printed: the end failed, or memory is wanting
+abbrev pub CannotPrint : {O : Type 0} → (O → ℕ) → O → O → Fault → Type 0
+CannotPrint failures from to fault.Write = failures from < failures to
+CannotPrint failures from to fault.Memory = Unit {0}
+CannotPrint failures from to fault.Read = ⊥
+CannotPrint failures from to fault.LineTooLong = ⊥
+CannotPrint failures from to fault.Check = ⊥
+CannotPrint failures from to (fault.Line number) = ⊥
+CannotPrint failures from to (fault.Settings setting) = ⊥
+CannotPrint failures from to (fault.Outcomes number) = ⊥
+
+-- a session over the parts that the options name came to the end of its input, and behind its replies went the
+-- lines of the trails that it kept, if they are asked for
+pub record IsDry {I O : Type 0} (gives : I → List ℕ → I → Type 0) (is_ended : I → Type 0)
+    (takes : O → List ℕ → O → Type 0) (options : DryOptions) (old : I) (from : O) (new : I) (to : O) : Type 0 where
+  pub before : DryParts
+  pub after : DryParts
+  pub report : Report
+  pub middle : O
+  pub begins : Begins options before
+  pub served : Served gives takes IsDryTurn (sent_by (λ links server. slice_index links.sends server)) is_ended
+      old from before report new middle after
+  pub trails : TrailsGo takes options.trail after.trails middle to
+
+-- why a dry run fails: the options name no parts, and then nothing came and nothing went; an end failed; a line
+-- that is too long came; or memory is wanting
+abbrev pub DryFails : {I O : Type 0} → (I → List ℕ → I → Type 0) → (I → ℕ) → (O → ℕ) → DryOptions → I → I → O → O
+    → Fault → Type 0
+DryFails gives read_failures write_failures options old new from to (fault.Outcomes number) =
+    NoParts options (fault.Outcomes number) × (new ≡ old) × (to ≡ from)
+DryFails gives read_failures write_failures options old new from to (fault.Settings setting) =
+    NoParts options (fault.Settings setting) × (new ≡ old) × (to ≡ from)
+DryFails gives read_failures write_failures options old new from to fault.Read = read_failures old < read_failures new
+DryFails gives read_failures write_failures options old new from to fault.Write = write_failures from < write_failures to
+DryFails gives read_failures write_failures options old new from to fault.LineTooLong = CameTooLong gives old new
+DryFails gives read_failures write_failures options old new from to fault.Memory = Unit {0}
+DryFails gives read_failures write_failures options old new from to (fault.Line number) = ⊥
+DryFails gives read_failures write_failures options old new from to fault.Check = ⊥
