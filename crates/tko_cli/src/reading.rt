@@ -1,14 +1,11 @@
 //! Whole texts from an inlet.
-ghost use Rattle.std.specs.Prelude.{◌≡◌, ◌<◌, ◌≤◌, ◌+◌, ◌⊎◌, Ok, IfOk, IfErr, OnOk, length, vec_len};
+ghost use Rattle.std.specs.Prelude.{◌≡◌, ◌<◌, ◌≤◌, ◌+◌, ◌⊎◌, Ok, IfOk, IfErr, OnOk, length};
 ghost use Rattle.tko_cli.specs.Replays.{CannotRead};
 
 use crate::Fault;
-use std::alloc::{AllocError, Global};
+use std::alloc::Global;
 use tko_route::Outside;
-use tko_session::{Inlet, read_piece};
-
-/// The greatest piece that is read at once.
-const PIECE: usize = 16_384;
+use tko_session::{Inlet, piece_buffer, read_piece};
 
 /// Reads a text to its end, or so many bytes of it.
 pub(crate) fn read_text<R: Outside, I: Inlet>(
@@ -22,7 +19,7 @@ pub(crate) fn read_text<R: Outside, I: Inlet>(
     ensures whole { IfOk result (λ text. I.is_ended input.new ⊎ (most ≤ length text.items)) }
     ensures err { IfErr result (CannotRead I.failures input.old input.new) }
 {
-    let mut buffer = make_buffer(alloc)?;
+    let mut buffer = piece_buffer(alloc)?;
     let mut text = Vec::new(alloc);
     while text.len() < most {
         let room = (most - text.len()).min(buffer.len());
@@ -31,13 +28,6 @@ pub(crate) fn read_text<R: Outside, I: Inlet>(
         }
     }
     Ok(text)
-}
-
-/// Room for a piece.
-fn make_buffer(alloc: Global) -> Result<Vec<u8>, AllocError>
-    ensures { IfOk result (λ buffer. 0 < vec_len buffer) }
-{
-    vec![in alloc; 0u8; PIECE]
 }
 
 /// Puts the next piece behind a text, and answers how many bytes it has.

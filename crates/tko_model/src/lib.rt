@@ -18,7 +18,7 @@ pub use look::{Clear, Look};
 pub use mark::{Mark, Op, Reply};
 pub use plain::{OpenFault, Plain};
 pub use settings::{Settings, SettingsFault};
-pub use state::{ServerState, count_softs};
+pub use state::{ServerState, count_softs, opened_servers};
 pub use verdict::Verdict;
 
 #[cfg(test)]

@@ -2,7 +2,7 @@
 ghost use Rattle.std.specs.Prelude.{◌≡◌, ◌<◌, ◌↔◌, Some, IfOk, length};
 ghost use Rattle.tko_model.specs.Ranges.{first_fault};
 
-use crate::state::count_softs;
+use crate::state::{count_softs, opened_servers};
 use crate::verdict::Verdict;
 use crate::{Mark, Op, Reply, ServerState, Settings, SettingsFault};
 use std::alloc::{AllocError, Global};
@@ -59,11 +59,7 @@ impl Plain {
         if let Err(fault) = settings.check() {
             return Err(OpenFault::Settings(fault));
         }
-        let server = ServerState {
-            mark: Mark::Up(0),
-            stamp: settings.opening_stamp,
-        };
-        let servers = vec![in alloc; server; settings.servers as usize]?;
+        let servers = opened_servers(alloc, &settings)?;
         Ok(Plain { settings, servers })
     }
 

@@ -1,8 +1,9 @@
 //! What is kept of a server.
-ghost use Rattle.std.specs.Prelude.{◌≡◌};
-ghost use Rattle.tko_model.specs.Tracker.{softs};
+ghost use Rattle.std.specs.Prelude.{◌≡◌, IfOk, length};
+ghost use Rattle.tko_model.specs.Tracker.{opened, softs};
 
-use crate::Mark;
+use crate::{Mark, Settings};
+use std::alloc::{AllocError, Global};
 
 /// What a tracker keeps of a server: its mark, and the opening stamp with one for each change of the mark.
 #[derive(Clone, Copy, Debug, PartialEq, Eq)]
@@ -19,4 +20,16 @@ pub fn count_softs(servers: &[ServerState]) -> usize
         .iter()
         .filter(|server| matches!(server.mark, Mark::Soft(_)))
         .count()
+}
+
+/// The servers as a tracker opens: each is up, at the opening stamp.
+pub fn opened_servers(alloc: Global, settings: &Settings) -> Result<Vec<ServerState>, AllocError>
+    ensures servers { IfOk result (λ servers. servers.items ≡ (opened settings.now).servers) }
+    ensures count { IfOk result (λ servers. length servers.items ≡ settings.now.servers) }
+{
+    let server = ServerState {
+        mark: Mark::Up(0),
+        stamp: settings.opening_stamp,
+    };
+    vec![in alloc; server; settings.servers as usize]
 }

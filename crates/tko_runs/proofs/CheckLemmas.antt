@@ -10,8 +10,8 @@ use Rattle.tko_runs.specs.declared.docket.Docket.{Docket}
 use Rattle.tko_runs.specs.declared.event.Event.{Event}
 use Rattle.tko_runs.specs.declared.event.Event.TheVariants.{Begin}
 use Rattle.tko_runs.specs.declared.order.Placed.{Placed}
-use Rattle.tko_runs.specs.Claims.{AllCome, CanCome, IsStory, Roll, calls_in, claimed}
-use Rattle.tko_runs.specs.Dockets.{AreIn, AreJudged, AreKept, HasEntered, IsOpened, Stands, TellsIllegal, TellsRefusal, roll_of}
+use Rattle.tko_runs.specs.Claims.{AllCome, CanCome, IsStory, Roll, calls_in, claimed, roll_of}
+use Rattle.tko_runs.specs.Dockets.{AreIn, AreJudged, AreKept, HasEntered, IsOpened, Stands, TellsIllegal, TellsRefusal}
 use Rattle.tko_runs.specs.Orders.{AllFollow, Follows, IsLegalRun, IsOrder, TellsRunFault}
 use Rattle.tko_runs.specs.Stories.{Story}
 use Rattle.tko_steps.specs.Core.{opened_core}

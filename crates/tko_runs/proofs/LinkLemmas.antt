@@ -8,7 +8,7 @@ use Rattle.tko_model.specs.declared.state.ServerState.{ServerState}
 use Rattle.tko_model.specs.Tracker.{after, changed, reply_of, server_at, softs, verdict, verdict_on}
 use Rattle.tko_runs.specs.declared.event.Event.{Event}
 use Rattle.tko_runs.specs.declared.event.Event.TheVariants as event
-use Rattle.tko_runs.specs.Claims.{AllCome, CanCome, HasCall, IsIdle, Roll, moment_of, opened_roll, world_after, world_after_all}
+use Rattle.tko_runs.specs.Claims.{AllCome, CanCome, HasCall, IsIdle, moment_of, opened_roll, world_after, world_after_all, roll_of}
 use Rattle.tko_runs.specs.Orders.{AllFollow, CanBecome, Follows, with_change}
 use Rattle.tko_runs.specs.Stories.{event_of, events_of}
 use Rattle.tko_steps.specs.declared.step.Kind.TheVariants as kind
@@ -36,10 +36,6 @@ events_of-none = refl
 event_of-moment_of : (core : CoreState) (event : Event) → event_of (moment_of core event) ≡ event
 event_of-moment_of core (event.Begin thread op server) = refl
 event_of-moment_of core (event.Step thread kind place found left answer) = refl
-
--- where the threads of a core stand
-abbrev pub roll_of : CoreState → Roll
-roll_of core = record { threads = core.threads; enrolled = core.enrolled }
 
 AllCome-push : (s : Settings) (w : World) (events : List Event) (event : Event) → AllCome s (roll_of w.core) events
     → CanCome s (roll_of (world_after_all w events).core) event → AllCome s (roll_of w.core) (events ++ event ∷ [])

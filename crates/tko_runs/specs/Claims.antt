@@ -28,6 +28,10 @@ pub record Roll : Type 0 where
   pub threads : List ThreadState
   pub enrolled : ℕ
 
+-- where the threads of a core stand
+abbrev pub roll_of : CoreState → Roll
+roll_of core = record { threads = core.threads; enrolled = core.enrolled }
+
 abbrev pub opened_roll : Settings → Roll
 opened_roll s = record { threads = replicate s.threads NotEnrolled; enrolled = 0 }
 
@@ -159,11 +163,11 @@ servers_after_all servers (event ∷ events) = servers_after_all (servers_after 
 -- the core as it stands by what the events claim
 abbrev pub core_after : CoreState → Event → CoreState
 core_after core event =
-    let roll : Roll = record { threads = core.threads; enrolled = core.enrolled } in
+    let roll = roll_after (roll_of core) event in
     record {
       tracker = record core.tracker { servers = servers_after (abstract_of core) event };
-      threads = (roll_after roll event).threads;
-      enrolled = (roll_after roll event).enrolled;
+      threads = roll.threads;
+      enrolled = roll.enrolled;
     }
 
 -- what happened, by that event

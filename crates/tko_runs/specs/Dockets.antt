@@ -14,7 +14,7 @@ use Rattle.tko_runs.specs.declared.event.Event.{Event}
 use Rattle.tko_runs.specs.declared.judging.OwnCall.{OwnCall}
 use Rattle.tko_runs.specs.declared.judging.Sight.{Sight}
 use Rattle.tko_runs.specs.declared.order.Placed.{Placed}
-use Rattle.tko_runs.specs.Claims.{AllCome, Roll, claimed, standing, world_after}
+use Rattle.tko_runs.specs.Claims.{AllCome, Roll, claimed, roll_of, standing, world_after}
 use Rattle.tko_runs.specs.Orders.{AllFollow, CanBecome, CanLeave, Follows, IsFirstIllegal, IsOrder, standing_word}
 use Rattle.tko_runs.specs.Sights.{IsKept}
 use Rattle.tko_steps.specs.declared.step.Kind.TheVariants.{Whole}
@@ -123,9 +123,6 @@ pub record LeadsNowhere (s : Settings) (servers : List ServerState) (at : Place)
       → CanLeave s Whole found left → ⊥
 
 -- The docket.
-
-abbrev pub roll_of : CoreState → Roll
-roll_of core = record { threads = core.threads; enrolled = core.enrolled }
 
 -- the docket keeps what stands, and what happened
 pub record Stands (w : World) (d : Docket) : Type 0 where

@@ -7,7 +7,7 @@ ghost use Rattle.tko_runs.specs.Prints.{line, order_text, placed_text, servers_t
 use crate::text::{append_mark, append_number};
 use crate::{Event, Placed};
 use std::alloc::{AllocError, Global};
-use tko_model::{Mark, ServerState, Settings, count_softs};
+use tko_model::{ServerState, Settings, count_softs, opened_servers};
 use tko_steps::{Place, Word};
 
 pub(crate) fn append_order(out: &mut Vec<u8>, places: &[Placed]) -> Result<(), AllocError>
@@ -48,11 +48,7 @@ pub(crate) fn servers_left(
     requires { AllCome settings.now (opened_roll settings.now) events.now }
     ensures { IfOk result (λ servers. servers.items ≡ servers_after_all (opened settings.now).servers events.now) }
 {
-    let server = ServerState {
-        mark: Mark::Up(0),
-        stamp: settings.opening_stamp,
-    };
-    let mut servers = vec![in alloc; server; settings.servers as usize]?;
+    let mut servers = opened_servers(alloc, settings)?;
     for event in events {
         if let Event::Step {
             place: Place::Server(server),

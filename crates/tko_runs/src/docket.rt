@@ -11,7 +11,7 @@ use crate::register::Register;
 use crate::sighting::{is_same, sight};
 use crate::{Event, Order, RunFault};
 use std::alloc::{AllocError, Global};
-use tko_model::{Mark, Reply, ServerState, Settings};
+use tko_model::{Reply, ServerState, Settings, opened_servers};
 use tko_steps::{Kind, Place, Word};
 
 /// What stands after some events of a run, and the calls up to there.
@@ -30,14 +30,10 @@ impl Docket {
         requires { IsWithinRanges settings.now }
         ensures { IfOk result (IsOpened settings.now) }
     {
-        let server = ServerState {
-            mark: Mark::Up(0),
-            stamp: settings.opening_stamp,
-        };
         Ok(Docket {
             settings: *settings,
             register: Register::open(alloc, settings)?,
-            servers: vec![in alloc; server; settings.servers as usize]?,
+            servers: opened_servers(alloc, settings)?,
             calls: Calls::open(alloc, settings.threads as usize)?,
             steps: 0,
         })

@@ -4,8 +4,8 @@
 //! - `Piped` and `Taped`: ends over std's readers and writers, and over memory.
 //! - `Parts`: what a session works on; `Trails` is told of each request and of each trail.
 //! - `Session`: one client's session between two pieces. It knows no socket.
-//! - `serve`: reads a piece, gives it to the session, and writes what the session answers; `read_piece` and `write_all`
-//!   are how it does.
+//! - `serve`: reads a piece, gives it to the session, and writes what the session answers; `piece_buffer`,
+//!   `read_piece` and `write_all` are how it does.
 #![tactic(auto)]
 
 mod ends;
@@ -22,7 +22,7 @@ pub use ends::{Inlet, Outlet, Stop};
 pub use fault::{PieceFault, SessionFault};
 pub use parts::Parts;
 pub use piped::Piped;
-pub use serving::{read_piece, serve, write_all};
+pub use serving::{piece_buffer, read_piece, serve, write_all};
 pub use session::{Report, Session};
 pub use taped::Taped;
 pub use trails::{Kept, Trails};

@@ -37,7 +37,7 @@ pub fn serve<R: Outside, I: Inlet, O: Outlet, H: Health, L: Links, T: Trails>(
         → CameTooLong I.gives reader.old reader.new }
     ensures reach { Reaches H.servers L.servers parts.new }
 {
-    let mut buffer = make_buffer(alloc)?;
+    let mut buffer = piece_buffer(alloc)?;
     let mut session = Session::new(alloc);
     let mut written = 0;
     for _ in rt.forever() {
@@ -60,8 +60,8 @@ pub fn serve<R: Outside, I: Inlet, O: Outlet, H: Health, L: Links, T: Trails>(
     unreachable!()
 }
 
-/// Room for a piece.
-fn make_buffer(alloc: Global) -> Result<Vec<u8>, AllocError>
+/// Room for the greatest piece that is read at once.
+pub fn piece_buffer(alloc: Global) -> Result<Vec<u8>, AllocError>
     ensures { IfOk result (λ buffer. 0 < vec_len buffer) }
 {
     vec![in alloc; 0u8; PIECE]
