@@ -1,0 +1,98 @@
+-- A health word and what it holds: each is had from the other.
+use Rattle.std.proofs.Common.{◌≡◌, ℕ, ◌+◌, ◌-◌, ◌*◌, ◌/◌, ◌%◌, ◌^◌, ◌<◌, ◌≤◌, Bool, true, false, cond, ltb, eqb, refl, sym, ap, ◌∙◌, subst, inl, inr, arith, bit_and}
+use Rattle.std.proofs.lemmas.Bool.{lt-ltb, le-ltb, eq-eqb, ne_eqb, cond-true, cond-false, ltb-true, ltb-false, eqb-true, eqb-false, cases_Bool, cases_lt}
+use Rattle.std.proofs.lemmas.Nat.{and_mask, div-add-mod', div-mul-add, mod-mul-add, shr_below}
+use Rattle.tko_model.specs.declared.mark.Mark.{Mark}
+use Rattle.tko_model.specs.declared.mark.Mark.TheVariants.{Up, Soft, Hard}
+use Rattle.tko_model.specs.declared.settings.Settings.{Settings}
+use Rattle.tko_model.specs.declared.state.ServerState.{ServerState}
+use Rattle.tko_model.specs.Ranges.{IsWithinRanges}
+use Rattle.tko_word.specs.Words.{IsMark, IsMarkOf, IsWord, IsWordOf, body_of, health_word, mark_in, server_in}
+
+pub IsMark-of : (s : Settings) (mark : Mark) → IsWithinRanges s → IsMarkOf s mark → IsMark mark
+IsMark-of s (Up count) ranges is = omega (arith, ranges.failures.1)
+IsMark-of s (Soft thread) ranges is = omega (arith, ranges.threads.1)
+IsMark-of s (Hard thread) ranges is = omega (arith, ranges.threads.1)
+
+pub IsWord-of : (s : Settings) (word : ℕ) → IsWithinRanges s → IsWordOf s word → IsWord word
+IsWord-of s word ranges is =
+    record {
+      mark = is.mark;
+      stamp = is.stamp;
+      allowed = IsMark-of s is.mark ranges is.allowed;
+      below = is.below;
+      is = is.is;
+    }
+
+pub body_of-below : (mark : Mark) → IsMark mark → body_of mark < 8192
+body_of-below (Up count) is = omega arith
+body_of-below (Soft thread) is = omega arith
+body_of-below (Hard thread) is = omega arith
+
+pub mark_in-body_of : (mark : Mark) → IsMark mark → mark_in (body_of mark) ≡ mark
+mark_in-body_of (Up count) is = cond-true _ _ _ (lt-ltb count 4096 (omega arith))
+mark_in-body_of (Soft thread) is =
+    let even : (4096 + 2 * thread - 4096) % 2 ≡ 0 = omega arith in
+    let half : (4096 + 2 * thread - 4096) / 2 ≡ thread = omega arith in
+    cond-false _ _ _ (le-ltb (4096 + 2 * thread) 4096 (omega arith))
+    ∙ cond-true _ _ _ (eq-eqb ((4096 + 2 * thread - 4096) % 2) 0 even)
+    ∙ ap Soft half
+mark_in-body_of (Hard thread) is =
+    let odd : (4096 + 2 * thread + 1 - 4096) % 2 ≡ 0 → ⊥ = λ e. omega arith in
+    let half : (4096 + 2 * thread + 1 - 4096) / 2 ≡ thread = omega arith in
+    cond-false _ _ _ (le-ltb (4096 + 2 * thread + 1) 4096 (omega arith))
+    ∙ cond-false _ _ _ (ne_eqb ((4096 + 2 * thread + 1 - 4096) % 2) 0 odd)
+    ∙ ap Hard half
+
+-- what a word holds is what it was made of
+pub server_in-health_word : (mark : Mark) (stamp : ℕ) → IsMark mark
+    → server_in (health_word mark stamp) ≡ record { mark = mark; stamp = stamp }
+unfolding server_in
+server_in-health_word mark stamp is =
+    let below = body_of-below mark is in
+    let low : (stamp * 8192 + body_of mark) % 8192 ≡ body_of mark = mod-mul-add stamp 8192 (body_of mark) below in
+    let high : (stamp * 8192 + body_of mark) / 8192 ≡ stamp = div-mul-add stamp 8192 (body_of mark) below in
+    let same : mark_in ((stamp * 8192 + body_of mark) % 8192) ≡ mark = ap mark_in low ∙ mark_in-body_of mark is in
+    ap (λ m. let server : ServerState = record { mark = m; stamp = (stamp * 8192 + body_of mark) / 8192 } in server) same
+    ∙ ap (λ n. let server : ServerState = record { mark = mark; stamp = n } in server) high
+
+-- the same of any word that is the word of a mark and a stamp
+pub server_in_is : (word : ℕ) (mark : Mark) (stamp : ℕ) → IsMark mark → word ≡ health_word mark stamp
+    → server_in word ≡ record { mark = mark; stamp = stamp }
+server_in_is word mark stamp is e = ap server_in e ∙ server_in-health_word mark stamp is
+
+-- the body of a word, from what it holds
+pub body_of-mark_in : (body : ℕ) → body < 8192 → body_of (mark_in body) ≡ body
+body_of-mark_in body below =
+    elim (cases_Bool (ltb body 4096)) [
+      | inl low ↦ ap body_of (cond-true _ _ _ low)
+      | inr high ↦
+          let above = ltb-false body 4096 high in
+          ap body_of (cond-false (ltb body 4096) (Up body) (cond (eqb ((body - 4096) % 2) 0) (Soft ((body - 4096) / 2)) (Hard ((body - 4096) / 2))) high)
+          ∙ elim (cases_Bool (eqb ((body - 4096) % 2) 0)) [
+            | inl even ↦ ap body_of (cond-true _ _ _ even) ∙ (let is = eqb-true ((body - 4096) % 2) 0 even in omega arith)
+            | inr odd ↦ ap body_of (cond-false _ _ _ odd) ∙ (let is = eqb-false ((body - 4096) % 2) 0 odd in omega arith)
+          ]
+    ]
+
+-- a word and the body that masking leaves of it
+pub masked : (word : ℕ) → bit_and word 8191 ≡ word % 8192
+masked word = and_mask word 13
+
+pub IsWordOf-body : (s : Settings) (word : ℕ) → word < 2 ^ 64 → IsMarkOf s (mark_in (word % 8192)) → IsWordOf s word
+IsWordOf-body s word fits allowed =
+    let body = body_of-mark_in (word % 8192) (omega arith) in
+    record {
+      mark = mark_in (word % 8192);
+      stamp = word / 8192;
+      allowed = allowed;
+      below = shr_below word 51 13 fits;
+      is = omega (arith, body, div-add-mod' word 8192);
+    }
+
+pub body-IsWordOf : (s : Settings) (word : ℕ) → IsWithinRanges s → IsWordOf s word → IsMarkOf s (mark_in (word % 8192))
+unfolding server_in
+body-IsWordOf s word ranges is =
+    let holds = server_in_is word is.mark is.stamp (IsMark-of s is.mark ranges is.allowed) is.is in
+    let same : mark_in (word % 8192) ≡ is.mark = ap (λ (server : ServerState). server.mark) holds in
+    subst (IsMarkOf s) (sym same) is.allowed

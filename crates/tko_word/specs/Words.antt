@@ -1,0 +1,79 @@
+-- The words that threads share: the health word of a server, which holds its mark and its stamp, and
+-- the soft word, which holds the two counts of soft marks.
+use Rattle.std.specs.Prelude.{◌≡◌, ℕ, ◌+◌, ◌-◌, ◌*◌, ◌/◌, ◌%◌, ◌^◌, ◌<◌, ◌==◌, nat_lt, if◌then◌else◌}
+use Rattle.tko_model.specs.declared.mark.Mark.{Mark}
+use Rattle.tko_model.specs.declared.mark.Mark.TheVariants.{Up, Soft, Hard}
+use Rattle.tko_model.specs.declared.settings.Settings.{Settings}
+use Rattle.tko_model.specs.declared.state.ServerState.{ServerState}
+
+-- a stamp counts up in steps of this; a body lies below it
+abbrev pub body_size : ℕ
+body_size = 8192
+
+-- the bodies of unmarked servers lie below this
+abbrev pub marked : ℕ
+marked = 4096
+
+-- every stamp lies below this
+abbrev pub stamp_end : ℕ
+stamp_end = 2 ^ 51
+
+-- the most soft failures in a row, and the most threads, that any settings in range allow
+abbrev pub most_failures : ℕ
+most_failures = 1000
+
+abbrev pub most_threads : ℕ
+most_threads = 64
+
+-- what stands for a mark: the count, or the thread's number, doubled, and 1 where the mark is hard
+abbrev pub body_of : Mark → ℕ
+body_of (Up count) = count
+body_of (Soft thread) = marked + 2 * thread
+body_of (Hard thread) = marked + 2 * thread + 1
+
+-- the health word of a server with this mark and this stamp
+abbrev pub health_word : Mark → ℕ → ℕ
+health_word mark stamp = stamp * body_size + body_of mark
+
+-- the soft word: so many soft marks are settled, and so many calls hold a slot for one
+abbrev pub soft_word : ℕ → ℕ → ℕ
+soft_word firm held = firm + 2 ^ 32 * held
+
+-- a mark that some settings in range allow
+abbrev pub IsMark : Mark → Type 0
+IsMark (Up count) = count < most_failures
+IsMark (Soft thread) = thread < most_threads
+IsMark (Hard thread) = thread < most_threads
+
+-- a mark that these settings allow
+abbrev pub IsMarkOf : Settings → Mark → Type 0
+IsMarkOf s (Up count) = count < s.failures
+IsMarkOf s (Soft thread) = thread < s.threads
+IsMarkOf s (Hard thread) = thread < s.threads
+
+-- the word of some mark and stamp
+pub record IsWord (word : ℕ) : Type 0 where
+  pub mark : Mark
+  pub stamp : ℕ
+  pub allowed : IsMark mark
+  pub below : stamp < stamp_end
+  pub is : word ≡ health_word mark stamp
+
+-- the word of some stamp and a mark that these settings allow
+pub record IsWordOf (s : Settings) (word : ℕ) : Type 0 where
+  pub mark : Mark
+  pub stamp : ℕ
+  pub allowed : IsMarkOf s mark
+  pub below : stamp < stamp_end
+  pub is : word ≡ health_word mark stamp
+
+-- the mark that a body stands for
+abbrev pub mark_in : ℕ → Mark
+mark_in body =
+    if nat_lt body marked
+    then Up body
+    else (if (body - marked) % 2 == 0 then Soft ((body - marked) / 2) else Hard ((body - marked) / 2))
+
+-- the mark and the stamp that a health word holds
+unfoldable pub server_in : ℕ → ServerState
+server_in word = record { mark = mark_in (word % body_size); stamp = word / body_size }

@@ -1,0 +1,26 @@
+//! The soft word.
+//!
+//! | Bits | Hold |
+//! |---|---|
+//! | 0 to 31 | *firm*: how many soft marks are settled |
+//! | 32 to 63 | *held*: how many slots for one more are in the hands of calls under way |
+ghost use Rattle.std.specs.Prelude.{◌≡◌};
+ghost use Rattle.tko_word.specs.Words.{soft_word};
+
+const HELD_SHIFT: u32 = 32;
+
+const FIRM_MASK: u64 = (1 << HELD_SHIFT) - 1;
+
+/// The soft word of these two counts.
+pub fn pack_soft(firm: u32, held: u32) -> u64
+    ensures { result ≡ soft_word firm held }
+{
+    ((held as u64) << HELD_SHIFT) | firm as u64
+}
+
+/// The two counts that a soft word holds: firm, and held. Each word has one reading.
+pub fn unpack_soft(word: u64) -> (u32, u32)
+    ensures { soft_word result.0 result.1 ≡ word }
+{
+    ((word & FIRM_MASK) as u32, (word >> HELD_SHIFT) as u32)
+}
