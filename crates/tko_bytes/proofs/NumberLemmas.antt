@@ -1,0 +1,84 @@
+-- Decimal numbers, as std's `parse` reads them.
+use Rattle.std.proofs.Common.{◌≡◌, ℕ, ◌^◌, ◌<◌, ◌≤◌, Bool, true, false, ◌&&◌, cond, List, [], ◌∷◌, Some, None, length, refl, sym, ap, ◌∙◌, inl, inr, arith, rules}
+use Rattle.std.specs.Bool.{then_some}
+use Rattle.std.specs.Char.{is_ascii_digit}
+use Rattle.std.specs.Fmt.{decimal}
+use Rattle.std.specs.List.{list_all}
+use Rattle.std.specs.Prelude.{nat_le}
+use Rattle.std.specs.Str.{IsUtf8}
+use Rattle.std.specs.Str.Parse.{digits_value}
+use Rattle.std.proofs.lemmas.Bool.{cond-true, cond-false, lt-ltb, le-leb, lt-leb, cases_lt}
+use Rattle.std.proofs.lemmas.Fmt.{IsAscii-from_digits, decimal_is_IsNumeral}
+use Rattle.std.proofs.lemmas.Str.{IsUtf8-from_ascii}
+use Rattle.std.proofs.lemmas.Str.Parse.{IsNumeralModel, numerals_by_value}
+use Rattle.tko_bytes.specs.Numbers.{number_of}
+
+-- these are words of digits
+abbrev pub AreDigits : List ℕ → Type 0
+AreDigits word = list_all is_ascii_digit word ≡ true
+
+pub own : IsNumeralModel AreDigits (digits_value 10)
+own = numerals_by_value AreDigits (search rules)
+
+pub digits_are_utf8 : (word : List ℕ) → AreDigits word → IsUtf8 word
+digits_are_utf8 word digits = IsUtf8-from_ascii word (IsAscii-from_digits word (own.to word digits))
+
+-- the number of a word of digits
+number_of-digits : (most : ℕ) (word : List ℕ) → AreDigits word → 0 < length word
+    → number_of most word ≡ cond (nat_le (digits_value 10 word) most) (Some (digits_value 10 word)) None
+unfolding number_of
+number_of-digits most word digits some = rw (lt-ltb 0 (length word) some, digits) refl
+
+and_false : (b : Bool) → b && false ≡ false
+and_false true = refl
+and_false false = refl
+
+pub number_of-other : (most : ℕ) (word : List ℕ) → list_all is_ascii_digit word ≡ false → None ≡ number_of most word
+unfolding number_of
+number_of-other most word other = rw (other, and_false) refl
+
+number_of-empty : (most : ℕ) (word : List ℕ) → length word ≤ 0 → number_of most word ≡ None
+unfolding number_of
+number_of-empty most [] e = refl
+number_of-empty most (b ∷ bs) e = absurd (omega arith)
+
+number_of-above : (most : ℕ) (word : List ℕ) → AreDigits word → 0 < length word → most < digits_value 10 word
+    → number_of most word ≡ None
+number_of-above most word digits some above =
+    number_of-digits most word digits some ∙ cond-false _ _ _ (lt-leb (digits_value 10 word) most above)
+
+number_of-within : (most : ℕ) (word : List ℕ) → AreDigits word → 0 < length word → digits_value 10 word ≤ most
+    → number_of most word ≡ Some (digits_value 10 word)
+number_of-within most word digits some within =
+    number_of-digits most word digits some ∙ cond-true _ _ _ (le-leb (digits_value 10 word) most within)
+
+-- a word of digits that isn't read
+pub number_failed : (most : ℕ) (word : List ℕ) → most < 2 ^ 64 → AreDigits word
+    → ¬ ((0 < length word) × (digits_value 10 word < 2 ^ 64)) → None ≡ number_of most word
+number_failed most word bound digits fails =
+    sym (elim (cases_lt 0 (length word)) [
+      | inl some ↦ number_of-above most word digits some (elim (cases_lt most (digits_value 10 word)) [
+        | inl above ↦ above
+        | inr small ↦ absurd (fails (some, omega arith))
+      ])
+      | inr empty ↦ number_of-empty most word empty
+    ])
+
+-- a word of digits that is read
+pub number_read : (most : ℕ) (word : List ℕ) (value : ℕ) → AreDigits word
+    → 0 < length word → value ≡ digits_value 10 word → then_some (nat_le value most) value ≡ number_of most word
+number_read most word value digits some is = elim (cases_lt most value) [
+  | inl above ↦
+      ap (λ b. then_some b value) (lt-leb value most above)
+      ∙ sym (number_of-above most word digits some (omega arith))
+  | inr within ↦
+      ap (λ b. then_some b value) (le-leb value most within) ∙ ap (λ n. Some n) is
+      ∙ sym (number_of-within most word digits some (omega arith))
+]
+
+-- a printed number is read as that number
+pub number_of-decimal : (most n : ℕ) → n < 2 ^ 64 → n ≤ most → number_of most (decimal n) ≡ Some n
+number_of-decimal most n bound few =
+    let is = decimal_is_IsNumeral n bound in
+    number_of-within most (decimal n) (own.from (decimal n) is.0.1) is.0.0 (omega (arith, is.1))
+    ∙ ap (λ k. Some k) is.1

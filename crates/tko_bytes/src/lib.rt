@@ -1,0 +1,26 @@
+//! Bytes of text formats, as every crate above reads and writes them.
+//!
+//! - `NoMemory`: memory ran out.
+//! - `number`: the number that a word of decimal digits writes.
+//! - `split_line`, `content`, `first_line`: lines, which end with LF or CR LF.
+//! - `split_word`, `is_word`: words, which any number of spaces separate.
+//! - `Fields`: fields, which single spaces separate.
+//! - `append`: several pieces at the end of a buffer, or none of them.
+#![tactic(auto)]
+
+mod appending;
+mod fields;
+mod lines;
+mod memory;
+mod numbers;
+mod words;
+
+pub use appending::append;
+pub use fields::Fields;
+pub use lines::{content, first_line, split_line};
+pub use memory::NoMemory;
+pub use numbers::number;
+pub use words::{is_word, split_word};
+
+#[cfg(test)]
+mod tests;
