@@ -3,7 +3,7 @@ use Rattle.std.specs.Prelude.{ℕ, ◌+◌, List, [], ◌∷◌, ◌++◌, codes
 use Rattle.tko_route.specs.declared.attempt.Attempt.{Attempt}
 use Rattle.tko_route.specs.declared.attempt.Attempt.TheVariants as attempt
 use Rattle.tko_route.specs.Trail.{server_of}
-use Rattle.tko_runs.specs.Texts.{mark_text, reply_text}
+use Rattle.tko_model.specs.Texts.{mark_text, reply_text}
 use Rattle.tko_route.specs.declared.links.Outcome.{Outcome}
 use Rattle.tko_route.specs.declared.links.Outcome.TheVariants as outcome
 

@@ -5,9 +5,9 @@ ghost use Rattle.tko_cli.specs.Texts.{attempt_text, end_text, outcome_text, trai
 ghost use Rattle.tko_route.specs.Trail.{server_of};
 
 use std::alloc::{AllocError, Global};
+use tko_model::{append_mark, append_number, append_reply};
 use tko_route::links::Outcome;
 use tko_route::{Attempt, Trail};
-use tko_runs::{append_mark, append_number, append_reply};
 
 /// The lines of the trails of all routed requests, which are numbered from 1.
 pub(crate) fn trail_lines(alloc: Global, trails: &[Trail]) -> Result<Vec<u8>, AllocError>

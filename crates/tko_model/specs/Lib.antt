@@ -1,4 +1,5 @@
 pub mod Looks
 pub mod Ranges
 pub mod Records
+pub mod Texts
 pub mod Tracker

@@ -9,72 +9,74 @@ use Rattle.tko_model.specs.declared.mark.Reply.{Reply}
 use Rattle.tko_model.specs.declared.mark.Reply.TheVariants as reply
 use Rattle.tko_model.specs.declared.state.ServerState.{ServerState}
 use Rattle.tko_model.specs.declared.settings.Settings.{Settings}
-use Rattle.tko_model.specs.declared.verdict.Verdict.{Verdict}
+use Rattle.tko_model.specs.declared.transition.Transition.{Transition}
+use Rattle.tko_model.specs.Looks.{look_reply}
 use Rattle.tko_model.specs.Ranges.{IsWithinRanges, worn}
 
--- it answers, and nothing changes
-abbrev pub stays : Reply → Verdict
+-- a reply that changes nothing
+abbrev pub stays : Reply → Transition
 stays answer = record { reply = answer; change = None }
 
--- the server gets this mark
-abbrev pub becomes : Mark → Reply → Verdict
+-- a reply with which the server gets this mark
+abbrev pub becomes : Mark → Reply → Transition
 becomes mark answer = record { reply = answer; change = Some mark }
 
 -- on a server that another thread marked
-abbrev pub on_others : Op → Mark → Verdict
-on_others LookUp mark = stays (reply.Marked mark)
+abbrev pub on_others : Op → Mark → Transition
+on_others LookUp mark = stays (look_reply mark)
 on_others SoftFailure mark = stays (reply.Already mark)
 on_others HardFailure mark = stays (reply.Already mark)
 on_others Success mark = stays (reply.Already mark)
 on_others Release mark = stays (reply.NotMine mark)
 
 -- on the thread's own soft mark
-abbrev pub on_own_soft : ℕ → Op → Verdict
-on_own_soft thread LookUp = stays (reply.Marked (Soft thread))
+abbrev pub on_own_soft : ℕ → Op → Transition
+on_own_soft thread LookUp = stays (look_reply (Soft thread))
 on_own_soft thread SoftFailure = stays (reply.Already (Soft thread))
 on_own_soft thread HardFailure = becomes (Hard thread) reply.Hardened
 on_own_soft thread Success = becomes (Up 0) (reply.Unmarked (Soft thread))
 on_own_soft thread Release = becomes (Up 0) (reply.Released (Soft thread))
 
 -- on the thread's own hard mark
-abbrev pub on_own_hard : ℕ → Op → Verdict
-on_own_hard thread LookUp = stays (reply.Marked (Hard thread))
+abbrev pub on_own_hard : ℕ → Op → Transition
+on_own_hard thread LookUp = stays (look_reply (Hard thread))
 on_own_hard thread SoftFailure = stays (reply.Already (Hard thread))
 on_own_hard thread HardFailure = stays (reply.Already (Hard thread))
 on_own_hard thread Success = becomes (Up 0) (reply.Unmarked (Hard thread))
 on_own_hard thread Release = becomes (Up 0) (reply.Released (Hard thread))
 
--- a soft failure on an unmarked server with this count, which isn't worn: it is counted, or it is
--- the one that marks, where one more soft mark is allowed
-abbrev pub on_soft_failure : Settings → ℕ → ℕ → ℕ → Verdict
-on_soft_failure s softs thread count =
+-- a soft failure on an unmarked server with this count, which isn't worn: it is counted, or it
+-- marks the server, where there is room for one more soft mark
+abbrev pub on_soft_failure : Settings → Bool → ℕ → ℕ → Transition
+on_soft_failure s room thread count =
     if nat_lt (count + 1) s.failures
     then becomes (Up (count + 1)) (reply.Counted (count + 1))
-    else (if nat_lt softs s.limit then becomes (Soft thread) reply.TookSoft else stays reply.Full)
+    else (if room then becomes (Soft thread) reply.TookSoft else stays reply.Full)
 
--- a worn server takes no change
-abbrev pub unless_worn : ℕ → Verdict → Verdict
-unless_worn stamp verdict = if nat_le worn stamp then stays reply.Worn else verdict
+-- a worn server does not change
+abbrev pub unless_worn : ℕ → Transition → Transition
+unless_worn stamp given = if nat_le worn stamp then stays reply.Worn else given
 
--- on an unmarked server with this count of soft failures, where there are so many soft marks
-abbrev pub on_unmarked : Settings → ℕ → ℕ → Op → ℕ → ℕ → Verdict
-on_unmarked s softs thread LookUp count stamp = stays (reply.Up count)
-on_unmarked s softs thread SoftFailure count stamp =
-    unless_worn stamp (on_soft_failure s softs thread count)
-on_unmarked s softs thread HardFailure count stamp =
+-- on an unmarked server with this count of soft failures
+abbrev pub on_unmarked : Settings → Bool → ℕ → Op → ℕ → ℕ → Transition
+on_unmarked s room thread LookUp count stamp = stays (look_reply (Up count))
+on_unmarked s room thread SoftFailure count stamp =
+    unless_worn stamp (on_soft_failure s room thread count)
+on_unmarked s room thread HardFailure count stamp =
     unless_worn stamp (becomes (Hard thread) reply.TookHard)
-on_unmarked s softs thread Success count stamp =
+on_unmarked s room thread Success count stamp =
     if count == 0
     then stays reply.Clean
     else unless_worn stamp (becomes (Up 0) (reply.Reset count))
-on_unmarked s softs thread Release count stamp = stays (reply.NotMine (Up count))
+on_unmarked s room thread Release count stamp = stays (reply.NotMine (Up count))
 
--- the whole table, where there are so many soft marks
-abbrev pub verdict : Settings → ℕ → ℕ → Op → Mark → ℕ → Verdict
-verdict s softs thread op (Up count) stamp = on_unmarked s softs thread op count stamp
-verdict s softs thread op (Soft owner) stamp =
+-- the whole table: what an operation of a thread does to a server with this mark and stamp, by
+-- whether there is room for one more soft mark
+abbrev pub transition : Settings → Bool → ℕ → Op → Mark → ℕ → Transition
+transition s room thread op (Up count) stamp = on_unmarked s room thread op count stamp
+transition s room thread op (Soft owner) stamp =
     if owner == thread then on_own_soft thread op else on_others op (Soft owner)
-verdict s softs thread op (Hard owner) stamp =
+transition s room thread op (Hard owner) stamp =
     if owner == thread then on_own_hard thread op else on_others op (Hard owner)
 
 -- a tracker: its settings, and the servers in the order of their numbers
@@ -82,7 +84,7 @@ pub record Tracker : Type 0 where
   pub settings : Settings
   pub servers : List ServerState
 
--- a server of that number; one that isn't there would be as new
+-- the server of that number
 abbrev pub server_at : List ServerState → ℕ → ServerState
 server_at servers server = slice_index_or servers server (record { mark = Up 0; stamp = 0 })
 
@@ -96,11 +98,16 @@ is_soft (Hard thread) = false
 abbrev pub softs : List ServerState → ℕ
 softs servers = count_by (λ server. is_soft server.mark) servers
 
+-- whether there is room for one more soft mark where there are so many
+abbrev pub has_room : Settings → ℕ → Bool
+has_room s marked = nat_lt marked s.limit
+
 -- what an operation of a thread on a server answers and changes
-abbrev pub verdict_on : Tracker → ℕ → Op → ℕ → Verdict
-verdict_on tracker thread op server =
+abbrev pub transition_on : Tracker → ℕ → Op → ℕ → Transition
+transition_on tracker thread op server =
     let it = server_at tracker.servers server in
-    verdict tracker.settings (softs tracker.servers) thread op it.mark it.stamp
+    let room = has_room tracker.settings (softs tracker.servers) in
+    transition tracker.settings room thread op it.mark it.stamp
 
 -- the servers after a change of one of them: its stamp is one more
 abbrev pub changed : List ServerState → ℕ → Option Mark → List ServerState
@@ -110,26 +117,28 @@ changed servers server (Some mark) =
 
 -- the reply of the sequential tracker
 abbrev pub reply_of : Tracker → ℕ → Op → ℕ → Reply
-reply_of tracker thread op server = (verdict_on tracker thread op server).reply
+reply_of tracker thread op server = (transition_on tracker thread op server).reply
 
 -- the sequential tracker after an operation
 abbrev pub after : Tracker → ℕ → Op → ℕ → Tracker
 after tracker thread op server =
-    record tracker { servers = changed tracker.servers server (verdict_on tracker thread op server).change }
+    let change = (transition_on tracker thread op server).change in
+    record tracker { servers = changed tracker.servers server change }
 
 -- a tracker as it opens: each server up, without failures
 abbrev pub opened : Settings → Tracker
 opened s =
-    record { settings = s; servers = replicate s.servers (record { mark = Up 0; stamp = s.opening_stamp }) }
+    let server : ServerState = record { mark = Up 0; stamp = s.opening_stamp } in
+    record { settings = s; servers = replicate s.servers server }
 
--- a mark and a stamp that can stand together: only the change of a server that isn't worn, and what
--- its thread does with the mark that it then has, go past the worn stamp
+-- a mark and a stamp that a server can have together: past the worn stamp come only the last change
+-- of a server that is not worn yet, and the changes that the marking thread then makes
 abbrev pub IsFit : Settings → Mark → ℕ → Type 0
 IsFit s (Up count) stamp = (count < s.failures) × (stamp ≤ worn + 2)
 IsFit s (Soft thread) stamp = stamp ≤ worn
 IsFit s (Hard thread) stamp = stamp ≤ worn + 1
 
--- what holds of each tracker that was opened
+-- what holds of each opened tracker, whatever was applied to it
 pub record IsTracker (tracker : Tracker) : Type 0 where
   pub settings : IsWithinRanges tracker.settings
   pub count : length tracker.servers ≡ tracker.settings.servers

@@ -2,9 +2,11 @@
 //!
 //! - `Settings`: how many servers and threads there are, and when a server is marked.
 //! - `Mark`: what is known of a server's health, and which thread marked it.
-//! - `Op` and `Reply`: what may be asked of a tracker, and each answer that it gives.
-//! - `Look` and `Clear`: what a look-up found, and the leave to send once.
-//! - `Plain`: the tracker of one thread, which is the meaning of all others.
+//! - `Op` and `Reply`: the operations of a tracker, and its replies.
+//! - `Transition`: what an operation answers and changes, decided for one server.
+//! - `Look` and `Clear`: what a look-up found, and the permission to send one request.
+//! - `Plain`: the sequential tracker, which defines what all other trackers do.
+//! - `append_mark`, `append_reply`, `op_word`: marks, replies and operations as text.
 #![tactic(auto)]
 
 mod look;
@@ -12,14 +14,21 @@ mod mark;
 mod plain;
 mod settings;
 mod state;
-mod verdict;
+mod text;
+mod transition;
 
 pub use look::{Clear, Look};
 pub use mark::{Mark, Op, Reply};
 pub use plain::{OpenFault, Plain};
-pub use settings::{Settings, SettingsFault};
+pub use settings::{
+    MAX_FAILURES, MAX_LIMIT, MAX_SERVERS, MAX_THREADS, MAX_TRIES, Settings, SettingsFault,
+    WORN_STAMP,
+};
 pub use state::{ServerState, count_softs, opened_servers};
-pub use verdict::Verdict;
+pub use text::{append_mark, append_number, append_reply, op_word};
+pub use transition::Transition;
 
 #[cfg(test)]
 mod tests;
+#[cfg(test)]
+mod text_tests;

@@ -1,11 +1,13 @@
-//! What a look-up found, and the leave to send.
+//! What a look-up found, and the permission to send.
 ghost use Rattle.std.specs.Prelude.{◌≡◌};
+ghost use Rattle.tko_model.specs.Looks.{look_reply};
 
-use crate::Mark;
+use crate::{Mark, Reply};
 use std::marker::Model;
 
-/// The leave to send one request to one server. Contracts see the number of that server. It can be
-/// neither copied nor cloned, and a send takes it, so each send stands behind a look-up of its own.
+/// The permission to send one request to one server. In contracts it is that server's number. It
+/// can be neither copied nor cloned, and a send consumes it, so each send follows a look-up of its
+/// own.
 #[derive(Debug, Drop)]
 pub struct Clear {
     server: usize,
@@ -31,7 +33,7 @@ impl Clear {
 /// What a look-up of a server found.
 #[derive(Debug, Drop)]
 pub enum Look {
-    /// Unmarked, with this count of soft failures: it may be sent to once.
+    /// Unmarked, with this count of soft failures: one request may be sent to it.
     Up(u32, Clear),
     Marked(Mark),
 }
@@ -43,9 +45,19 @@ impl Look {
     pub fn of(server: usize, mark: Mark) -> Look
         ensures { result ≡ look_of server mark }
     {
-        match mark {
-            Mark::Up(count) => Look::Up(count, Clear { server }),
-            Mark::Soft(_) | Mark::Hard(_) => Look::Marked(mark),
+        match look_reply(mark) {
+            Reply::Up(count) => Look::Up(count, Clear { server }),
+            _ => Look::Marked(mark),
         }
+    }
+}
+
+/// The tracker's reply to a look-up of a server with this mark.
+pub(crate) fn look_reply(mark: Mark) -> Reply
+    ensures { result ≡ look_reply mark }
+{
+    match mark {
+        Mark::Up(count) => Reply::Up(count),
+        Mark::Soft(_) | Mark::Hard(_) => Reply::Marked(mark),
     }
 }

@@ -11,7 +11,8 @@ pub enum Mark {
     Hard(u32),
 }
 
-/// What a thread may ask of a tracker.
+/// What a thread does with a server: it looks up its mark, reports how a request went, or gives up
+/// its own mark.
 #[derive(Clone, Copy, Debug, PartialEq, Eq)]
 pub enum Op {
     LookUp,
@@ -21,7 +22,7 @@ pub enum Op {
     Release,
 }
 
-/// What a tracker answers.
+/// What a tracker replies to an operation.
 #[derive(Clone, Copy, Debug, PartialEq, Eq)]
 pub enum Reply {
     /// A look-up found the server unmarked, with this count of soft failures.
@@ -31,25 +32,25 @@ pub enum Reply {
     /// A soft failure was counted; this is the new count.
     Counted(u32),
     TookSoft,
-    /// The limit of soft marks is reached, so none was made.
+    /// The limit of soft marks is reached, so the server was not marked.
     Full,
     /// The server was marked already, and nothing changed.
     Already(Mark),
     /// The server's stamp is used up, and nothing changed.
     Worn,
-    /// Other threads won every try, and nothing changed.
+    /// Every try lost to another thread, and nothing changed.
     Contended,
     TookHard,
     /// The thread's own soft mark became a hard one.
     Hardened,
     /// A success on a server without failures.
     Clean,
-    /// A success put this count back to 0.
+    /// A success reset the count, which was this, to 0.
     Reset(u32),
-    /// A success of the responsible thread took this mark away.
+    /// A success of the thread that made this mark removed it.
     Unmarked(Mark),
-    /// The responsible thread gave this mark up.
+    /// The thread that made this mark released it.
     Released(Mark),
-    /// A release of what the thread hasn't marked.
+    /// A release of a server that the thread has not marked.
     NotMine(Mark),
 }

@@ -3,8 +3,7 @@ ghost use Rattle.std.specs.Prelude.{◌≡◌, ◌<◌, ◌↔◌, Some, IfOk, l
 ghost use Rattle.tko_model.specs.Ranges.{first_fault};
 
 use crate::state::{count_softs, opened_servers};
-use crate::verdict::Verdict;
-use crate::{Mark, Op, Reply, ServerState, Settings, SettingsFault};
+use crate::{Mark, Op, Reply, ServerState, Settings, SettingsFault, Transition};
 use std::alloc::{AllocError, Global};
 use std::marker::Model;
 use thiserror::Error;
@@ -29,7 +28,7 @@ impl From<AllocError> for OpenFault {
     }
 }
 
-/// The sequential tracker. Contracts see its settings and the list of its servers.
+/// The sequential tracker. In contracts it is its settings and the list of its servers.
 #[derive(Debug, Drop)]
 pub struct Plain {
     settings: Settings,
@@ -42,15 +41,21 @@ impl Model for Plain {
 
     ghost Value = { Tracker };
 
-    ghost view = { λ p. record { settings = p.settings; servers = p.servers.items } };
+    ghost view = { λ p. record {
+      settings = p.settings;
+      servers = p.servers.items;
+    } };
 
-    ghost invariant = { λ p. IsTracker (record { settings = p.settings; servers = p.servers.items }) };
+    ghost invariant = { λ p. IsTracker (record {
+      settings = p.settings;
+      servers = p.servers.items;
+    }) };
 }
 
 impl Plain {
     ghost use Rattle.tko_model.specs.Tracker.{IsTracker, after, opened, reply_of, server_at};
 
-    /// All servers are up, at the opening stamp.
+    /// Opens a tracker whose servers are all up, at the opening stamp.
     pub fn open(alloc: Global, settings: Settings) -> Result<Plain, OpenFault>
         ensures ok { IfOk result (λ tracker. tracker ≡ opened settings) }
         ensures settings { (fault : SettingsFault) →
@@ -63,7 +68,7 @@ impl Plain {
         Ok(Plain { settings, servers })
     }
 
-    /// Does one operation of a thread on a server, and answers it.
+    /// Does one operation of a thread on a server and returns its reply.
     pub fn apply(&mut self, thread: u32, op: Op, server: usize) -> Reply
         requires thread { thread < self.old.settings.threads }
         requires server { server < length self.old.servers }
@@ -71,15 +76,15 @@ impl Plain {
         ensures state { self.new ≡ after self.old thread op server }
     {
         let old = self.servers[server];
-        let softs = count_softs(&self.servers);
-        let verdict = Verdict::of(&self.settings, softs, thread, op, old);
-        if let Some(mark) = verdict.change {
+        let room = self.settings.has_room(count_softs(&self.servers));
+        let transition = Transition::of(&self.settings, room, thread, op, old);
+        if let Some(mark) = transition.change {
             self.servers[server] = ServerState {
                 mark,
                 stamp: old.stamp + 1,
             };
         }
-        verdict.reply
+        transition.reply
     }
 
     /// The mark of a server.
@@ -90,7 +95,7 @@ impl Plain {
         self.servers[server].mark
     }
 
-    /// The stamp of a server: the opening stamp, and one for each change of its mark.
+    /// The stamp of a server: the opening stamp plus the number of changes of its mark.
     pub fn stamp(&self, server: usize) -> u64
         requires { server < length self.now.servers }
         ensures { result ≡ (server_at self.now.servers server).stamp }

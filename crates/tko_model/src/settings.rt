@@ -4,32 +4,38 @@ ghost use Rattle.tko_model.specs.Ranges.{IsWithinRanges, first_fault};
 
 use thiserror::Error;
 
-const MAX_SERVERS: u32 = 256;
+/// The most servers that a tracker has.
+pub const MAX_SERVERS: u32 = 256;
 
-const MAX_THREADS: u32 = 64;
+/// The most threads that a tracker has.
+pub const MAX_THREADS: u32 = 64;
 
-const MAX_FAILURES: u32 = 1_000;
+/// The most soft failures in a row that it may take to mark a server.
+pub const MAX_FAILURES: u32 = 1_000;
 
-const MAX_LIMIT: u32 = 256;
+/// The most soft marks that may be allowed at once.
+pub const MAX_LIMIT: u32 = 256;
 
-const MAX_TRIES: u32 = 1_000;
+/// The most tries that a call may be given.
+pub const MAX_TRIES: u32 = 1_000;
+
 /// From this stamp on an unmarked server takes no more changes, so that a stamp stays below 2^51.
-pub(crate) const WORN_STAMP: u64 = (1 << 51) - 8;
+pub const WORN_STAMP: u64 = (1 << 51) - 8;
 
 /// What a tracker is opened with.
 #[derive(Clone, Copy, Debug, PartialEq, Eq)]
 pub struct Settings {
-    /// 1 to 256.
+    /// 1 to `MAX_SERVERS`.
     pub servers: u32,
-    /// 1 to 64.
+    /// 1 to `MAX_THREADS`.
     pub threads: u32,
-    /// How many soft failures in a row mark a server, 1 to 1,000.
+    /// How many soft failures in a row mark a server, 1 to `MAX_FAILURES`.
     pub failures: u32,
-    /// How many soft marks there may be at once, 0 to 256.
+    /// How many soft marks there may be at once, 0 to `MAX_LIMIT`.
     pub limit: u32,
-    /// How many tries a call may lose to other threads before it gives up, 1 to 1,000.
+    /// How many tries a call may lose to other threads before it gives up, 1 to `MAX_TRIES`.
     pub tries: u32,
-    /// Each server's stamp at the start, up to 2^51 - 8.
+    /// Each server's stamp at the start, up to `WORN_STAMP`.
     pub opening_stamp: u64,
 }
 
@@ -51,7 +57,9 @@ pub enum SettingsFault {
 }
 
 impl Settings {
-    /// Answers the first setting outside its range, in the order of the fields.
+    ghost use Rattle.tko_model.specs.Tracker.{has_room};
+
+    /// Refuses the first setting outside its range, in the order of the fields.
     pub fn check(&self) -> Result<(), SettingsFault>
         ensures ok { IsOk result ↔ IsWithinRanges self.now }
         ensures err { (fault : SettingsFault) →
@@ -76,5 +84,11 @@ impl Settings {
             return Err(SettingsFault::Stamp);
         }
         Ok(())
+    }
+    /// Whether there is room for one more soft mark where there are so many.
+    pub fn has_room(&self, softs: usize) -> bool
+        ensures { result ≡ has_room self.now softs }
+    {
+        softs < self.limit as usize
     }
 }

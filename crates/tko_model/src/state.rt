@@ -1,18 +1,19 @@
-//! What is kept of a server.
+//! The state of a server.
 ghost use Rattle.std.specs.Prelude.{◌≡◌, IfOk, length};
 ghost use Rattle.tko_model.specs.Tracker.{opened, softs};
 
 use crate::{Mark, Settings};
 use std::alloc::{AllocError, Global};
 
-/// What a tracker keeps of a server: its mark, and the opening stamp with one for each change of the mark.
+/// The state of a server: its mark, and its stamp, which is the opening stamp plus the number of
+/// changes of the mark.
 #[derive(Clone, Copy, Debug, PartialEq, Eq)]
 pub struct ServerState {
     pub mark: Mark,
     pub stamp: u64,
 }
 
-/// How many servers have a soft mark. They are counted anew each time, so no count can go wrong.
+/// How many servers have a soft mark, counted anew at each call.
 pub fn count_softs(servers: &[ServerState]) -> usize
     ensures { result ≡ softs servers.now }
 {
@@ -22,7 +23,7 @@ pub fn count_softs(servers: &[ServerState]) -> usize
         .count()
 }
 
-/// The servers as a tracker opens: each is up, at the opening stamp.
+/// The servers of a tracker when it opens: each is up, at the opening stamp.
 pub fn opened_servers(alloc: Global, settings: &Settings) -> Result<Vec<ServerState>, AllocError>
     ensures servers { IfOk result (λ servers. servers.items ≡ (opened settings.now).servers) }
     ensures count { IfOk result (λ servers. length servers.items ≡ settings.now.servers) }

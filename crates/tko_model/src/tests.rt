@@ -1,4 +1,4 @@
-//! The tracker against its tables, by hand.
+//! Replies of the tracker that were worked out by hand.
 
 use crate::{Mark, Op, OpenFault, Plain, Reply, Settings, SettingsFault};
 use std::process::Abort;
@@ -13,7 +13,7 @@ const SETTINGS: Settings = Settings {
     opening_stamp: 0,
 };
 
-/// Applies an operation whose numbers are in range, as the test's table has them.
+/// Applies an operation whose thread and server are in range.
 fn answer(rt: &impl Abort, tracker: &mut Plain, thread: u32, op: Op, server: usize) -> Reply {
     assert!(rt; thread < tracker.settings().threads);
     assert!(rt; server < tracker.settings().servers as usize);

@@ -5,7 +5,7 @@ use Rattle.tko_model.specs.declared.mark.Mark.{Mark}
 use Rattle.tko_model.specs.declared.mark.Op.{Op}
 use Rattle.tko_model.specs.declared.state.ServerState.{ServerState}
 use Rattle.tko_model.specs.Records.{Gains, HealthItem, Lead}
-use Rattle.tko_model.specs.Tracker.{Tracker, after, changed, verdict_on}
+use Rattle.tko_model.specs.Tracker.{Tracker, after, changed, transition_on}
 use Rattle.tko_route.specs.Health.{IsReplay, IsTrackerStep, OneThread, RepliesAreOf, after_all}
 
 length_changed : (servers : List ServerState) (server : ℕ) (change : Option Mark)
@@ -17,7 +17,7 @@ length_changed servers server (Some mark) = length-set _ _ _
 pub length_after : (tracker : Tracker) (thread : ℕ) (op : Op) (server : ℕ)
     → length (after tracker thread op server).servers ≡ length tracker.servers
 length_after tracker thread op server =
-    length_changed tracker.servers server (verdict_on tracker thread op server).change
+    length_changed tracker.servers server (transition_on tracker thread op server).change
 
 replay : (old new : OneThread) (items : List HealthItem) → Lead IsTrackerStep old items new → IsReplay old items new
 replay old new [] e = record { replies = tt; tracker = ap (λ (at : OneThread). at.tracker) e; thread = ap (λ (at : OneThread). at.thread) e }

@@ -9,8 +9,8 @@ use Rattle.tko_model.specs.declared.mark.Op.TheVariants.{LookUp, SoftFailure, Ha
 use Rattle.tko_model.specs.declared.mark.Reply.{Reply}
 use Rattle.tko_model.specs.declared.settings.Settings.{Settings}
 use Rattle.tko_model.specs.declared.state.ServerState.{ServerState}
-use Rattle.tko_model.specs.declared.verdict.Verdict.{Verdict}
-use Rattle.tko_model.specs.Tracker.{becomes, on_others, on_own_hard, on_own_soft, on_unmarked, stays, verdict}
+use Rattle.tko_model.specs.declared.transition.Transition.{Transition}
+use Rattle.tko_model.specs.Tracker.{becomes, on_others, on_own_hard, on_own_soft, on_unmarked, has_room, stays, transition}
 use Rattle.tko_model.specs.Ranges.{worn}
 use Rattle.tko_runs.specs.Orders.{CanBecome, with_change}
 use Rattle.tko_steps.specs.Core.{owner_of}
@@ -19,10 +19,10 @@ use Rattle.tko_steps.specs.Core.{owner_of}
 abbrev taker : Mark → Mark → ℕ
 taker new mark = unwrap_or (option_or (owner_of new) (owner_of mark)) 0
 
--- what this verdict on an operation of a thread changes, the operation changes for the thread that the
+-- what this transition by an operation of a thread changes, the operation changes for the thread that the
 -- change names, without soft marks
-record IsTakers (s : Settings) (thread : ℕ) (op : Op) (mark : Mark) (stamp : ℕ) (given : Verdict) : Type 0 where
-  same : (new : Mark) → given.change ≡ Some new → (verdict s 0 (taker new mark) op mark stamp).change ≡ Some new
+record IsTakers (s : Settings) (thread : ℕ) (op : Op) (mark : Mark) (stamp : ℕ) (given : Transition) : Type 0 where
+  same : (new : Mark) → given.change ≡ Some new → (transition s (has_room s 0) (taker new mark) op mark stamp).change ≡ Some new
   low : (new : Mark) → given.change ≡ Some new → taker new mark ≤ thread
 
 module _ (s : Settings) (thread : ℕ) (op : Op) (mark : Mark) (stamp : ℕ) where
@@ -30,13 +30,13 @@ module _ (s : Settings) (thread : ℕ) (op : Op) (mark : Mark) (stamp : ℕ) whe
   stays-takers reply = record { same = λ new e. absurd cc; low = λ new e. absurd cc }
 
   becomes-takers : (new : Mark) (reply : Reply)
-      → (verdict s 0 (taker new mark) op mark stamp).change ≡ Some new → taker new mark ≤ thread
+      → (transition s (has_room s 0) (taker new mark) op mark stamp).change ≡ Some new → taker new mark ≤ thread
       → IsTakers s thread op mark stamp (becomes new reply)
   becomes-takers new reply same low =
       record {
         same = λ other e.
             let one : new ≡ other = cc in
-            let P : Mark → Type 0 = λ it. (verdict s 0 (taker it mark) op mark stamp).change ≡ Some it in
+            let P : Mark → Type 0 = λ it. (transition s (has_room s 0) (taker it mark) op mark stamp).change ≡ Some it in
             subst P one same;
         low = λ other e.
             let one : new ≡ other = cc in
@@ -44,8 +44,8 @@ module _ (s : Settings) (thread : ℕ) (op : Op) (mark : Mark) (stamp : ℕ) whe
             subst P one low;
       }
 
-  -- where a test decides between two verdicts
-  either-takers : (test : Bool) (one other : Verdict)
+  -- where a test decides between two transitions
+  either-takers : (test : Bool) (one other : Transition)
       → (test ≡ true → IsTakers s thread op mark stamp one)
       → (test ≡ false → IsTakers s thread op mark stamp other)
       → IsTakers s thread op mark stamp (cond test one other)
@@ -79,7 +79,7 @@ module _ (s : Settings) (softs thread stamp : ℕ) where
   on_own_hard-takers Release =
       becomes-takers s thread _ (Hard thread) stamp (Up 0) _ (rw (eq-eqb thread thread refl)) (omega arith)
 
-  on_unmarked-takers : (op : Op) (count : ℕ) → IsTakers s thread op (Up count) stamp (on_unmarked s softs thread op count stamp)
+  on_unmarked-takers : (op : Op) (count : ℕ) → IsTakers s thread op (Up count) stamp (on_unmarked s (has_room s softs) thread op count stamp)
   on_unmarked-takers LookUp count = stays-takers s thread _ (Up count) stamp _
   on_unmarked-takers SoftFailure count =
       either-takers s thread SoftFailure (Up count) stamp (leb worn stamp) _ _ (λ _. stays-takers s thread _ (Up count) stamp _)
@@ -99,13 +99,13 @@ module _ (s : Settings) (softs thread stamp : ℕ) where
       (λ fresh. becomes-takers s thread Success (Up count) stamp (Up 0) _ (rw (some, fresh)) (omega arith)))
   on_unmarked-takers Release count = stays-takers s thread _ (Up count) stamp _
 
-  verdict-takers : (op : Op) (mark : Mark) → IsTakers s thread op mark stamp (verdict s softs thread op mark stamp)
-  verdict-takers op (Up count) = on_unmarked-takers op count
-  verdict-takers op (Soft owner) =
+  transition-takers : (op : Op) (mark : Mark) → IsTakers s thread op mark stamp (transition s (has_room s softs) thread op mark stamp)
+  transition-takers op (Up count) = on_unmarked-takers op count
+  transition-takers op (Soft owner) =
       either-takers s thread op (Soft owner) stamp (eqb owner thread) _ _
       (λ mine. let same : owner ≡ thread = eqb-true owner thread mine in rw same (on_own_soft-takers op))
       (λ _. on_others-takers op (Soft owner))
-  verdict-takers op (Hard owner) =
+  transition-takers op (Hard owner) =
       either-takers s thread op (Hard owner) stamp (eqb owner thread) _ _
       (λ mine. let same : owner ≡ thread = eqb-true owner thread mine in rw same (on_own_hard-takers op))
       (λ _. on_others-takers op (Hard owner))
@@ -113,15 +113,15 @@ module _ (s : Settings) (softs thread stamp : ℕ) where
 left_by : (s : Settings) (found left : ServerState) (op : Op) (change : Option Mark)
     → left ≡ with_change found change → (left ≡ found → ⊥)
     → ((new : Mark) → change ≡ Some new → (taker new found.mark < s.threads)
-    × ((verdict s 0 (taker new found.mark) op found.mark found.stamp).change ≡ Some new))
+    × ((transition s (has_room s 0) (taker new found.mark) op found.mark found.stamp).change ≡ Some new))
     → (taker left.mark found.mark < s.threads)
-    × (left ≡ with_change found (verdict s 0 (taker left.mark found.mark) op found.mark found.stamp).change)
+    × (left ≡ with_change found (transition s (has_room s 0) (taker left.mark found.mark) op found.mark found.stamp).change)
 left_by s found left op None leaves apart takes = absurd (apart leaves)
 left_by s found left op (Some new) leaves apart takes =
     let mark : new ≡ left.mark = sym (ap (λ (state : ServerState). state.mark) leaves) in
     let takes_it = takes new refl in
     let P : Mark → Type 0 = λ it. taker it found.mark < s.threads in
-    let Q : Mark → Type 0 = λ it. left ≡ with_change found (verdict s 0 (taker it found.mark) op found.mark found.stamp).change in
+    let Q : Mark → Type 0 = λ it. left ≡ with_change found (transition s (has_room s 0) (taker it found.mark) op found.mark found.stamp).change in
     (subst P mark takes_it.0, subst Q mark (leaves ∙ ap (with_change found) (sym takes_it.1)))
 
 -- what a server's word can become by some thread, where that changes it, it becomes by the thread that the change names
@@ -129,10 +129,10 @@ pub can_become-taker : (s : Settings) (found left : ServerState) (thread : ℕ) 
     → thread ≡ taker left.mark found.mark
     → (left ≡ found → ⊥)
     → ((op : Op) → thread < s.threads
-    → left ≡ with_change found (verdict s 0 thread op found.mark found.stamp).change → result ≡ true)
+    → left ≡ with_change found (transition s (has_room s 0) thread op found.mark found.stamp).change → result ≡ true)
     → CanBecome s found left → result ≡ true
 can_become-taker s found left thread result is apart all can =
-    let takers = verdict-takers s can.softs can.thread found.stamp can.op found.mark in
-    let by = left_by s found left can.op (verdict s can.softs can.thread can.op found.mark found.stamp).change can.leaves apart
+    let takers = transition-takers s can.softs can.thread found.stamp can.op found.mark in
+    let by = left_by s found left can.op (transition s (has_room s can.softs) can.thread can.op found.mark found.stamp).change can.leaves apart
     (λ new e. (omega (arith, takers.low new e, can.is_thread), takers.same new e)) in
     all can.op (rw is by.0) (rw is by.1)

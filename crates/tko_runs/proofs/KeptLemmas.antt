@@ -6,8 +6,8 @@ use Rattle.tko_model.specs.declared.mark.Op.{Op}
 use Rattle.tko_model.specs.declared.mark.Reply.{Reply}
 use Rattle.tko_model.specs.declared.settings.Settings.{Settings}
 use Rattle.tko_model.specs.declared.state.ServerState.{ServerState}
-use Rattle.tko_model.specs.declared.verdict.Verdict.{Verdict}
-use Rattle.tko_model.specs.Tracker.{changed, verdict_on}
+use Rattle.tko_model.specs.declared.transition.Transition.{Transition}
+use Rattle.tko_model.specs.Tracker.{changed, transition_on}
 use Rattle.tko_runs.specs.declared.calls.Calls.{Calls}
 use Rattle.tko_runs.specs.declared.event.Event.TheVariants.{Begin}
 use Rattle.tko_runs.specs.declared.judging.OwnCall.{OwnCall}
@@ -59,10 +59,10 @@ pub IsSight-shown : (s : Settings) (servers : List ServerState) (number : ℕ) (
     → sight.at ≡ own.at → number ≡ call.number → op ≡ call.op → on ≡ call.server → servers ≡ own.step.before
     → set servers server left ≡ own.step.after → IsSight s call own sight
 IsSight-shown s servers number op on server left sight call own shows at numbered asks on_server before after =
-    let one : Verdict = verdict_on (tracker_in s servers) number op on in
-    let other : Verdict = verdict_on (tracker_in s own.step.before) call.number call.op call.server in
+    let one : Transition = transition_on (tracker_in s servers) number op on in
+    let other : Transition = transition_on (tracker_in s own.step.before) call.number call.op call.server in
     let same : one ≡ other = rw (numbered, asks, on_server, before) refl in
-    let replies : one.reply ≡ other.reply = ap (λ (v : Verdict). v.reply) same in
+    let replies : one.reply ≡ other.reply = ap (λ (t : Transition). t.reply) same in
     let changes : changed servers on one.change ≡ changed own.step.before call.server other.change =
     rw (same, on_server, before) refl in
     record {

@@ -5,7 +5,7 @@ use Rattle.tko_model.specs.declared.mark.Mark.{Mark}
 use Rattle.tko_model.specs.declared.mark.Op.{Op}
 use Rattle.tko_model.specs.declared.settings.Settings.{Settings}
 use Rattle.tko_model.specs.declared.state.ServerState.{ServerState}
-use Rattle.tko_model.specs.Tracker.{after, changed, reply_of, server_at, softs, verdict, verdict_on}
+use Rattle.tko_model.specs.Tracker.{after, changed, reply_of, server_at, softs, has_room, transition, transition_on}
 use Rattle.tko_runs.specs.declared.event.Event.{Event}
 use Rattle.tko_runs.specs.declared.event.Event.TheVariants as event
 use Rattle.tko_runs.specs.Claims.{AllCome, CanCome, HasCall, IsIdle, moment_of, opened_roll, world_after, world_after_all, roll_of}
@@ -127,7 +127,7 @@ whole-world : (w : World) (thread number : ℕ) (op : Op) (server : ℕ) → ser
     (Some (reply_of w.core.tracker number op server)))
     ≡ stepped_from w thread (InCall number op server)
 whole-world w thread number op server inside stands =
-    rw (stands, set-changed (abstract_of w.core) server (verdict_on w.core.tracker number op server).change inside) refl
+    rw (stands, set-changed (abstract_of w.core) server (transition_on w.core.tracker number op server).change inside) refl
 
 Linked-whole : (s : Settings) (w : World) (thread number : ℕ) (op : Op) (server : ℕ) → Linked s w → IsLawful s w
     → thread < length w.core.threads → thread_at w.core thread ≡ InCall number op server
@@ -135,7 +135,7 @@ Linked-whole : (s : Settings) (w : World) (thread number : ℕ) (op : Op) (serve
 Linked-whole s w thread number op server linked law inside stands =
     let servers = abstract_of w.core in
     let it = server_at servers server in
-    let change = (verdict_on w.core.tracker number op server).change in
+    let change = (transition_on w.core.tracker number op server).change in
     let bounds = in_call-bounds w.core thread number op server law.core inside stands in
     let event : Event =
     event.Step thread kind.Whole (place.Server server) (word.Server it)
@@ -146,9 +146,9 @@ Linked-whole s w thread number op server linked law inside stands =
       subst (λ n. server < n) (servers-all s w law) bounds.2,
     ) in
     let leaves : server_at (changed servers server change) server
-    ≡ with_change it (verdict s (softs servers) number op it.mark it.stamp).change =
+    ≡ with_change it (transition s (has_room s (softs servers)) number op it.mark it.stamp).change =
     server_at-changed servers server change bounds.2
-    ∙ ap (λ t. with_change it (verdict t (softs servers) number op it.mark it.stamp).change) law.settings in
+    ∙ ap (λ t. with_change it (transition t (has_room t (softs servers)) number op it.mark it.stamp).change) law.settings in
     let becomes : CanBecome s it (server_at (changed servers server change) server) = record {
       thread = number;
       op = op;

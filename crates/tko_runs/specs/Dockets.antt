@@ -5,7 +5,7 @@ use Rattle.tko_model.specs.declared.mark.Reply.{Reply}
 use Rattle.tko_model.specs.declared.settings.Settings.{Settings}
 use Rattle.tko_model.specs.declared.state.ServerState.{ServerState}
 use Rattle.tko_model.specs.Ranges.{IsWithinRanges}
-use Rattle.tko_model.specs.Tracker.{IsFit, changed, server_at, verdict_on}
+use Rattle.tko_model.specs.Tracker.{IsFit, changed, server_at, transition_on}
 use Rattle.tko_runs.specs.declared.calls.Calls.{Calls}
 use Rattle.tko_runs.specs.declared.checking.RunFault.{RunFault}
 use Rattle.tko_runs.specs.declared.checking.RunFault.TheVariants as fault
@@ -100,8 +100,8 @@ pub record Shows (s : Settings) (servers : List ServerState) (number : ℕ) (op 
   pub quiet : (sight.is_quiet ≡ true) ↔ (slice_set servers server left ≡ servers)
   pub effect : (reply : Reply) →
       (sight.effect ≡ Some reply)
-      ↔ (((verdict_on (tracker_in s servers) number op on).reply ≡ reply)
-      × (changed servers on (verdict_on (tracker_in s servers) number op on).change ≡ slice_set servers server left))
+      ↔ (((transition_on (tracker_in s servers) number op on).reply ≡ reply)
+      × (changed servers on (transition_on (tracker_in s servers) number op on).change ≡ slice_set servers server left))
 
 -- Words.
 

@@ -11,5 +11,4 @@ pub mod Schedules
 pub mod Sights
 pub mod Standings
 pub mod Stories
-pub mod Texts
 pub mod Words

@@ -6,7 +6,7 @@ use Rattle.tko_model.specs.declared.mark.Reply.{Reply}
 use Rattle.tko_model.specs.declared.mark.Reply.TheVariants.{Contended}
 use Rattle.tko_model.specs.declared.settings.Settings.{Settings}
 use Rattle.tko_model.specs.declared.state.ServerState.{ServerState}
-use Rattle.tko_model.specs.Tracker.{server_at, verdict}
+use Rattle.tko_model.specs.Tracker.{has_room, server_at, transition}
 use Rattle.tko_runs.specs.declared.event.Event.{Event}
 use Rattle.tko_runs.specs.declared.event.Event.TheVariants.{Begin, Step}
 use Rattle.tko_runs.specs.declared.order.Placed.{Placed}
@@ -43,7 +43,8 @@ pub record CanBecome (s : Settings) (found left : ServerState) : Type 0 where
   pub op : Op
   pub softs : ℕ
   pub is_thread : thread < s.threads
-  pub leaves : left ≡ with_change found (verdict s softs thread op found.mark found.stamp).change
+  pub leaves : left
+      ≡ with_change found (transition s (has_room s softs) thread op found.mark found.stamp).change
 
 -- what a step of this kind can leave of a word, whoever takes it: the word alone decides
 abbrev pub CanLeave : Settings → Kind → Word → Word → Type 0

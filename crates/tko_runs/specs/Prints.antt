@@ -13,7 +13,7 @@ use Rattle.tko_runs.specs.declared.order.Placed.{Placed}
 use Rattle.tko_runs.specs.declared.order.Placed.TheVariants as placed
 use Rattle.tko_runs.specs.Claims.{servers_after_all}
 use Rattle.tko_runs.specs.Stories.{Note, Story}
-use Rattle.tko_runs.specs.Texts.{mark_text, op_text, reply_text}
+use Rattle.tko_model.specs.Texts.{mark_text, op_text, reply_text}
 use Rattle.tko_steps.specs.declared.step.BeginFault.{BeginFault}
 use Rattle.tko_steps.specs.declared.step.BeginFault.TheVariants as fault
 use Rattle.tko_steps.specs.declared.step.Kind.{Kind}

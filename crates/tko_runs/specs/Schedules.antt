@@ -15,7 +15,7 @@ use Rattle.tko_runs.specs.declared.fault.ScheduleFault.{ScheduleFault}
 use Rattle.tko_runs.specs.declared.fault.ScheduleFault.TheVariants as fault
 use Rattle.tko_runs.specs.Lines.{lines_of}
 use Rattle.tko_runs.specs.Numbers.{number_of}
-use Rattle.tko_runs.specs.Texts.{op_text}
+use Rattle.tko_model.specs.Texts.{op_text}
 use Rattle.tko_runs.specs.Words.{words_of}
 
 -- what a schedule says: the settings of the tracker, and the commands in order

@@ -3,11 +3,11 @@ ghost use Rattle.std.specs.Prelude.{◌≡◌, ◌+◌, ◌<◌, ◌^◌, ◌↔
 ghost use Rattle.std.specs.Option.{option_or};
 ghost use Rattle.tko_model.specs.declared.mark.Op.{Op};
 ghost use Rattle.tko_model.specs.Ranges.{IsWithinRanges};
-ghost use Rattle.tko_model.specs.Tracker.{IsFit, verdict};
+ghost use Rattle.tko_model.specs.Tracker.{IsFit, has_room, transition};
 ghost use Rattle.tko_runs.specs.Orders.{CanBecome, with_change};
 ghost use Rattle.tko_steps.specs.Core.{owner_of};
 
-use tko_model::{Mark, Op, ServerState, Settings, Verdict};
+use tko_model::{Mark, Op, ServerState, Settings, Transition};
 
 /// Whether some operation of some thread leaves this of what it finds.
 pub(crate) fn can_become(settings: &Settings, found: ServerState, left: ServerState) -> bool
@@ -41,7 +41,9 @@ fn is_left_by(settings: &Settings, thread: u32, found: ServerState, left: Server
     requires fit { IsFit settings.now found.mark found.stamp }
     ensures can { result ≡ true → CanBecome settings.now found left }
     ensures all { (op : Op) → thread < settings.now.threads
-        → left ≡ with_change found (verdict settings.now 0 thread op found.mark found.stamp).change → result ≡ true }
+        → left ≡ with_change found
+        (transition settings.now (has_room settings.now 0) thread op found.mark found.stamp).change
+        → result ≡ true }
     ensures fit { result ≡ true → IsFit settings.now left.mark left.stamp }
 {
     thread < settings.threads
@@ -55,11 +57,12 @@ fn is_left_by(settings: &Settings, thread: u32, found: ServerState, left: Server
 fn becomes(settings: &Settings, thread: u32, op: Op, found: ServerState, left: ServerState) -> bool
     requires settings { IsWithinRanges settings.now }
     requires fit { IsFit settings.now found.mark found.stamp }
-    ensures value { (result ≡ true) ↔ (left ≡ with_change found (verdict settings.now 0 thread op found.mark found.stamp).change) }
+    ensures value { (result ≡ true) ↔ (left ≡ with_change found
+        (transition settings.now (has_room settings.now 0) thread op found.mark found.stamp).change) }
     ensures fit { result ≡ true → IsFit settings.now left.mark left.stamp }
 {
-    let verdict = Verdict::of(settings, 0, thread, op, found);
-    left == with_change(found, verdict.change)
+    let transition = Transition::of(settings, settings.has_room(0), thread, op, found);
+    left == with_change(found, transition.change)
 }
 
 /// A server's word once it got this mark, if one.

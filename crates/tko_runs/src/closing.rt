@@ -4,10 +4,9 @@ ghost use Rattle.tko_model.specs.Tracker.{opened};
 ghost use Rattle.tko_runs.specs.Claims.{AllCome, opened_roll, servers_after_all};
 ghost use Rattle.tko_runs.specs.Prints.{line, order_text, placed_text, servers_text, softs_text};
 
-use crate::text::{append_mark, append_number};
 use crate::{Event, Placed};
 use std::alloc::{AllocError, Global};
-use tko_model::{ServerState, Settings, count_softs, opened_servers};
+use tko_model::{ServerState, Settings, append_mark, append_number, count_softs, opened_servers};
 use tko_steps::{Place, Word};
 
 pub(crate) fn append_order(out: &mut Vec<u8>, places: &[Placed]) -> Result<(), AllocError>

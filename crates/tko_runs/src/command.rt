@@ -3,9 +3,8 @@ ghost use Rattle.std.specs.Prelude.{◌≡◌};
 ghost use Rattle.tko_runs.specs.Schedules.{begin_of, command_line, op_of, run_of, step_of, steps_of};
 
 use crate::number::number;
-use crate::text::op_word;
 use crate::words::Words;
-use tko_model::Op;
+use tko_model::{Op, op_word};
 
 /// The most steps that one line may ask for.
 const MAX_STEPS: u64 = 5_000;

@@ -29,7 +29,6 @@ mod register;
 mod run;
 mod schedule;
 mod sighting;
-mod text;
 mod words;
 
 pub use checking::{RunFault, check};
@@ -41,7 +40,6 @@ pub use order::{Order, Placed};
 pub use playing::{PlayFault, play};
 pub use run::Run;
 pub use schedule::Schedule;
-pub use text::{append_mark, append_number, append_reply, op_word};
 
 #[cfg(test)]
 mod claim_tests;

@@ -7,10 +7,9 @@ ghost use Rattle.tko_steps.specs.declared.step.Kind.TheVariants.{Whole};
 
 use crate::closing::{append_order, append_servers, append_softs, servers_left};
 use crate::run::Noted;
-use crate::text::{append_number, append_reply, op_word};
 use crate::{Event, Order, Remark, Run};
 use std::alloc::{AllocError, Global};
-use tko_model::{Op, Reply};
+use tko_model::{Op, Reply, append_number, append_reply, op_word};
 use tko_steps::{BeginFault, Kind, Place};
 
 impl Run {

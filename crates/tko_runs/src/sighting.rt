@@ -1,13 +1,13 @@
 //! What a step shows of a call.
 ghost use Rattle.std.specs.Prelude.{◌≡◌, ◌+◌, ◌<◌, ◌^◌, ◌↔◌, true, length, slice_set};
 ghost use Rattle.tko_model.specs.Ranges.{IsWithinRanges};
-ghost use Rattle.tko_model.specs.Tracker.{changed, server_at, verdict_on};
+ghost use Rattle.tko_model.specs.Tracker.{changed, server_at, transition_on};
 ghost use Rattle.tko_runs.specs.Dockets.{AllFit, Shows};
 ghost use Rattle.tko_steps.specs.Legal.{tracker_in};
 
 use crate::becoming::with_change;
 use crate::judging::{OwnCall, Sight};
-use tko_model::{Mark, ServerState, Settings, Verdict, count_softs};
+use tko_model::{Mark, ServerState, Settings, Transition, count_softs};
 
 /// What a step that leaves this of a server shows of a call.
 pub(crate) fn sight(
@@ -25,13 +25,13 @@ pub(crate) fn sight(
     ensures at { result.at ≡ at }
     ensures shows { Shows settings.now servers.now call.now.number call.now.op call.now.server server left result }
 {
-    let verdict = own_verdict(settings, servers, call);
-    let takes_effect = leaves_change(servers, call.server, verdict.change, server, left);
+    let transition = own_transition(settings, servers, call);
+    let takes_effect = leaves_change(servers, call.server, transition.change, server, left);
     Sight {
         at,
         is_quiet: is_quiet(servers, server, left),
         effect: if takes_effect {
-            Some(verdict.reply)
+            Some(transition.reply)
         } else {
             None
         },
@@ -39,19 +39,16 @@ pub(crate) fn sight(
 }
 
 /// What the sequential tracker would answer and change there.
-fn own_verdict(settings: &Settings, servers: &[ServerState], call: &OwnCall) -> Verdict
+fn own_transition(settings: &Settings, servers: &[ServerState], call: &OwnCall) -> Transition
     requires settings { IsWithinRanges settings.now }
     requires fit { AllFit settings.now servers.now }
     requires call { call.now.server < length servers.now }
-    ensures { result ≡ verdict_on (tracker_in settings.now servers.now) call.now.number call.now.op call.now.server }
+    ensures value { result
+        ≡ transition_on (tracker_in settings.now servers.now) call.now.number call.now.op call.now.server }
+    ensures stamp { (server_at servers.now call.now.server).stamp + 1 < 2 ^ 64 }
 {
-    Verdict::of(
-        settings,
-        count_softs(servers),
-        call.number,
-        call.op,
-        servers[call.server],
-    )
+    let room = settings.has_room(count_softs(servers));
+    Transition::of(settings, room, call.number, call.op, servers[call.server])
 }
 
 /// Whether a step that leaves this of a server changes nothing.

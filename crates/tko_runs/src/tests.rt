@@ -1,9 +1,9 @@
 //! Texts and what they say, by hand.
 
-use crate::{Command, Schedule, ScheduleFault, append_reply, op_word};
+use crate::{Command, Schedule, ScheduleFault};
 use std::alloc::{AllocError, Global};
 use std::test::Fail;
-use tko_model::{Mark, Op, Reply, Settings, SettingsFault};
+use tko_model::{Op, Settings, SettingsFault};
 
 /// Seven good lines.
 const HEADER: &[u8; 83] =
@@ -189,37 +189,5 @@ fn a_text_has_a_mebibyte_at_most(rt: HostRuntime) -> Result<(), Fail> {
     );
     let longer = vec![in rt.alloc(); b'\n'; 1_048_577]?;
     assert_eq!(rt; fault_of(rt.alloc(), &longer), Some(ScheduleFault::Line(0)));
-    Ok(())
-}
-
-#[test]
-fn replies_have_their_words(rt: HostRuntime) -> Result<(), Fail> {
-    for (reply, text) in [
-        (Reply::Up(0), b"found:up:0".as_slice()),
-        (Reply::Marked(Mark::Soft(63)), b"found:soft:63".as_slice()),
-        (Reply::Counted(999), b"counted:999".as_slice()),
-        (Reply::TookSoft, b"took-soft".as_slice()),
-        (Reply::Full, b"full".as_slice()),
-        (Reply::Already(Mark::Hard(1)), b"already:hard:1".as_slice()),
-        (Reply::Worn, b"worn".as_slice()),
-        (Reply::Contended, b"contended".as_slice()),
-        (Reply::TookHard, b"took-hard".as_slice()),
-        (Reply::Hardened, b"hardened".as_slice()),
-        (Reply::Clean, b"clean".as_slice()),
-        (Reply::Reset(2), b"reset:2".as_slice()),
-        (
-            Reply::Unmarked(Mark::Soft(0)),
-            b"unmarked:soft:0".as_slice(),
-        ),
-        (
-            Reply::Released(Mark::Hard(0)),
-            b"released:hard:0".as_slice(),
-        ),
-        (Reply::NotMine(Mark::Up(1)), b"not-mine:up:1".as_slice()),
-    ] {
-        let mut out = Vec::from_slice(rt.alloc(), op_word(Op::LookUp))?;
-        append_reply(&mut out, reply)?;
-        assert_eq!(rt; &out[4..], text);
-    }
     Ok(())
 }

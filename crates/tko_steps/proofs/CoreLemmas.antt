@@ -10,12 +10,12 @@ use Rattle.tko_model.specs.declared.mark.Op.{Op}
 use Rattle.tko_model.specs.declared.settings.Settings.{Settings}
 use Rattle.tko_model.specs.declared.state.ServerState.{ServerState}
 use Rattle.tko_model.specs.Ranges.{IsWithinRanges}
-use Rattle.tko_model.specs.Tracker.{IsFit, IsTracker, Tracker, after, changed, opened, is_soft, server_at, softs, verdict_on}
+use Rattle.tko_model.specs.Tracker.{IsFit, IsTracker, Tracker, after, changed, opened, is_soft, server_at, softs, transition_on}
 use Rattle.tko_steps.specs.declared.thread.ThreadState.{ThreadState}
 use Rattle.tko_steps.specs.declared.thread.ThreadState.TheVariants.{NotEnrolled, Idle, InCall}
 use Rattle.tko_steps.specs.Core.{CoreState, IsCore, IsOnServer, IsOwner, abstract_of, after_enrol, after_whole, has_number, is_enrolled, number_of, opened_core, owner_of, thread_at, with_thread}
 use Rattle.tko_steps.proofs.ThreadLemmas.{bit, OneEach-enrol, count_by-enrol, count_by-set, count_by-set_same, number-lt}
-use Rattle.tko_steps.proofs.TrackerLemmas.{IsOwnOrNone, softness, verdict-sound}
+use Rattle.tko_steps.proofs.TrackerLemmas.{IsOwnOrNone, softness, transition-sound}
 
 pub length-changed : (servers : List ServerState) (server : ℕ) (change : Option Mark)
     → length (changed servers server change) ≡ length servers
@@ -25,7 +25,7 @@ length-changed servers server (Some mark) = length-set servers server _
 pub length-after : (tracker : Tracker) (number : ℕ) (op : Op) (server : ℕ)
     → length (after tracker number op server).servers ≡ length tracker.servers
 length-after tracker number op server =
-    length-changed tracker.servers server (verdict_on tracker number op server).change
+    length-changed tracker.servers server (transition_on tracker number op server).change
 
 -- a change leaves no more soft marks than there may be
 softs-changed : (servers : List ServerState) (server limit : ℕ) (change : Option Mark) → server < length servers
@@ -109,11 +109,11 @@ pub IsTracker-after : (tracker : Tracker) (number : ℕ) (op : Op) (server : ℕ
     → server < length tracker.servers → IsTracker (after tracker number op server)
 IsTracker-after tracker number op server is inside =
     let it = server_at tracker.servers server in
-    let sound = verdict-sound tracker.settings (softs tracker.servers) number op it.mark it.stamp in
+    let sound = transition-sound tracker.settings (softs tracker.servers) number op it.mark it.stamp in
     record {
       settings = is.settings;
       count = length-after tracker number op server ∙ is.count;
-      fit = fit-changed tracker.settings tracker.servers server (verdict_on tracker number op server).change
+      fit = fit-changed tracker.settings tracker.servers server (transition_on tracker number op server).change
           (λ new e. sound.fit new e is.settings (is.fit server (record { mark = Up 0; stamp = 0 }) inside)) is.fit;
     }
 
@@ -131,9 +131,9 @@ IsTracker-opened s ranges =
 pub IsCore-after : (core : CoreState) (number : ℕ) (op : Op) (server : ℕ) → IsCore core → number < core.enrolled
     → server < length (abstract_of core) → IsCore (record core { tracker = after core.tracker number op server })
 IsCore-after core number op server is drawn inside =
-    let change = (verdict_on core.tracker number op server).change in
+    let change = (transition_on core.tracker number op server).change in
     let it = server_at core.tracker.servers server in
-    let sound = verdict-sound core.tracker.settings (softs core.tracker.servers) number op it.mark it.stamp in
+    let sound = transition-sound core.tracker.settings (softs core.tracker.servers) number op it.mark it.stamp in
     let same = length-after core.tracker number op server in
     record {
       tracker = IsTracker-after core.tracker number op server is.tracker inside;

@@ -6,12 +6,12 @@ use Rattle.tko_model.specs.declared.mark.Op.{Op}
 use Rattle.tko_model.specs.declared.mark.Reply.{Reply}
 use Rattle.tko_model.specs.declared.mark.Reply.TheVariants.{Contended, Full, Worn}
 use Rattle.tko_model.specs.declared.settings.Settings.{Settings}
-use Rattle.tko_model.specs.Tracker.{after, reply_of, server_at, softs, verdict_on}
+use Rattle.tko_model.specs.Tracker.{after, reply_of, server_at, softs, transition_on}
 use Rattle.tko_steps.specs.Core.{CoreState, IsCore, IsOwner, number_of, thread_at}
 use Rattle.tko_steps.specs.Legal.{ChangesAtMostOnce, HasOneResponsible, IsFullAtLimit, IsLegal, IsOwnersAnswer, IsQuiet, TakesEffect, tracker_in}
 use Rattle.tko_steps.specs.Runs.{Call, OwnStep, StepTaken, and_step, begun_call}
 use Rattle.tko_steps.proofs.ThreadLemmas.{number-inside, number-once}
-use Rattle.tko_steps.proofs.TrackerLemmas.{IsSound, verdict-sound}
+use Rattle.tko_steps.proofs.TrackerLemmas.{IsSound, transition-sound}
 
 -- what the law says of each call
 pub record IsSoundCall (s : Settings) (call : Call) : Type 0 where
@@ -60,8 +60,8 @@ module _ (s : Settings) (thread number : ℕ) (op : Op) (server : ℕ) (own : Ow
   abbrev stamp : ℕ
   stamp = (server_at own.step.before server).stamp
 
-  sound : IsSound s (softs own.step.before) number mark stamp (verdict_on (tracker_in s own.step.before) number op server)
-  sound = verdict-sound s (softs own.step.before) number op mark stamp
+  sound : IsSound s (softs own.step.before) number mark stamp (transition_on (tracker_in s own.step.before) number op server)
+  sound = transition-sound s (softs own.step.before) number op mark stamp
 
   takes_effect : (answer : Reply) → own.step.answer ≡ Some answer → TakesEffect s call answer own.step
   takes_effect answer e = let told = whole.answer in record { reply = cc; change = whole.change }

@@ -8,9 +8,10 @@ use Rattle.tko_model.specs.declared.mark.Op.TheVariants.{LookUp, SoftFailure, Ha
 use Rattle.tko_model.specs.declared.mark.Reply.{Reply}
 use Rattle.tko_model.specs.declared.mark.Reply.TheVariants as reply
 use Rattle.tko_model.specs.declared.settings.Settings.{Settings}
-use Rattle.tko_model.specs.declared.verdict.Verdict.{Verdict}
+use Rattle.tko_model.specs.declared.transition.Transition.{Transition}
+use Rattle.tko_model.specs.Looks.{look_reply}
 use Rattle.tko_model.specs.Ranges.{IsWithinRanges, worn}
-use Rattle.tko_model.specs.Tracker.{IsFit, stays, becomes, on_others, on_own_soft, on_own_hard, on_soft_failure, unless_worn, on_unmarked, verdict, is_soft}
+use Rattle.tko_model.specs.Tracker.{IsFit, stays, becomes, on_others, on_own_soft, on_own_hard, on_soft_failure, unless_worn, on_unmarked, transition, has_room, is_soft}
 use Rattle.tko_steps.specs.Core.{owner_of}
 
 -- one for a mark that is soft
@@ -21,8 +22,8 @@ softness mark = cond (is_soft mark) 1 0
 abbrev pub IsOwnOrNone : ℕ → Mark → Type 0
 IsOwnOrNone thread mark = (number : ℕ) → owner_of mark ≡ Some number → number ≡ thread
 
--- a verdict of a thread on a server with this mark and stamp, where there are so many soft marks
-pub record IsSound (s : Settings) (softs thread : ℕ) (mark : Mark) (stamp : ℕ) (given : Verdict) : Type 0 where
+-- a transition of a thread on a server with this mark and stamp, where there are so many soft marks
+pub record IsSound (s : Settings) (softs thread : ℕ) (mark : Mark) (stamp : ℕ) (given : Transition) : Type 0 where
   pub owner : (new : Mark) → given.change ≡ Some new → IsOwnOrNone thread new
   pub fit : (new : Mark) → given.change ≡ Some new → IsWithinRanges s → IsFit s mark stamp → IsFit s new (stamp + 1)
   pub limit : (new : Mark) → given.change ≡ Some new → softs ≤ s.limit →
@@ -81,8 +82,8 @@ module _ (s : Settings) (softs thread : ℕ) where
         own = λ owned. plain≢ answer _ plain refl;
       }
 
-  -- where a test decides between two verdicts
-  either-sound : (mark : Mark) (stamp : ℕ) (test : Bool) (one other : Verdict)
+  -- where a test decides between two transitions
+  either-sound : (mark : Mark) (stamp : ℕ) (test : Bool) (one other : Transition)
       → (test ≡ true → IsSound s softs thread mark stamp one)
       → (test ≡ false → IsSound s softs thread mark stamp other)
       → IsSound s softs thread mark stamp (cond test one other)
@@ -115,8 +116,13 @@ module _ (s : Settings) (softs thread : ℕ) where
   up_to_hard count stamp fresh =
       record { owner = λ number e. cc; fit = λ ranges fits. omega arith; limit = λ low. omega arith }
 
+  look_up-sound : (mark on : Mark) (stamp : ℕ) → IsSound s softs thread mark stamp (stays (look_reply on))
+  look_up-sound mark (Up count) stamp = plain-sound mark stamp _ refl
+  look_up-sound mark (Soft owner) stamp = plain-sound mark stamp _ refl
+  look_up-sound mark (Hard owner) stamp = plain-sound mark stamp _ refl
+
   on_others-sound : (op : Op) (mark : Mark) (stamp : ℕ) → IsSound s softs thread mark stamp (on_others op mark)
-  on_others-sound LookUp mark stamp = plain-sound mark stamp _ refl
+  on_others-sound LookUp mark stamp = look_up-sound mark mark stamp
   on_others-sound SoftFailure mark stamp = plain-sound mark stamp _ refl
   on_others-sound HardFailure mark stamp = plain-sound mark stamp _ refl
   on_others-sound Success mark stamp = plain-sound mark stamp _ refl
@@ -137,7 +143,7 @@ module _ (s : Settings) (softs thread : ℕ) where
   on_own_hard-sound Release stamp = becomes-sound (Hard thread) stamp (Up 0) _ refl (hard_to_up stamp)
 
   on_soft_failure-sound : (count stamp : ℕ) → stamp < worn
-      → IsSound s softs thread (Up count) stamp (on_soft_failure s softs thread count)
+      → IsSound s softs thread (Up count) stamp (on_soft_failure s (has_room s softs) thread count)
   on_soft_failure-sound count stamp fresh =
       either-sound (Up count) stamp (ltb (count + 1) s.failures) _ _
       (λ below. becomes-sound (Up count) stamp (Up (count + 1)) _ refl
@@ -147,7 +153,7 @@ module _ (s : Settings) (softs thread : ℕ) where
       (up_to_soft count stamp fresh (ltb-true softs s.limit below)))
       (λ above. stays-sound (Up count) stamp _ (λ e. cc) (λ _. ltb-false softs s.limit above) (λ _ e. cc)))
 
-  unless_worn-sound : (count stamp : ℕ) (given : Verdict)
+  unless_worn-sound : (count stamp : ℕ) (given : Transition)
       → (stamp < worn → IsSound s softs thread (Up count) stamp given)
       → IsSound s softs thread (Up count) stamp (unless_worn stamp given)
   unless_worn-sound count stamp given sound =
@@ -156,7 +162,7 @@ module _ (s : Settings) (softs thread : ℕ) where
       (λ fresh. sound (leb-false worn stamp fresh))
 
   on_unmarked-sound : (op : Op) (count stamp : ℕ)
-      → IsSound s softs thread (Up count) stamp (on_unmarked s softs thread op count stamp)
+      → IsSound s softs thread (Up count) stamp (on_unmarked s (has_room s softs) thread op count stamp)
   on_unmarked-sound LookUp count stamp = plain-sound (Up count) stamp _ refl
   on_unmarked-sound SoftFailure count stamp =
       unless_worn-sound count stamp _ (on_soft_failure-sound count stamp)
@@ -169,14 +175,14 @@ module _ (s : Settings) (softs thread : ℕ) where
       becomes-sound (Up count) stamp (Up 0) _ refl (up_to_up count stamp 0 fresh (λ ranges. ranges.failures.0))))
   on_unmarked-sound Release count stamp = plain-sound (Up count) stamp _ refl
 
-  pub verdict-sound : (op : Op) (mark : Mark) (stamp : ℕ)
-      → IsSound s softs thread mark stamp (verdict s softs thread op mark stamp)
-  verdict-sound op (Up count) stamp = on_unmarked-sound op count stamp
-  verdict-sound op (Soft owner) stamp =
+  pub transition-sound : (op : Op) (mark : Mark) (stamp : ℕ)
+      → IsSound s softs thread mark stamp (transition s (has_room s softs) thread op mark stamp)
+  transition-sound op (Up count) stamp = on_unmarked-sound op count stamp
+  transition-sound op (Soft owner) stamp =
       either-sound (Soft owner) stamp (eqb owner thread) _ _
       (λ mine. let same : owner ≡ thread = eqb-true owner thread mine in rw same (on_own_soft-sound op stamp))
       (λ _. on_others-sound op (Soft owner) stamp)
-  verdict-sound op (Hard owner) stamp =
+  transition-sound op (Hard owner) stamp =
       either-sound (Hard owner) stamp (eqb owner thread) _ _
       (λ mine. let same : owner ≡ thread = eqb-true owner thread mine in rw same (on_own_hard-sound op stamp))
       (λ _. on_others-sound op (Hard owner) stamp)

@@ -1,11 +1,11 @@
-//! The words of operations, marks and replies, put at the end of a buffer. Where memory is wanted the
-//! buffer is as it was.
+//! The words of operations, marks and replies, appended to a buffer. Where memory runs out the
+//! buffer stays as it was.
 ghost use Rattle.std.specs.Prelude.{◌≡◌, ◌++◌, decimal, OnOk, OnErr};
-ghost use Rattle.tko_runs.specs.Texts.{mark_text, op_text, reply_text};
+ghost use Rattle.tko_model.specs.Texts.{mark_text, op_text, reply_text};
 
+use crate::{Mark, Op, Reply};
 use itoa::Buffer;
 use std::alloc::AllocError;
-use tko_model::{Mark, Op, Reply};
 
 /// The word of an operation.
 pub fn op_word(op: Op) -> &'static [u8]
@@ -20,7 +20,7 @@ pub fn op_word(op: Op) -> &'static [u8]
     }
 }
 
-/// Appends a word and behind it a number.
+/// Appends a word and then a number.
 pub fn append_number(out: &mut Vec<u8>, word: &[u8], number: u64) -> Result<(), AllocError>
     ensures ok { OnOk result (out.new.items ≡ out.old.items ++ (word.now ++ decimal number)) }
     ensures err { OnErr result (out.new.items ≡ out.old.items) }
@@ -47,7 +47,7 @@ pub fn append_mark(out: &mut Vec<u8>, mark: Mark) -> Result<(), AllocError>
     }
 }
 
-/// Appends a word and behind it a mark.
+/// Appends a word and then a mark.
 fn append_marked(out: &mut Vec<u8>, word: &[u8], mark: Mark) -> Result<(), AllocError>
     ensures ok { OnOk result (out.new.items ≡ out.old.items ++ (word.now ++ mark_text mark)) }
     ensures err { OnErr result (out.new.items ≡ out.old.items) }
