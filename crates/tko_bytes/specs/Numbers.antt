@@ -11,4 +11,6 @@ is_decimal word = nat_lt 0 (length word) && list_all is_ascii_digit word
 -- the number that a word writes, where it is at most `most`
 unfoldable pub number_of : ℕ → List ℕ → Option ℕ
 number_of most word =
-    if is_decimal word && nat_le (digits_value 10 word) most then Some (digits_value 10 word) else None
+    if is_decimal word && nat_le (digits_value 10 word) most
+    then Some (digits_value 10 word)
+    else None

@@ -1,7 +1,5 @@
--- Words: runs of bytes other than the space. Spaces before, between and behind them are passed over.
+-- Words: runs of bytes other than the space. Any spaces before, between and after them are skipped.
 use Rattle.std.specs.Prelude.{◌≡◌, ℕ, Bool, true, false, List, [], ◌∷◌, ◌++◌, ◌==◌, if◌then◌else◌}
-use Rattle.std.specs.List.{join_with_byte}
-use Rattle.tko_bytes.specs.Lines.{crlf}
 
 abbrev pub space : ℕ
 space = 32
@@ -21,7 +19,7 @@ abbrev pub behind_word : List ℕ → List ℕ
 behind_word [] = []
 behind_word (b ∷ bytes) = if b == space then b ∷ bytes else behind_word bytes
 
--- the words that begin in the bytes, where the byte before them is of a word or isn't
+-- the words that begin in the bytes, where the byte before them is part of a word or is not
 abbrev pub words_from : Bool → List ℕ → List (List ℕ)
 words_from inside [] = []
 words_from inside (b ∷ bytes) =
@@ -32,12 +30,8 @@ words_from inside (b ∷ bytes) =
 abbrev pub words : List ℕ → List (List ℕ)
 words line = words_from false line
 
--- the first word of a line, and what stands behind it
+-- the first word of a line, and what follows it
 pub record SplitsWord (line word behind : List ℕ) : Type 0 where
   pub word_is : word ≡ front_word (unspaced line)
   pub behind_is : behind ≡ behind_word (unspaced line)
   pub words_are : words line ≡ word ∷ words behind
-
--- the line that is printed of words
-abbrev pub line_of : List (List ℕ) → List ℕ
-line_of words = join_with_byte space words ++ crlf

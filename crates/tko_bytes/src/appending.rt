@@ -1,10 +1,11 @@
-//! Appending to a buffer.
-ghost use Rattle.std.specs.Prelude.{◌≡◌, ◌++◌, ◌+◌, ◌≤◌, flat_map, sum_by, length, IfSome, OnOk, OnErr};
+//! Appending to a buffer, and emptying it.
+ghost use Rattle.std.specs.Prelude.{◌≡◌, ◌++◌, ◌+◌, ◌≤◌, [], flat_map, sum_by, length, IfSome, OnOk, OnErr};
 ghost use Rattle.std.specs.Vec.{vec_len, vec_capacity};
 
 use crate::NoMemory;
 
-/// Puts the pieces at the end of the buffer, one after another; at an `Err` the buffer is as it was.
+/// Puts the pieces at the end of the buffer, one after another. At an `Err` the buffer holds what
+/// it held.
 pub fn append(out: &mut Vec<u8>, pieces: &[&[u8]]) -> Result<(), NoMemory>
     ensures ok { OnOk result
         (out.new.items ≡ out.old.items ++ flat_map (λ piece. piece.now) pieces.now) }
@@ -37,4 +38,15 @@ fn put(out: &mut Vec<u8>, piece: &[u8])
 {
     let done = out.extend_from_slice(piece);
     prove!(done.is_ok());
+}
+
+/// Empties a buffer, and releases its capacity where that is greater than `kept`.
+pub fn clear(bytes: &mut Vec<u8>, kept: usize)
+    ensures items { bytes.new.items ≡ [] }
+    ensures capacity { vec_capacity bytes.new ≤ kept }
+{
+    bytes.clear();
+    if bytes.capacity() > kept {
+        bytes.shrink_to(0);
+    }
 }

@@ -5,7 +5,7 @@
 //! - `split_line`, `content`, `first_line`: lines, which end with LF or CR LF.
 //! - `split_word`, `is_word`: words, which any number of spaces separate.
 //! - `Fields`: fields, which single spaces separate.
-//! - `append`: several pieces at the end of a buffer, or none of them.
+//! - `append`: puts several pieces at the end of a buffer, or none of them; `clear`: empties one.
 #![tactic(auto)]
 
 mod appending;
@@ -15,7 +15,7 @@ mod memory;
 mod numbers;
 mod words;
 
-pub use appending::append;
+pub use appending::{append, clear};
 pub use fields::Fields;
 pub use lines::{content, first_line, split_line};
 pub use memory::NoMemory;
