@@ -1,177 +1,160 @@
--- The law of a thread alone: where no other thread stepped, what holds of the world is kept by each turn.
-use Rattle.std.proofs.Common.{◌≡◌, ℕ, ◌<◌, List, [], ◌∷◌, ◌++◌, length, get_or, set, ◌∙◌, get_or-set_same, get_or-set_other, ⊎_elim, All, refl, sym, ap, subst, reverse}
-use Rattle.std.proofs.lemmas.Bool.{cases_eq, eq-eqb}
-use Rattle.std.proofs.lemmas.List.{reverse-append}
+-- The law of a thread alone: where no other thread took a step of a call, what holds of the world is kept by each turn.
+use Rattle.std.proofs.Common.{◌≡◌, ℕ, true, false, Bool, cond, eqb, List, [], ◌∷◌, inl, ⊎_elim, All, Option, Some, None, refl, sym, ap, subst, ◌∙◌}
+use Rattle.std.proofs.lemmas.Bool.{eqb-false}
 use Rattle.std.proofs.lemmas.List.Elements.{All-nil, All-cons, All-head, All-tail}
 use Rattle.tko_model.specs.declared.mark.Op.{Op}
 use Rattle.tko_model.specs.declared.settings.Settings.{Settings}
-use Rattle.tko_model.specs.Tracker.{Tracker, after, opened}
+use Rattle.tko_model.specs.Tracker.{Tracker, after, opened, reply_of}
 use Rattle.tko_steps.specs.declared.thread.ThreadState.{ThreadState}
 use Rattle.tko_steps.specs.declared.thread.ThreadState.TheVariants.{NotEnrolled, Idle, InCall}
-use Rattle.tko_steps.specs.Alone.{HasReply, InEveryRunAlone, IsCallOf, IsStepOf, Replays, after_call}
-use Rattle.tko_steps.specs.Core.{CoreState, after_enrol, after_whole, thread_at}
-use Rattle.tko_steps.specs.Runs.{Begin, Call, Moment, OwnStep, Step, StepTaken, Took, Turn, World, after_turns, and_step, began, begun_call, calls_of, happens, start, steps_in, with_step}
-use Rattle.tko_steps.proofs.CoreLemmas.{get_or-replicate_same}
-use Rattle.tko_steps.proofs.RunLemmas.{enrol_step, whole_step}
+use Rattle.tko_steps.specs.Alone.{Does, InEveryRunAlone, IsIdleUnlessOf, IsStepOf, Replays}
+use Rattle.tko_steps.specs.Core.{abstract_of, after_enrol, after_whole, thread_at}
+use Rattle.tko_steps.specs.Legal.{IsQuiet, tracker_in}
+use Rattle.tko_steps.specs.Runs.{Begin, Call, Moment, OwnStep, Step, StepTaken, Took, Turn, World, after_turns, and_step, began, begun_call, calls_of, happens, own_step, start, with_step}
+use Rattle.tko_steps.proofs.CallLemmas.{All-with_step, latest, with_step-none}
+use Rattle.tko_steps.proofs.RunLemmas.{Holds, Holds-begun, Holds-start, Holds-stepped_from, enrol_step, whole_step}
 use Rattle.tko_steps.proofs.WiringLemmas.{begun, keeps-begin, keeps-step, stepped_from}
 
--- one more call, the last
-Replays-push : (tracker : Tracker) (number : ℕ) (calls : List Call) (mid : Tracker) (call : Call)
-    → Replays tracker number calls mid → HasReply mid number call
-    → Replays tracker number (calls ++ call ∷ []) (after_call mid number call call.answer)
-Replays-push tracker number [] mid call done replies =
-    let P : Tracker → Type 0 = λ it. HasReply it number call × (after_call mid number call call.answer ≡ after_call it number call call.answer) in
-    subst P done (replies, refl)
-Replays-push tracker number (first ∷ calls) mid call done replies =
-    (done.0, Replays-push (after_call tracker number first first.answer) number calls mid call done.1 replies)
+-- a call without a step and without an answer is none for the sequential tracker
+does_nothing : (old new : Tracker) (call : Call) → call.steps ≡ [] → call.answer ≡ None → Does old call call.answer new
+    → new ≡ old
+does_nothing old new call none unanswered does =
+    let it = rw unanswered at does in
+    ⊎_elim
+    (λ (quiet : All IsQuiet call.steps × (new ≡ old)). quiet.1)
+    (λ (changed : (All IsQuiet call.steps → ⊥) × (new ≡ after old call.number call.op call.server)).
+    absurd (changed.0 (rw none (All-nil IsQuiet))))
+    it
 
--- the calls, the newest first, were done by the sequential tracker from its opening on
-abbrev Done : Settings → List Call → Tracker → Type 0
-Done s calls tracker = Replays (opened s) 0 (reverse calls) tracker
+nothing_does : (tracker : Tracker) (call : Call) → call.steps ≡ [] → call.answer ≡ None → Does tracker call call.answer tracker
+nothing_does tracker call none unanswered = rw unanswered (inl (rw none (All-nil IsQuiet), refl))
 
-Done-cons : (s : Settings) (call : Call) (calls : List Call) (mid : Tracker) → Done s calls mid → HasReply mid 0 call
-    → Done s (call ∷ calls) (after_call mid 0 call call.answer)
-Done-cons s call calls mid done replies =
-    rw (reverse-append (call ∷ []) calls) (Replays-push (opened s) 0 (reverse calls) mid call done replies)
+module _ (first last : Tracker) (thread number : ℕ) (op : Op) (server : ℕ) (own : OwnStep)
+    (answer : own.step.answer ≡ Some (reply_of last number op server)) where
+  abbrev call : Call
+  call = begun_call thread number op server
 
--- a thread in a call has the newest call, which has no step yet, and the others are done
-pub record IsNewest (s : Settings) (begin : Call) (calls : List Call) (tracker : Tracker) : Type 0 where
-  pub older : List Call
-  pub newest : calls ≡ begin ∷ older
-  pub done : Done s older tracker
+  -- the sequential tracker does the call, the last, in place of nothing
+  does_last : (mid : Tracker) → last ≡ mid
+      → Does mid (and_step call own) own.step.answer (after last number op server)
+  does_last mid same = rw answer (ap (λ (t : Tracker). reply_of t number op server) same, ap (λ (t : Tracker). after t number op server) same)
 
--- how the thread stands: one that isn't enrolled made no call and will draw 0
-abbrev pub StandsAlone : Settings → ℕ → CoreState → List Call → ThreadState → Type 0
-StandsAlone s thread core calls NotEnrolled = (core.enrolled ≡ 0) × (calls ≡ []) × (core.tracker ≡ opened s)
-StandsAlone s thread core calls (Idle number) = (number ≡ 0) × Done s calls core.tracker
-StandsAlone s thread core calls (InCall number op server) =
-    (number ≡ 0) × IsNewest s (begun_call thread number op server) calls core.tracker
+  either : (at : Call) (older rest : List Call) (found : Option Call) (test : Bool)
+      → Replays first (at ∷ older) last → cond test (Some at) found ≡ Some call
+      → (test ≡ false → (at.steps ≡ []) × (at.answer ≡ None))
+      → (found ≡ Some call → Replays first older last → Replays first rest (after last number op server))
+      → Replays first (cond test (and_step at own ∷ older) (at ∷ rest)) (after last number op server)
+  either at older rest found true (mid, done, does) is idle onward =
+      let same : call ≡ at = cc in
+      let P : Call → Type 0 = λ it. Does mid it it.answer last in
+      let Q : Call → Type 0 = λ it. Does mid (and_step it own) own.step.answer (after last number op server) in
+      let none : last ≡ mid = does_nothing mid last call refl refl (subst P (sym same) does) in
+      (mid, done, subst Q same (does_last mid none))
+  either at older rest found false (mid, done, does) is idle onward =
+      let it = idle refl in
+      let none : last ≡ mid = does_nothing mid last at it.0 it.1 does in
+      let P : Tracker → Type 0 = λ t. Replays first older t in
+      (after last number op server, onward is (subst P (sym none) done), nothing_does (after last number op server) at it.0 it.1)
 
--- no thread but this one is enrolled
-abbrev pub NoOther : CoreState → ℕ → Type 0
-NoOther core thread = (other : ℕ) → (other ≡ thread → ⊥) → thread_at core other ≡ NotEnrolled
-
--- whatever this thread does, the others stand as they did
-NoOther-set : (core : CoreState) (thread : ℕ) (new : ThreadState) → NoOther core thread
-    → (other : ℕ) → (other ≡ thread → ⊥) → get_or (set core.threads thread new) other NotEnrolled ≡ NotEnrolled
-NoOther-set core thread new none other apart =
-    rw (get_or-set_other core.threads thread other new NotEnrolled apart) (none other apart)
+  -- one more call is answered, and no other thread's call did anything
+  Replays-with_step : (calls : List Call) → own.step.thread ≡ thread → All (IsIdleUnlessOf thread) calls
+      → latest own.step.thread calls ≡ Some call → Replays first calls last
+      → Replays first (with_step own calls) (after last number op server)
+  Replays-with_step [] by idle is done = cc
+  Replays-with_step (at ∷ older) by idle is done =
+      either at older (with_step own older) (latest own.step.thread older) (eqb at.thread own.step.thread) done is
+      (λ fails. All-head (IsIdleUnlessOf thread) at older idle
+      (λ e. eqb-false at.thread own.step.thread fails (e ∙ sym by)))
+      (λ found before. Replays-with_step older by (All-tail (IsIdleUnlessOf thread) at older idle) found before)
 
 -- what holds of the world in each run of this thread alone
 pub record HoldsAlone (s : Settings) (thread : ℕ) (w : World) : Type 0 where
-  pub calls : All (IsCallOf thread 0) (calls_of w.past)
-  pub stands : StandsAlone s thread w.core (calls_of w.past) (thread_at w.core thread)
-  pub others : NoOther w.core thread
+  pub calls : All (IsIdleUnlessOf thread) (calls_of w.past)
+  pub done : Replays (opened s) (calls_of w.past) (tracker_in s (abstract_of w.core))
 
 HoldsAlone-start : (s : Settings) (thread : ℕ) → HoldsAlone s thread (start s)
-HoldsAlone-start s thread =
-    record {
-      calls = All-nil (IsCallOf thread 0);
-      stands = rw (get_or-replicate_same s.threads thread NotEnrolled) (refl, refl, refl);
-      others = λ other apart. get_or-replicate_same s.threads other NotEnrolled;
-    }
+HoldsAlone-start s thread = record { calls = All-nil (IsIdleUnlessOf thread); done = refl }
 
-HoldsAlone-begun : (s : Settings) (w : World) (thread number : ℕ) (op : Op) (server : ℕ) → HoldsAlone s thread w
-    → thread < length w.core.threads → thread_at w.core thread ≡ Idle number → HoldsAlone s thread (begun w thread op server)
-HoldsAlone-begun s w thread number op server holds inside stands =
-    let was = rw stands at holds.stands in
-    let call : Call = begun_call thread number op server in
+HoldsAlone-begun : (s : Settings) (w : World) (thread own number : ℕ) (op : Op) (server : ℕ) → HoldsAlone s thread w
+    → thread_at w.core own ≡ Idle number → HoldsAlone s thread (begun w own op server)
+HoldsAlone-begun s w thread own number op server holds stands =
+    let call : Call = begun_call own number op server in
     let calls = calls_of w.past in
     rw stands (record {
-      calls = All-cons (IsCallOf thread 0) call calls (record { thread = refl; number = was.0 }) holds.calls;
-      stands = rw (get_or-set_same w.core.threads thread (InCall number op server) NotEnrolled inside)
-          (was.0, record { older = calls; newest = refl; done = was.1 });
-      others = NoOther-set w.core thread (InCall number op server) holds.others;
+      calls = All-cons (IsIdleUnlessOf thread) call calls (λ apart. (refl, refl)) holds.calls;
+      done = (tracker_in s (abstract_of w.core), holds.done, inl (All-nil IsQuiet, refl));
     })
 
-HoldsAlone-enrolled : (s : Settings) (w : World) (thread : ℕ) → HoldsAlone s thread w → thread < length w.core.threads
-    → thread_at w.core thread ≡ NotEnrolled
-    → HoldsAlone s thread (record { core = after_enrol w.core thread; past = Took (enrol_step w.core thread) ∷ w.past })
-HoldsAlone-enrolled s w thread holds inside stands =
-    let was = rw stands at holds.stands in
-    let own : OwnStep = record { at = steps_in (Took (enrol_step w.core thread) ∷ w.past); step = enrol_step w.core thread } in
-    let none : with_step own (calls_of w.past) ≡ [] = ap (with_step own) was.1 in
-    record {
-      calls = rw none (All-nil (IsCallOf thread 0));
-      stands = rw (get_or-set_same w.core.threads thread (Idle w.core.enrolled) NotEnrolled inside, none) (was.0, was.2);
-      others = NoOther-set w.core thread (Idle w.core.enrolled) holds.others;
-    }
+HoldsAlone-enrolled : (s : Settings) (w : World) (thread own : ℕ) → Holds s w → HoldsAlone s thread w
+    → thread_at w.core own ≡ NotEnrolled
+    → HoldsAlone s thread (record { core = after_enrol w.core own; past = Took (enrol_step w.core own) ∷ w.past })
+HoldsAlone-enrolled s w thread own law holds stands =
+    let calls = calls_of w.past in
+    let step : OwnStep = own_step (enrol_step w.core own) w.past in
+    let none : latest own calls ≡ None = rw stands at (law.stand own) in
+    let same : with_step step calls ≡ calls = with_step-none step calls none in
+    record { calls = rw same holds.calls; done = rw same holds.done }
 
-HoldsAlone-whole : (s : Settings) (w : World) (thread number : ℕ) (op : Op) (server : ℕ) → HoldsAlone s thread w
-    → thread < length w.core.threads → thread_at w.core thread ≡ InCall number op server
+HoldsAlone-whole : (s : Settings) (w : World) (thread number : ℕ) (op : Op) (server : ℕ) → Holds s w → HoldsAlone s thread w
+    → thread_at w.core thread ≡ InCall number op server
     → HoldsAlone s thread (record {
       core = after_whole w.core thread number op server;
       past = Took (whole_step w.core thread number op server) ∷ w.past;
     })
-HoldsAlone-whole s w thread number op server holds inside stands =
-    let was = rw stands at holds.stands in
-    let older = was.1.older in
-    let zeroth : number ≡ 0 = was.0 in
+HoldsAlone-whole s w thread number op server law holds stands =
+    let calls = calls_of w.past in
     let step : StepTaken = whole_step w.core thread number op server in
-    let own : OwnStep = record { at = steps_in (Took step ∷ w.past); step = step } in
+    let own : OwnStep = own_step step w.past in
     let call : Call = begun_call thread number op server in
-    let answered : with_step own (calls_of w.past) ≡ and_step call own ∷ older =
-    rw (was.1.newest, eq-eqb thread thread refl) refl in
-    let replies : HasReply w.core.tracker 0 (and_step call own) = λ reply e. cc in
-    let done : Done s (and_step call own ∷ older) (after w.core.tracker 0 op server) =
-    Done-cons s (and_step call own) older w.core.tracker was.1.done replies in
-    let P : ℕ → Type 0 = λ n. Done s (and_step call own ∷ older) (after w.core.tracker n op server) in
+    let begun : latest thread calls ≡ Some call = rw stands at (law.stand thread) in
+    let tracker : tracker_in s (abstract_of w.core) ≡ w.core.tracker = ap (λ t. tracker_in t (abstract_of w.core)) (sym law.settings) in
+    let answer : own.step.answer ≡ Some (reply_of (tracker_in s (abstract_of w.core)) number op server) =
+    ap (λ (t : Tracker). Some (reply_of t number op server)) (sym tracker) in
+    let now : after (tracker_in s (abstract_of w.core)) number op server
+    ≡ tracker_in s (abstract_of (after_whole w.core thread number op server)) =
+    ap (λ (t : Tracker). tracker_in s (after t number op server).servers) tracker in
+    let P : Tracker → Type 0 = λ t. Replays (opened s) (with_step own calls) t in
     record {
-      calls = rw answered
-          (All-cons (IsCallOf thread 0) (and_step call own) older (record { thread = refl; number = zeroth })
-          (All-tail (IsCallOf thread 0) call older (rw was.1.newest at holds.calls)));
-      stands = rw (get_or-set_same w.core.threads thread (Idle number) NotEnrolled inside, answered)
-          (zeroth, subst P (sym zeroth) done);
-      others = NoOther-set w.core thread (Idle number) holds.others;
+      calls = All-with_step (IsIdleUnlessOf thread) own calls holds.calls
+          (λ it found. let same : call ≡ it = cc in
+          let Q : Call → Type 0 = λ at. IsIdleUnlessOf thread (and_step at own) in
+          subst Q same (λ apart. absurd (apart refl)));
+      done = subst P now (Replays-with_step (opened s) (tracker_in s (abstract_of w.core)) thread number op server own answer
+          calls refl holds.calls begun holds.done);
     }
 
--- the same, where no other thread stepped up to now
-abbrev pub IsAlone : Settings → ℕ → World → Type 0
-IsAlone s thread w = All (IsStepOf thread) w.past → HoldsAlone s thread w
+-- the same, where no other thread took a step of a call up to now
+abbrev IsAlone : Settings → ℕ → World → Type 0
+IsAlone s thread w = Holds s w × (All (IsStepOf thread) w.past → HoldsAlone s thread w)
 
--- the thread that began is this one, since no other is enrolled
-IsAlone-begun : (s : Settings) (w : World) (thread own number : ℕ) (op : Op) (server : ℕ) → IsAlone s thread w
-    → own < length w.core.threads → thread_at w.core own ≡ Idle number → IsAlone s thread (begun w own op server)
-IsAlone-begun s w thread own number op server alone inside stands all =
-    let moment : Moment = began w.core own op server in
-    let holds = alone (All-tail (IsStepOf thread) moment w.past all) in
-    let P : ℕ → Type 0 = λ it. HoldsAlone s it (begun w own op server) in
-    let Q : ℕ → Type 0 = λ it. HoldsAlone s it w in
-    ⊎_elim
-    (λ (same : own ≡ thread).
-    subst P same (HoldsAlone-begun s w own number op server (subst Q (sym same) holds) inside stands))
-    (λ (apart : own ≡ thread → ⊥).
-    let none : thread_at w.core own ≡ NotEnrolled = holds.others own apart in
-    let clash : NotEnrolled ≡ Idle number = sym none ∙ stands in
-    absurd cc)
-    (cases_eq own thread)
-
--- the thread that stepped is this one, since its step says so
-IsAlone-stepped_from : (s : Settings) (w : World) (thread own : ℕ) (state : ThreadState) → IsAlone s thread w
-    → own < length w.core.threads → thread_at w.core own ≡ state → IsAlone s thread (stepped_from w own state)
-IsAlone-stepped_from s w thread own NotEnrolled alone inside stands all =
+HoldsAlone-stepped_from : (s : Settings) (w : World) (thread own : ℕ) (state : ThreadState) → IsAlone s thread w
+    → thread_at w.core own ≡ state → All (IsStepOf thread) (stepped_from w own state).past
+    → HoldsAlone s thread (stepped_from w own state)
+HoldsAlone-stepped_from s w thread own NotEnrolled (law, alone) stands all =
     let moment : Moment = Took (enrol_step w.core own) in
-    let same : own ≡ thread = All-head (IsStepOf thread) moment w.past all in
-    let holds = alone (All-tail (IsStepOf thread) moment w.past all) in
-    let P : ℕ → Type 0 = λ it. HoldsAlone s it (stepped_from w own NotEnrolled) in
-    let Q : ℕ → Type 0 = λ it. HoldsAlone s it w in
-    subst P same (HoldsAlone-enrolled s w own (subst Q (sym same) holds) inside stands)
-IsAlone-stepped_from s w thread own (Idle number) alone inside stands all = alone all
-IsAlone-stepped_from s w thread own (InCall number op server) alone inside stands all =
+    HoldsAlone-enrolled s w thread own law (alone (All-tail (IsStepOf thread) moment w.past all)) stands
+HoldsAlone-stepped_from s w thread own (Idle number) (law, alone) stands all = alone all
+HoldsAlone-stepped_from s w thread own (InCall number op server) (law, alone) stands all =
     let moment : Moment = Took (whole_step w.core own number op server) in
-    let same : own ≡ thread = All-head (IsStepOf thread) moment w.past all in
-    let holds = alone (All-tail (IsStepOf thread) moment w.past all) in
+    let same : own ≡ thread = All-head (IsStepOf thread) moment w.past all refl in
     let P : ℕ → Type 0 = λ it. HoldsAlone s it (stepped_from w own (InCall number op server)) in
     let Q : ℕ → Type 0 = λ it. HoldsAlone s it w in
-    subst P same (HoldsAlone-whole s w own number op server (subst Q (sym same) holds) inside stands)
+    let holds = alone (All-tail (IsStepOf thread) moment w.past all) in
+    subst P same (HoldsAlone-whole s w own number op server law (subst Q (sym same) holds) stands)
 
 IsAlone-happens : (s : Settings) (w : World) (thread : ℕ) (turn : Turn) → IsAlone s thread w → IsAlone s thread (happens w turn)
 IsAlone-happens s w thread (Begin own op server) alone =
     keeps-begin (IsAlone s thread) w own op server alone
-    (λ number inside stands on_server. IsAlone-begun s w thread own number op server alone inside stands)
+    (λ number inside stands on_server. (
+      Holds-begun s w own number op server alone.0 inside stands on_server,
+      λ all. HoldsAlone-begun s w thread own number op server (alone.1 (All-tail (IsStepOf thread) (began w.core own op server) w.past all)) stands,
+    ))
 IsAlone-happens s w thread (Step own) alone =
     keeps-step (IsAlone s thread) w own alone
-    (λ inside. IsAlone-stepped_from s w thread own (thread_at w.core own) alone inside refl)
+    (λ inside. (
+      Holds-stepped_from s w own (thread_at w.core own) alone.0 inside refl,
+      HoldsAlone-stepped_from s w thread own (thread_at w.core own) alone refl,
+    ))
 
 IsAlone-after_turns : (s : Settings) (w : World) (thread : ℕ) (turns : List Turn) → IsAlone s thread w
     → IsAlone s thread (after_turns w turns)
@@ -181,17 +164,4 @@ IsAlone-after_turns s w thread (turn ∷ turns) alone =
 
 pub HoldsAlone-run : InEveryRunAlone HoldsAlone
 HoldsAlone-run s ranges thread turns all =
-    IsAlone-after_turns s (start s) thread turns (λ none. HoldsAlone-start s thread) all
-
-Done-stands : (s : Settings) (thread : ℕ) (core : CoreState) (calls : List Call) (state : ThreadState)
-    → StandsAlone s thread core calls state → Done s calls core.tracker
-Done-stands s thread core calls NotEnrolled stands = rw stands.1 stands.2
-Done-stands s thread core calls (Idle number) stands = stands.1
-Done-stands s thread core calls (InCall number op server) stands =
-    let call : Call = begun_call thread number op server in
-    let unanswered : HasReply core.tracker 0 call = λ reply e. cc in
-    rw stands.1.newest (Done-cons s call stands.1.older core.tracker stands.1.done unanswered)
-
--- whether the thread has a call or not, the sequential tracker did its calls
-pub Done-alone : (s : Settings) (thread : ℕ) (w : World) → HoldsAlone s thread w → Done s (calls_of w.past) w.core.tracker
-Done-alone s thread w holds = Done-stands s thread w.core (calls_of w.past) (thread_at w.core thread) holds.stands
+    (IsAlone-after_turns s (start s) thread turns (Holds-start s ranges, λ none. HoldsAlone-start s thread)).1 all

@@ -3,6 +3,7 @@ use Rattle.std.proofs.Common.{◌≡◌, ℕ, Bool, true, false, cond, eqb, List
 use Rattle.std.proofs.lemmas.Bool.{eq-eqb, eqb-true, ne_eqb}
 use Rattle.std.proofs.lemmas.List.Elements.{All-nil, All-cons, All-head, All-tail}
 use Rattle.tko_model.specs.declared.mark.Op.{Op}
+use Rattle.tko_steps.specs.Legal.{IsNewestStep}
 use Rattle.tko_steps.specs.Runs.{Call, OwnStep, and_step, begun_call, with_step}
 
 -- the call that a thread began last
@@ -60,3 +61,27 @@ All-with_step P own (call ∷ calls) all next =
     all_either P own call calls (with_step own calls) (latest own.step.thread calls) (eqb call.thread own.step.thread)
     (All-head P call calls all) (All-tail P call calls all) next
     (All-with_step P own calls (All-tail P call calls all))
+
+newest_either : (own : OwnStep) (begun call : Call) (calls rest : List Call) (found : Option Call) (test : Bool)
+    → cond test (Some call) found ≡ Some begun → (found ≡ Some begun → IsNewestStep own rest)
+    → IsNewestStep own (cond test (and_step call own ∷ calls) (call ∷ rest))
+newest_either own begun call calls rest found true is onward =
+    record { call = and_step call own; newer = []; older = calls; earlier = call.steps; found = refl; newest = refl }
+newest_either own begun call calls rest found false is onward =
+    let it = onward is in
+    record {
+      call = it.call;
+      newer = call ∷ it.newer;
+      older = it.older;
+      earlier = it.earlier;
+      found = ap (λ others. call ∷ others) it.found;
+      newest = it.newest;
+    }
+
+-- a step of a thread with a call is the newest of that call
+pub IsNewestStep-with_step : (own : OwnStep) (begun : Call) (calls : List Call) → latest own.step.thread calls ≡ Some begun
+    → IsNewestStep own (with_step own calls)
+IsNewestStep-with_step own begun [] is = cc
+IsNewestStep-with_step own begun (call ∷ calls) is =
+    newest_either own begun call calls (with_step own calls) (latest own.step.thread calls) (eqb call.thread own.step.thread) is
+    (IsNewestStep-with_step own begun calls)

@@ -8,7 +8,7 @@ use Rattle.tko_model.specs.declared.mark.Reply.TheVariants.{Contended, Full, Wor
 use Rattle.tko_model.specs.declared.settings.Settings.{Settings}
 use Rattle.tko_model.specs.Tracker.{after, reply_of, server_at, softs, transition_on}
 use Rattle.tko_steps.specs.Core.{CoreState, IsCore, IsOwner, number_of, thread_at}
-use Rattle.tko_steps.specs.Legal.{ChangesAtMostOnce, HasOneResponsible, IsFullAtLimit, IsLegal, IsOwnersAnswer, IsQuiet, TakesEffect, tracker_in}
+use Rattle.tko_steps.specs.Legal.{ChangesAtMostOnce, HasOneResponsible, IsFullAtLimit, IsLegal, IsLegalAt, IsOwnersAnswer, IsQuiet, TakesEffect, tracker_in}
 use Rattle.tko_steps.specs.Runs.{Call, OwnStep, StepTaken, and_step, begun_call}
 use Rattle.tko_steps.proofs.ThreadLemmas.{number-inside, number-once}
 use Rattle.tko_steps.proofs.TrackerLemmas.{IsSound, transition-sound}
@@ -22,9 +22,6 @@ pub record IsSoundCall (s : Settings) (call : Call) : Type 0 where
   pub contended : call.answer ≢ Some Contended
 
 -- what the law says of one own step of a call
-abbrev FullAt : Settings → Call → OwnStep → Type 0
-FullAt s call own = TakesEffect s call Full own.step → softs own.step.before ≡ s.limit
-
 abbrev OwnerAt : Call → OwnStep → Type 0
 OwnerAt call own =
     IsOwner own.step.before call.number call.server → (call.answer ≢ Some Worn) × (call.answer ≢ Some Contended)
@@ -36,7 +33,7 @@ IsSoundCall-begun_call s thread number op server =
     record {
       legal = record { answered = λ reply e ne. cc; contended = λ e. cc; open_yet = λ e. inl (All-nil IsQuiet) };
       once = tt;
-      full = All-nil (FullAt s call);
+      full = λ e. cc;
       owners = All-nil (OwnerAt call);
       contended = λ e. cc;
     }
@@ -69,18 +66,23 @@ module _ (s : Settings) (thread number : ℕ) (op : Op) (server : ℕ) (own : Ow
   never : (answer : Reply) → reply ≢ answer → own.step.answer ≢ Some answer
   never answer differs e = let told = whole.answer in absurd (differs cc)
 
+  legal_at-whole : (answer : Reply) → own.step.answer ≡ Some answer → IsLegalAt s call answer own
+  legal_at-whole answer e =
+      record { newer = []; older = []; steps = refl; effect = takes_effect answer e; others = All-nil IsQuiet }
+
   legal-whole : IsLegal s call
   legal-whole =
       record {
-        answered = λ answer e differs.
-            (own, record { newer = []; older = []; steps = refl; effect = takes_effect answer e; others = All-nil IsQuiet });
+        answered = λ answer e differs. (own, legal_at-whole answer e);
         contended = λ e. absurd (never Contended sound.contended e);
         open_yet = λ e. let told = whole.answer in cc;
       }
 
-  -- where full is answered, there are no fewer soft marks than may be
-  full-whole : TakesEffect s call Full own.step → softs own.step.before ≡ s.limit
-  full-whole effect = omega (arith, sound.full effect.reply, whole.limit)
+  -- where full is answered, there are no fewer soft marks than the limit
+  full-whole : IsFullAtLimit s call
+  full-whole e =
+      let legal = legal_at-whole Full e in
+      record { own = own; legal = legal; limit = omega (arith, sound.full legal.effect.reply, whole.limit) }
 
   owners-whole : IsOwner own.step.before number server → (own.step.answer ≢ Some Worn) × (own.step.answer ≢ Some Contended)
   owners-whole owned = (never Worn (sound.own owned), never Contended sound.contended)
@@ -90,7 +92,7 @@ module _ (s : Settings) (thread number : ℕ) (op : Op) (server : ℕ) (own : Ow
       record {
         legal = legal-whole;
         once = inl (All-nil IsQuiet);
-        full = All-cons (FullAt s call) own [] full-whole (All-nil (FullAt s call));
+        full = full-whole;
         owners = All-cons (OwnerAt call) own [] owners-whole (All-nil (OwnerAt call));
         contended = never Contended sound.contended;
       }

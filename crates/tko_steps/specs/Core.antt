@@ -1,5 +1,5 @@
--- The core: the tracker's state, where each thread stands, and how many threads are enrolled; and
--- what a begin and a step make of it.
+-- The core: the tracker's state, the state of each thread, and how many threads are enrolled; and
+-- the core after a begin and after a step.
 use Rattle.std.specs.Prelude.{◌≡◌, ℕ, ◌+◌, ◌<◌, ◌≤◌, Bool, true, false, ◌==◌, nat_lt, if◌then◌else◌, List, length, slice_index_or, slice_set, count_by, replicate, All, Option, Some, None}
 use Rattle.tko_model.specs.declared.mark.Mark.{Mark}
 use Rattle.tko_model.specs.declared.mark.Mark.TheVariants as mark
@@ -9,6 +9,7 @@ use Rattle.tko_model.specs.declared.state.ServerState.{ServerState}
 use Rattle.tko_model.specs.Tracker.{IsTracker, Tracker, after, opened, reply_of, server_at, softs}
 use Rattle.tko_steps.specs.declared.step.BeginFault.{BeginFault}
 use Rattle.tko_steps.specs.declared.step.BeginFault.TheVariants as fault
+use Rattle.tko_steps.specs.declared.step.Kind.{Kind}
 use Rattle.tko_steps.specs.declared.step.Kind.TheVariants as kind
 use Rattle.tko_steps.specs.declared.step.Place.TheVariants as place
 use Rattle.tko_steps.specs.declared.step.Stepped.{Stepped}
@@ -19,15 +20,24 @@ use Rattle.tko_steps.specs.declared.thread.ThreadState.TheVariants.{NotEnrolled,
 
 pub record CoreState : Type 0 where
   pub tracker : Tracker
-  -- in the order of their places
+  -- by their places
   pub threads : List ThreadState
   pub enrolled : ℕ
+
+-- the settings that it was opened with
+abbrev pub settings_of : CoreState → Settings
+settings_of core = core.tracker.settings
 
 -- the abstract state: the marks and stamps, and nothing else
 abbrev pub abstract_of : CoreState → List ServerState
 abstract_of core = core.tracker.servers
 
--- where the thread of this place stands
+-- whether a step of this kind is one of a call
+abbrev pub is_call_step : Kind → Bool
+is_call_step kind.Enrol = false
+is_call_step _ = true
+
+-- the state of the thread of this place
 abbrev pub thread_at : CoreState → ℕ → ThreadState
 thread_at core thread = slice_index_or core.threads thread NotEnrolled
 
@@ -37,16 +47,16 @@ number_of NotEnrolled = None
 number_of (Idle number) = Some number
 number_of (InCall number op server) = Some number
 
--- as it opens: each server up, no thread enrolled
+-- an opened core: each server up, no thread enrolled
 abbrev pub opened_core : Settings → CoreState
 opened_core s =
     record { tracker = opened s; threads = replicate s.threads NotEnrolled; enrolled = 0 }
 
--- the thread of this place now stands there
+-- the core with this state of the thread of this place
 abbrev pub with_thread : CoreState → ℕ → ThreadState → CoreState
 with_thread core thread state = record core { threads = slice_set core.threads thread state }
 
--- why a call can't begin, from where its thread stands and whether the server is there
+-- why a call can't begin, from the state of its thread and whether the server exists
 abbrev pub fault_at : ThreadState → Bool → Option BeginFault
 fault_at NotEnrolled is_server = Some fault.NoThread
 fault_at (InCall number op server) is_server = Some fault.Busy
@@ -63,7 +73,7 @@ abbrev pub unless_fault : {A : Type 0} → Option BeginFault → A → A → A
 unless_fault None new old = new
 unless_fault (Some fault) new old = old
 
--- where an idle thread stands once its call began
+-- the state of an idle thread once its call began
 abbrev pub in_call : ThreadState → Op → ℕ → ThreadState
 in_call NotEnrolled op server = NotEnrolled
 in_call (Idle number) op server = InCall number op server
@@ -107,13 +117,13 @@ told_by_whole core number op server =
     true
     (Some (reply_of core.tracker number op server))
 
--- the core after a step of the thread at this place, which stands there
+-- the core after a step of the thread at this place, which has this state
 abbrev pub after_step_from : CoreState → ℕ → ThreadState → CoreState
 after_step_from core thread NotEnrolled = after_enrol core thread
 after_step_from core thread (Idle number) = core
 after_step_from core thread (InCall number op server) = after_whole core thread number op server
 
--- what that step tells
+-- what that step reports
 abbrev pub told_from : CoreState → ThreadState → Stepped
 told_from core NotEnrolled = told_by_enrol core
 told_from core (Idle number) = stepped.Idle
@@ -149,7 +159,7 @@ has_call NotEnrolled = false
 has_call (Idle number) = false
 has_call (InCall number op server) = true
 
--- a call of a thread is on a server that is there
+-- a call of a thread is on a server that exists
 abbrev pub IsOnServer : ℕ → ThreadState → Type 0
 IsOnServer servers NotEnrolled = Unit {0}
 IsOnServer servers (Idle number) = Unit {0}
@@ -169,11 +179,12 @@ IsOwner servers number server = owner_of (server_at servers server).mark ≡ Som
 pub record IsCore (core : CoreState) : Type 0 where
   pub tracker : IsTracker core.tracker
   pub threads : length core.threads ≡ core.tracker.settings.threads
-  -- so many threads are enrolled, and each number below that is one thread's
+  -- so many threads are enrolled, and each number below that is the number of one thread
   pub enrolled : count_by is_enrolled core.threads ≡ core.enrolled
   pub numbers : (number : ℕ) →
       count_by (has_number number) core.threads ≡ (if nat_lt number core.enrolled then 1 else 0)
   pub calls : All (IsOnServer (length (abstract_of core))) core.threads
   -- marks name numbers that were drawn
-  pub owners : (server number : ℕ) → IsOwner (abstract_of core) number server → number < core.enrolled
+  pub owners : (server number : ℕ) →
+      IsOwner (abstract_of core) number server → number < core.enrolled
   pub limit : softs (abstract_of core) ≤ core.tracker.settings.limit

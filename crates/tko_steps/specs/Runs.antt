@@ -7,14 +7,13 @@ use Rattle.tko_model.specs.declared.settings.Settings.{Settings}
 use Rattle.tko_model.specs.declared.state.ServerState.{ServerState}
 use Rattle.tko_model.specs.Ranges.{IsWithinRanges}
 use Rattle.tko_steps.specs.declared.step.Kind.{Kind}
-use Rattle.tko_steps.specs.declared.step.Kind.TheVariants.{Enrol, Whole}
 use Rattle.tko_steps.specs.declared.step.Place.{Place}
 use Rattle.tko_steps.specs.declared.step.Stepped.{Stepped}
 use Rattle.tko_steps.specs.declared.step.Stepped.TheVariants.{NoThread, Idle, Did}
 use Rattle.tko_steps.specs.declared.step.Word.{Word}
-use Rattle.tko_steps.specs.Core.{CoreState, abstract_of, after_begin, after_step, begin_fault, number_of, opened_core, thread_at, told_by_step, unless_fault}
+use Rattle.tko_steps.specs.Core.{CoreState, abstract_of, after_begin, after_step, begin_fault, is_call_step, number_of, opened_core, thread_at, told_by_step, unless_fault}
 
--- what may come next: any thread, whatever it asks for, or none again
+-- a turn: a begin of any thread, of any operation on any server, or a step of any thread
 pub data Turn : Type 0 where
   Begin : (thread : ℕ) (op : Op) (server : ℕ) → Turn
   Step : (thread : ℕ) → Turn
@@ -30,12 +29,12 @@ pub record StepTaken : Type 0 where
   pub before : List ServerState
   pub after : List ServerState
 
--- what happened: a call began, of a thread with this number, or a step was taken
+-- what happened: a call of a thread with this number began, or a step was taken
 pub data Moment : Type 0 where
   Began : (thread number : ℕ) (op : Op) (server : ℕ) → Moment
   Took : StepTaken → Moment
 
--- the core, and what happened up to now, the newest first
+-- the core, and what happened so far, the newest first
 pub record World : Type 0 where
   pub core : CoreState
   pub past : List Moment
@@ -45,7 +44,7 @@ abbrev pub began : CoreState → ℕ → Op → ℕ → Moment
 began core thread op server =
     Began thread (unwrap_or (number_of (thread_at core thread)) 0) op server
 
--- the past with what a step told, if it did anything
+-- the past with what a step reported, if it did anything
 abbrev pub with_told : List Moment → ℕ → List ServerState → List ServerState → Stepped → List Moment
 with_told past thread before after NoThread = past
 with_told past thread before after Idle = past
@@ -73,9 +72,10 @@ happens w (Begin thread op server) =
     }
 happens w (Step thread) =
     let new = after_step w.core thread in
+    let told = told_by_step w.core thread in
     record {
       core = new;
-      past = with_told w.past thread (abstract_of w.core) (abstract_of new) (told_by_step w.core thread);
+      past = with_told w.past thread (abstract_of w.core) (abstract_of new) told;
     }
 
 -- turns, one after another
@@ -99,7 +99,7 @@ pub record OwnStep : Type 0 where
   pub at : ℕ
   pub step : StepTaken
 
--- a call: who made it, its own steps, the newest first, and its answer, if it has one
+-- a call: its thread, its operation, its own steps, the newest first, and its answer, if it has one
 pub record Call : Type 0 where
   pub thread : ℕ
   pub number : ℕ
@@ -115,14 +115,17 @@ begun_call thread number op server =
 
 -- a step of a call counts, an enrolment does not
 abbrev pub count_of : Kind → ℕ
-count_of Enrol = 0
-count_of Whole = 1
+count_of kind = if is_call_step kind then 1 else 0
 
 -- how many steps of calls were taken
 abbrev pub steps_in : List Moment → ℕ
 steps_in [] = 0
 steps_in (Began thread number op server ∷ past) = steps_in past
 steps_in (Took step ∷ past) = steps_in past + count_of step.kind
+
+-- a step that follows this past, with its number
+abbrev pub own_step : StepTaken → List Moment → OwnStep
+own_step step past = record { at = steps_in (Took step ∷ past); step = step }
 
 -- the call with one more step
 abbrev pub and_step : Call → OwnStep → Call
@@ -141,4 +144,4 @@ calls_of [] = []
 calls_of (Began thread number op server ∷ past) =
     begun_call thread number op server ∷ calls_of past
 calls_of (Took step ∷ past) =
-    with_step (record { at = steps_in (Took step ∷ past); step = step }) (calls_of past)
+    with_step (own_step step past) (calls_of past)

@@ -8,7 +8,8 @@ use std::alloc::Global;
 use std::marker::Model;
 use tko_model::{Op, OpenFault, Plain, ServerState, Settings, SettingsFault};
 
-/// The shared state of a tracker and where each of its threads stands. Contracts see a `CoreState`.
+/// The shared state of a tracker and the state of each of its threads. In contracts it is a
+/// `CoreState`.
 #[derive(Debug, Drop)]
 pub struct Core {
     tracker: Plain,
@@ -38,7 +39,7 @@ impl Core {
     ghost use Rattle.tko_steps.specs.Core.{after_begin, after_enrol, after_step, after_whole, begin_fault, has_call, opened_core, thread_at, told_by_enrol, told_by_step, told_by_whole};
     ghost use Rattle.tko_steps.specs.declared.thread.ThreadState.TheVariants as state;
 
-    /// All servers are up, at the opening stamp, and no thread is enrolled.
+    /// Opens a core: all servers are up, at the opening stamp, and no thread is enrolled.
     pub fn open(alloc: Global, settings: Settings) -> Result<Core, OpenFault>
         ensures ok { IfOk result (λ core. core ≡ opened_core settings) }
         ensures settings { (fault : SettingsFault) →
@@ -54,7 +55,7 @@ impl Core {
         })
     }
 
-    /// Begins a call of a thread, which its steps then do.
+    /// Begins a call of a thread; its next steps then do it.
     pub fn begin(&mut self, thread: usize, op: Op, server: usize) -> Result<(), BeginFault>
         ensures ok { OnOk result (self.new ≡ after_begin self.old thread op server) }
         ensures err { OnErr result (self.new ≡ self.old) }
@@ -77,14 +78,14 @@ impl Core {
         }
     }
 
-    /// Whether the thread is there and has a call.
+    /// Whether the thread exists and has a call.
     pub fn has_call(&self, thread: usize) -> bool
         ensures { result ≡ has_call (thread_at self.now thread) }
     {
         thread < self.threads.len() && matches!(self.threads[thread], ThreadState::InCall { .. })
     }
 
-    /// One turn of a thread. The step of a thread that isn't enrolled is its enrolment.
+    /// Takes one step of a thread. The step of a thread that isn't enrolled is its enrolment.
     pub fn step(&mut self, thread: usize) -> Stepped
         ensures told { result ≡ told_by_step self.old thread }
         ensures state { self.new ≡ after_step self.old thread }

@@ -1,4 +1,4 @@
-//! What a step does and what it tells.
+//! What a step does and reports.
 
 use thiserror::Error;
 use tko_model::{Reply, ServerState};
@@ -6,10 +6,25 @@ use tko_model::{Reply, ServerState};
 /// What a step does.
 #[derive(Clone, Copy, Debug, PartialEq, Eq)]
 pub enum Kind {
-    /// It draws the thread's number.
+    /// The thread draws its number.
     Enrol,
-    /// It does a whole call.
+    /// The thread does a whole call.
     Whole,
+}
+
+impl Kind {
+    ghost use Rattle.std.specs.Prelude.{◌≡◌};
+    ghost use Rattle.tko_steps.specs.Core.{is_call_step};
+
+    /// Whether a step of this kind belongs to a call. An enrolment belongs to none.
+    pub fn is_call_step(self) -> bool
+        ensures { result ≡ is_call_step self }
+    {
+        match self {
+            Kind::Enrol => false,
+            Kind::Whole => true,
+        }
+    }
 }
 
 /// Which word a step is on.
@@ -19,7 +34,7 @@ pub enum Place {
     Enrolment,
 }
 
-/// What such a word holds.
+/// The value of such a word.
 #[derive(Clone, Copy, Debug, PartialEq, Eq)]
 pub enum Word {
     /// A server's mark and stamp.
@@ -28,7 +43,7 @@ pub enum Word {
     Enrolled(u32),
 }
 
-/// What one turn of a thread did.
+/// What a step of a thread did.
 #[derive(Clone, Copy, Debug, PartialEq, Eq)]
 pub enum Stepped {
     /// There is no such thread.
@@ -42,14 +57,14 @@ pub enum Stepped {
         found: Word,
         /// The word that it left.
         left: Word,
-        /// Whether the step wrote what it meant to.
+        /// Whether the step did what it tried: an exchange that found another word did not.
         won: bool,
         /// The reply, where the step ends its call.
         answer: Option<Reply>,
     },
 }
 
-/// Why a call can't begin. The first that applies, in this order, is told.
+/// Why a call can't begin. The first that applies, in this order, is returned.
 #[derive(Clone, Copy, Debug, PartialEq, Eq, Error)]
 pub enum BeginFault {
     /// There is no such thread, or it isn't enrolled.

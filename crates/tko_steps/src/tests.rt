@@ -14,10 +14,11 @@ const SETTINGS: Settings = Settings {
     opening_stamp: 0,
 };
 
-/// A core whose threads are enrolled in the order of their places.
+/// A core whose threads enrolled in order, so that each has its place as its number.
 fn enrolled(alloc: Global, settings: Settings) -> Result<Core, OpenFault> {
+    let threads = settings.threads as usize;
     let mut core = Core::open(alloc, settings)?;
-    for thread in 0..settings.threads as usize {
+    for thread in 0..threads {
         let _ = core.step(thread);
     }
     Ok(core)

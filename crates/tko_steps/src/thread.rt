@@ -1,8 +1,8 @@
-//! Where a thread stands.
+//! The state of a thread.
 
 use tko_model::Op;
 
-/// Where a thread stands. An enrolled thread has the number that its enrolment drew.
+/// The state of a thread. An enrolled thread has the number that its enrolment drew.
 #[derive(Clone, Copy, Debug, PartialEq, Eq)]
 pub enum ThreadState {
     NotEnrolled,

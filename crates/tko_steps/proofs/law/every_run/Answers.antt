@@ -31,6 +31,15 @@ pub returns-clause-contended : goal.returns-clause-contended
 returns-clause-contended c = λ s ranges turns.
     All-weaker (IsSoundCall s) (λ (call : Call). call.answer ≢ Some Contended) (λ call sound. sound.contended) (calls_of (run s turns).past) (Holds-run s ranges turns).calls
 
+pub returns-clause-numbers : goal.returns-clause-numbers
+returns-clause-numbers c = λ s ranges turns. (Holds-run s ranges turns).numbers
+
+pub returns-clause-chain : goal.returns-clause-chain
+returns-clause-chain c = λ s ranges turns. (Holds-run s ranges turns).chain
+
+pub returns-clause-changes : goal.returns-clause-changes
+returns-clause-changes c = λ s ranges turns. (Holds-run s ranges turns).changes
+
 pub returns-clause-limit : goal.returns-clause-limit
 returns-clause-limit c = λ s ranges turns.
     let holds = Holds-run s ranges turns in

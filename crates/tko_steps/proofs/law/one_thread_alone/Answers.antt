@@ -3,7 +3,7 @@ use Rattle.std.proofs.Common.{◌≢◌, Some}
 use Rattle.std.proofs.lemmas.List.Elements.{All-weaker}
 use Rattle.tko_model.specs.declared.mark.Reply.TheVariants.{Contended}
 use Rattle.tko_steps.specs.Runs.{Call, calls_of, run}
-use Rattle.tko_steps.proofs.AloneLemmas.{Done-alone, HoldsAlone-run}
+use Rattle.tko_steps.proofs.AloneLemmas.{HoldsAlone-run}
 use Rattle.tko_steps.proofs.LegalLemmas.{IsSoundCall}
 use Rattle.tko_steps.proofs.RunLemmas.{Holds-run}
 use Rattle.tko_steps.proofs.law.one_thread_alone.Goals as goal
@@ -12,8 +12,7 @@ pub returns-clause-calls : goal.returns-clause-calls
 returns-clause-calls c = λ s ranges thread turns all. (HoldsAlone-run s ranges thread turns all).calls
 
 pub returns-clause-replies : goal.returns-clause-replies
-returns-clause-replies c = λ s ranges thread turns all.
-    Done-alone s thread (run s turns) (HoldsAlone-run s ranges thread turns all)
+returns-clause-replies c = λ s ranges thread turns all. (HoldsAlone-run s ranges thread turns all).done
 
 pub returns-clause-contended : goal.returns-clause-contended
 returns-clause-contended c = λ s ranges thread turns all.
