@@ -13,13 +13,13 @@ use crate::writing::write_text;
 use std::alloc::{AllocError, Global};
 use tko_model::{OpenFault, Plain, Settings};
 use tko_route::links::{Script, Scripted};
-use tko_route::{Outside, PlainHealth, Trail};
+use tko_route::{IoRuntime, PlainHealth, Trail};
 use tko_session::{Inlet, Kept, Outlet, Parts, serve};
 
 type DryParts = Parts<PlainHealth, Scripted, Kept>;
 
 /// Answers the requests of the input, and then prints the trails if they are asked for.
-pub(crate) fn dry<R: Outside, I: Inlet, O: Outlet>(
+pub(crate) fn dry<R: IoRuntime, I: Inlet, O: Outlet>(
     rt: &R,
     alloc: Global,
     options: &DryOptions,
@@ -46,7 +46,7 @@ fn parts_asked(alloc: Global, options: &DryOptions) -> Result<DryParts, Fault>
 }
 
 /// Prints the trails' lines if they are asked for.
-fn print_trails<R: Outside, O: Outlet>(
+fn print_trails<R: IoRuntime, O: Outlet>(
     rt: &R,
     alloc: Global,
     asked: bool,

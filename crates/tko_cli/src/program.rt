@@ -9,7 +9,7 @@ use crate::writing::write_text;
 use clap::Error;
 use clap::error::ErrorKind;
 use std::alloc::Global;
-use tko_route::Outside;
+use tko_route::IoRuntime;
 use tko_session::{Inlet, Outlet};
 
 const DONE: u8 = 0;
@@ -21,7 +21,7 @@ const REFUSED: u8 = 2;
 /// Does what the words ask, of which the first is the program's name, and answers the status: 0 where
 /// it was done, 1 after a fault, 2 where the words were refused. Replies and runs go to `output`, and what went
 /// wrong to `faults`.
-pub fn command<R: Outside, I: Inlet, O: Outlet, F: Outlet>(
+pub fn command<R: IoRuntime, I: Inlet, O: Outlet, F: Outlet>(
     rt: &R,
     alloc: Global,
     words: &[String],
@@ -45,7 +45,7 @@ pub fn command<R: Outside, I: Inlet, O: Outlet, F: Outlet>(
 }
 
 /// Says why the words were refused.
-fn refuse<R: Outside, F: Outlet>(rt: &R, alloc: Global, faults: &mut F, refusal: &Error) -> u8
+fn refuse<R: IoRuntime, F: Outlet>(rt: &R, alloc: Global, faults: &mut F, refusal: &Error) -> u8
     ensures { result ≤ 2 }
 {
     match show(rt, alloc, faults, refusal) {
@@ -55,7 +55,7 @@ fn refuse<R: Outside, F: Outlet>(rt: &R, alloc: Global, faults: &mut F, refusal:
 }
 
 /// Writes the text of clap.
-fn show<R: Outside, O: Outlet>(
+fn show<R: IoRuntime, O: Outlet>(
     rt: &R,
     alloc: Global,
     outlet: &mut O,
@@ -66,7 +66,7 @@ fn show<R: Outside, O: Outlet>(
 }
 
 /// Writes the line of a fault. There is nobody to tell if that fails too.
-fn fail<R: Outside, F: Outlet>(rt: &R, alloc: Global, faults: &mut F, fault: Fault) -> u8
+fn fail<R: IoRuntime, F: Outlet>(rt: &R, alloc: Global, faults: &mut F, fault: Fault) -> u8
     ensures { result ≤ 2 }
 {
     let _ = match format!(in alloc; "{fault}\n") {

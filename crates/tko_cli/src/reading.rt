@@ -4,11 +4,11 @@ ghost use Rattle.tko_cli.specs.Replays.{CannotRead};
 
 use crate::Fault;
 use std::alloc::Global;
-use tko_route::Outside;
+use tko_route::IoRuntime;
 use tko_session::{Inlet, piece_buffer, read_piece};
 
 /// Reads a text to its end, or so many bytes of it.
-pub(crate) fn read_text<R: Outside, I: Inlet>(
+pub(crate) fn read_text<R: IoRuntime, I: Inlet>(
     rt: &R,
     alloc: Global,
     input: &mut I,
@@ -31,7 +31,7 @@ pub(crate) fn read_text<R: Outside, I: Inlet>(
 }
 
 /// Puts the next piece behind a text, and answers how many bytes it has.
-fn append_piece<R: Outside, I: Inlet>(
+fn append_piece<R: IoRuntime, I: Inlet>(
     rt: &R,
     input: &mut I,
     buffer: &mut [u8],

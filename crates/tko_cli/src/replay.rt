@@ -6,7 +6,7 @@ use crate::Fault;
 use crate::reading::read_text;
 use crate::writing::write_text;
 use std::alloc::Global;
-use tko_route::Outside;
+use tko_route::IoRuntime;
 use tko_runs::{Schedule, check, play};
 use tko_session::{Inlet, Outlet};
 
@@ -15,7 +15,7 @@ const MOST: usize = 1_048_577;
 
 /// Reads a schedule, and prints the run that it names and where each call takes effect. At a fault
 /// nothing is printed, but for one of printing.
-pub(crate) fn replay<R: Outside, I: Inlet, O: Outlet>(
+pub(crate) fn replay<R: IoRuntime, I: Inlet, O: Outlet>(
     rt: &R,
     alloc: Global,
     input: &mut I,

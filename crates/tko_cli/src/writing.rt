@@ -3,11 +3,11 @@ ghost use Rattle.std.specs.Prelude.{IfErr, OnOk};
 ghost use Rattle.tko_cli.specs.Replays.{CannotWrite};
 
 use crate::Fault;
-use tko_route::Outside;
+use tko_route::IoRuntime;
 use tko_session::{Outlet, write_all};
 
 /// Writes all of a text. A write that was interrupted is done again.
-pub(crate) fn write_text<R: Outside, O: Outlet>(
+pub(crate) fn write_text<R: IoRuntime, O: Outlet>(
     rt: &R,
     outlet: &mut O,
     text: &[u8],

@@ -10,11 +10,10 @@ Lead step old [] new = new ≡ old
 Lead {S} step old (item ∷ items) new = (mid : S) × step old item mid × Lead step mid items new
 
 -- a record gains these items from the one object to the other
-pub record Gains {S A : Type 0} (step : S → A → S → Type 0) (old : S) (items : List A) (new : S) : Type 0 where
+pub record Gains {S A : Type 0} (step : S → A → S → Type 0) (old : S) (items : List A) (new : S)
+    : Type 0 where
   pub leads : Lead step old items new
 
--- an item of a health record: an operation on a server, and its reply
-pub record HealthItem : Type 0 where
-  pub op : Op
-  pub server : ℕ
-  pub reply : Reply
+-- an item of a health record: a call of an operation on a server, and its reply
+pub data HealthItem : Type 0 where
+  Called : (op : Op) (server : ℕ) (reply : Reply) → HealthItem

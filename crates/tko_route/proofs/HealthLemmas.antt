@@ -6,7 +6,7 @@ use Rattle.tko_model.specs.declared.mark.Op.{Op}
 use Rattle.tko_model.specs.declared.state.ServerState.{ServerState}
 use Rattle.tko_model.specs.Records.{Gains, HealthItem, Lead}
 use Rattle.tko_model.specs.Tracker.{Tracker, after, changed, transition_on}
-use Rattle.tko_route.specs.Health.{IsReplay, IsTrackerStep, OneThread, RepliesAreOf, after_all}
+use Rattle.tko_route.specs.Health.{HaveReplies, IsReplay, IsTrackerStep, OneThread, after_all, after_item}
 
 length_changed : (servers : List ServerState) (server : ℕ) (change : Option Mark)
     → length (changed servers server change) ≡ length servers
@@ -23,9 +23,9 @@ replay : (old new : OneThread) (items : List HealthItem) → Lead IsTrackerStep 
 replay old new [] e = record { replies = tt; tracker = ap (λ (at : OneThread). at.tracker) e; thread = ap (λ (at : OneThread). at.thread) e }
 replay old new (it ∷ items) (mid, step, rest) =
     let behind = replay mid new items rest in
-    let P : Tracker → ℕ → Type 0 = λ tracker thread. RepliesAreOf tracker thread items × (new.tracker ≡ after_all tracker thread items) in
-    let moved : P (after old.tracker old.thread it.op it.server) old.thread =
-    subst (λ (n : ℕ). P (after old.tracker old.thread it.op it.server) n) step.thread
+    let P : Tracker → ℕ → Type 0 = λ tracker thread. HaveReplies tracker thread items × (new.tracker ≡ after_all tracker thread items) in
+    let moved : P (after_item old.tracker old.thread it) old.thread =
+    subst (λ (n : ℕ). P (after_item old.tracker old.thread it) n) step.thread
     (subst (λ (t : Tracker). P t mid.thread) step.tracker (behind.replies, behind.tracker)) in
     record { replies = (step.reply, moved.0); tracker = moved.1; thread = behind.thread ∙ step.thread }
 

@@ -1,5 +1,5 @@
--- Exchanges with servers: what came of each, and how they are counted.
-use Rattle.std.specs.Prelude.{◌≡◌, ℕ, Bool, true, false, ◌==◌, ◌&&◌, if◌then◌else◌, MatchBool, Result, Ok, Err}
+-- Requests sent to servers: what came of each, and how they are counted.
+use Rattle.std.specs.Prelude.{◌≡◌, ℕ, Bool, true, false, ◌==◌, ◌&&◌, if◌then◌else◌, MatchBool, Option, Some, None, Result, Ok, Err}
 use Rattle.tko_text.specs.declared.request.Request.{Request}
 use Rattle.tko_route.specs.declared.links.Outcome.{Outcome}
 use Rattle.tko_route.specs.declared.links.Outcome.TheVariants as outcome
@@ -9,11 +9,10 @@ use Rattle.tko_route.specs.declared.links.NoMemory.{NoMemory}
 abbrev pub most_sends : ℕ
 most_sends = 18446744073709551615
 
--- an item of a links record: this request was sent to this server, and that came of it
-pub record Exchange : Type 0 where
-  pub server : ℕ
-  pub request : Request
-  pub outcome : Outcome
+-- an item of a links record: this request was sent to this server, and that came of it; without an
+-- outcome where memory ran out
+pub data LinksItem : Type 0 where
+  Sent : (server : ℕ) (request : Request) (outcome : Option Outcome) → LinksItem
 
 -- whether a request was sent where this came of it
 abbrev pub is_sent : Outcome → Bool
@@ -23,7 +22,7 @@ is_sent outcome.Refused = true
 is_sent outcome.Broken = true
 is_sent outcome.Spent = false
 
--- whether a call counted a send; want of memory says it itself
+-- whether a call counted a send; an error for lack of memory says it itself
 abbrev pub is_counted : Result Outcome NoMemory → Bool
 is_counted (Ok came) = is_sent came
 is_counted (Err fault) = fault.sent
@@ -32,6 +31,14 @@ is_counted (Err fault) = fault.sent
 abbrev pub part_of : Bool → ℕ → ℕ → ℕ
 part_of sent to server = if sent && (to == server) then 1 else 0
 
--- what was sent is one exchange, and where nothing was sent nothing changed
-abbrev pub Exchanged : {L : Type 0} → (L → Exchange → L → Type 0) → L → Exchange → L → Type 0
-Exchanged exchanges old item new = MatchBool (is_sent item.outcome) (exchanges old item new) (new ≡ old)
+-- what came of a request, if the call returned it
+abbrev pub outcome_in : Result Outcome NoMemory → Option Outcome
+outcome_in (Ok came) = Some came
+outcome_in (Err fault) = None
+
+-- a call that counted a send is one item, and one that counted none changed nothing
+abbrev pub Exchanged : {L : Type 0} → (L → LinksItem → L → Type 0) → L → ℕ → Request
+    → Result Outcome NoMemory → L → Type 0
+Exchanged exchanges old server request result new =
+    MatchBool (is_counted result)
+    (exchanges old (Sent server request (outcome_in result)) new) (new ≡ old)

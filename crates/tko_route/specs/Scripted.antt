@@ -1,4 +1,4 @@
--- Links that play a list of scripts: what each script gives to a request, and what an exchange leaves.
+-- Links that play a list of scripts: what each script gives to a request, and what a send changes.
 use Rattle.std.specs.Prelude.{◌≡◌, ℕ, ◌+◌, List, [], ◌∷◌, ◌++◌, drop, length, map, slice_get, slice_index, slice_set, Option, Some, None, Result, Ok, Err}
 use Rattle.tko_text.specs.declared.request.Request.{Request}
 use Rattle.tko_text.specs.declared.response.fault.ReadFault.{ReadFault}
@@ -10,7 +10,7 @@ use Rattle.tko_route.specs.declared.links.Outcome.{Outcome}
 use Rattle.tko_route.specs.declared.links.Outcome.TheVariants as outcome
 use Rattle.tko_route.specs.declared.links.scripted.Script.{Script}
 use Rattle.tko_route.specs.declared.links.scripted.Script.TheVariants as script
-use Rattle.tko_route.specs.Links.{Exchange}
+use Rattle.tko_route.specs.Links.{LinksItem, Sent}
 
 -- the scripts that are left, how often each server was sent to, and the bytes of each request sent
 pub record ScriptedState : Type 0 where
@@ -18,7 +18,7 @@ pub record ScriptedState : Type 0 where
   pub sends : List ℕ
   pub requests : List (List ℕ)
 
--- what comes of an answer's bytes, by what a reading of them gives; none where memory was wanting
+-- what comes of an answer's bytes, by what a reading of them gives; nothing where memory ran out
 abbrev pub came_of : Result (Response × ℕ) ReadFault → Option Outcome
 came_of (Ok found) = Some (outcome.Reply found.0)
 came_of (Err fault.Short) = Some outcome.Broken
@@ -26,15 +26,16 @@ came_of (Err fault.Unreadable) = Some outcome.Broken
 came_of (Err fault.Memory) = None
 
 -- this script gives that to a request
-abbrev pub Gives : Script → Request → Outcome → Type 0
-Gives script.Refused request came = came ≡ outcome.Refused
-Gives script.Timeout request came = came ≡ outcome.Timeout
+abbrev pub Gives : Script → Request → Option Outcome → Type 0
+Gives script.Refused request came = came ≡ Some outcome.Refused
+Gives script.Timeout request came = came ≡ Some outcome.Timeout
 Gives (script.Bytes bytes) request came =
-    (read : Result (Response × ℕ) ReadFault) × ReadsResponse request bytes.items read × (came_of read ≡ Some came)
+    (read : Result (Response × ℕ) ReadFault)
+    × ReadsResponse request bytes.items read × (came_of read ≡ came)
 
 -- the next script gives it; a used-up list refuses
-abbrev pub NextGives : Option Script → Request → Outcome → Type 0
-NextGives None request came = came ≡ outcome.Refused
+abbrev pub NextGives : Option Script → Request → Option Outcome → Type 0
+NextGives None request came = came ≡ Some outcome.Refused
 NextGives (Some next) request came = Gives next request came
 
 -- a request was counted at its server, and its bytes are kept
@@ -45,23 +46,44 @@ counted old server request =
       requests = old.requests ++ request_text request ∷ [];
     }
 
--- a request was sent: it is counted, and the next script is used
-abbrev pub sent_to : ScriptedState → ℕ → Request → ScriptedState
-sent_to old server request = record (counted old server request) { scripts = drop 1 old.scripts }
+-- what came of an item is what the next script gives
+abbrev pub IsGiven : Option Script → LinksItem → Type 0
+IsGiven next (Sent server request came) = NextGives next request came
 
--- one exchange, of which the next script says what came
-pub record IsPlayed (old : ScriptedState) (it : Exchange) (new : ScriptedState) : Type 0 where
-  pub outcome : NextGives (slice_get old.scripts 0) it.request it.outcome
-  pub state : new ≡ sent_to old it.server it.request
+-- the bytes that went out in an item
+abbrev pub sent_text : LinksItem → List ℕ
+sent_text (Sent server request came) = request_text request
 
--- these scripts, one after another, give what came of these exchanges
-abbrev pub GiveInOrder : List Script → List Exchange → Type 0
+-- how often each server was sent to after an item
+abbrev pub sends_after : List ℕ → LinksItem → List ℕ
+sends_after sends (Sent server request came) =
+    slice_set sends server (slice_index sends server + 1)
+
+-- one item: it uses the next script, which gives what came, its bytes are kept, and it is counted
+pub record IsPlayed (old : ScriptedState) (it : LinksItem) (new : ScriptedState) : Type 0 where
+  pub outcome : IsGiven (slice_get old.scripts 0) it
+  pub state : new ≡ record {
+    scripts = drop 1 old.scripts;
+    sends = sends_after old.sends it;
+    requests = old.requests ++ sent_text it ∷ [];
+  }
+
+-- these scripts, one after another, give what came of these items
+abbrev pub GiveInOrder : List Script → List LinksItem → Type 0
 GiveInOrder scripts [] = Unit {0}
 GiveInOrder scripts (it ∷ items) =
-    NextGives (slice_get scripts 0) it.request it.outcome × GiveInOrder (drop 1 scripts) items
+    IsGiven (slice_get scripts 0) it × GiveInOrder (drop 1 scripts) items
 
--- over these exchanges the scripts are used in order, and the bytes of each request stand at the end
-pub record IsReplay (old : ScriptedState) (items : List Exchange) (new : ScriptedState) : Type 0 where
+-- how often each server was sent to after these items
+abbrev pub sends_after_all : List ℕ → List LinksItem → List ℕ
+sends_after_all sends [] = sends
+sends_after_all sends (it ∷ items) = sends_after_all (sends_after sends it) items
+
+-- over these items the scripts are used in order, each send is counted, and the bytes of each
+-- request are kept in order
+pub record IsReplay (old : ScriptedState) (items : List LinksItem) (new : ScriptedState)
+    : Type 0 where
   pub outcomes : GiveInOrder old.scripts items
   pub scripts : new.scripts ≡ drop (length items) old.scripts
-  pub requests : new.requests ≡ old.requests ++ map (λ it. request_text it.request) items
+  pub sends : new.sends ≡ sends_after_all old.sends items
+  pub requests : new.requests ≡ old.requests ++ map sent_text items

@@ -1,21 +1,20 @@
 -- The trail of a request: its attempts at one target after another. Nothing here knows a loop.
-use Rattle.std.specs.Prelude.{◌≡◌, ℕ, ◌-◌, Bool, false, ◌==◌, ◌⊎◌, List, [], ◌∷◌, ◌++◌, length, map, take, All, count_by, slice_get, slice_index, Option, Some, None, IsSome}
+use Rattle.std.specs.Prelude.{◌≡◌, ℕ, ◌<◌, ◌-◌, Bool, true, false, MatchBool, ◌==◌, ◌⊎◌, List, [], ◌∷◌, ◌++◌, length, map, take, All, count_by, slice_get, slice_index, Option, Some, None, IsSome}
 use Rattle.std.specs.Option.{option_and_then}
 use Rattle.tko_model.specs.declared.mark.Op.{Op}
 use Rattle.tko_model.specs.declared.mark.Op.TheVariants.{LookUp, SoftFailure, HardFailure, Success}
 use Rattle.tko_model.specs.declared.mark.Reply.{Reply}
 use Rattle.tko_model.specs.declared.mark.Reply.TheVariants as reply
-use Rattle.tko_model.specs.Records.{Gains, HealthItem}
+use Rattle.tko_model.specs.Records.{Gains, HealthItem, Called}
 use Rattle.tko_text.specs.declared.request.Request.{Request}
 use Rattle.tko_text.specs.declared.response.Response.{Response}
 use Rattle.tko_route.specs.declared.links.Outcome.{Outcome}
 use Rattle.tko_route.specs.declared.links.Outcome.TheVariants as outcome
 use Rattle.tko_route.specs.declared.attempt.Attempt.{Attempt}
 use Rattle.tko_route.specs.declared.attempt.Attempt.TheVariants as attempt
-use Rattle.tko_route.specs.Health.{item}
-use Rattle.tko_route.specs.Links.{Exchange, most_sends}
+use Rattle.tko_route.specs.Links.{LinksItem, Sent, most_sends}
 
--- the table of outcomes: what a tracker is told of each
+-- the table of outcomes: the operation that records each
 abbrev pub op_of : Outcome → Option Op
 op_of (outcome.Reply response) = Some Success
 op_of outcome.Refused = Some HardFailure
@@ -78,51 +77,71 @@ pub record IsTrail (targets : List ℕ) (trail : List Attempt) : Type 0 where
   pub servers : map server_of trail ≡ take (length trail) targets
   pub ends : ((length trail ≡ length targets) × NoneAnswered trail) ⊎ LastAnswered trail
 
--- the attempts are at targets in order, and none was answered
+-- the attempts are at targets in order, none was answered, and at least one target is left
 pub record IsCutTrail (targets : List ℕ) (trail : List Attempt) : Type 0 where
   pub servers : map server_of trail ≡ take (length trail) targets
+  pub shorter : length trail < length targets
   pub unanswered : NoneAnswered trail
 
--- the target behind those of a trail
+-- the target after those of a trail
 abbrev pub next_target : List ℕ → List Attempt → ℕ
 next_target targets trail = slice_index targets (length trail)
 
--- a tracker was told by this operation and answered; without one nothing changed
-abbrev pub Told : {H : Type 0} → (H → HealthItem → H → Type 0) → H → ℕ → Option Op → Option Reply → H → Type 0
-Told steps old server (Some op) (Some answer) new = steps old (item op server answer) new
-Told steps old server (Some op) None new = ⊥
-Told steps old server None (Some answer) new = ⊥
-Told steps old server None None new = new ≡ old
+-- this operation was called and got that reply; without an operation nothing changed
+abbrev pub IsRecorded : {H : Type 0} → (H → HealthItem → H → Type 0) → H → ℕ → Option Op
+    → Option Reply → H → Type 0
+IsRecorded steps old server (Some op) (Some answer) new = steps old (Called op server answer) new
+IsRecorded steps old server (Some op) None new = ⊥
+IsRecorded steps old server None (Some answer) new = ⊥
+IsRecorded steps old server None None new = new ≡ old
 
 -- a look-up found the server up
-pub record FoundUp {H : Type 0} (steps : H → HealthItem → H → Type 0) (old : H) (server : ℕ) (new : H)
-    : Type 0 where
+pub record FoundUp {H : Type 0} (steps : H → HealthItem → H → Type 0) (old : H) (server : ℕ)
+    (new : H) : Type 0 where
   pub count : ℕ
-  pub step : steps old (item LookUp server (reply.Up count)) new
+  pub step : steps old (Called LookUp server (reply.Up count)) new
 
 -- one attempt, as a step of health and links: a look-up that found that mark; or one that found the
--- server up, then the exchange, then what the table tells the tracker; or the count was used up
-unfoldable pub Attempted : {H L : Type 0} → (H → HealthItem → H → Type 0) → (L → Exchange → L → Type 0)
-    → (L → ℕ → ℕ) → Request → H × L → Attempt → H × L → Type 0
+-- server up, then the exchange, then the call that records its outcome; or the count was used up
+unfoldable pub Attempted : {H L : Type 0} → (H → HealthItem → H → Type 0)
+    → (L → LinksItem → L → Type 0) → (L → ℕ → ℕ) → Request → H × L → Attempt → H × L → Type 0
 Attempted steps exchanges sent request old (attempt.Skipped server mark) new =
-    steps old.0 (item LookUp server (reply.Marked mark)) new.0 × (new.1 ≡ old.1)
+    steps old.0 (Called LookUp server (reply.Marked mark)) new.0 × (new.1 ≡ old.1)
 Attempted {H} steps exchanges sent request old (attempt.Sent server came answer) new =
     (found : H) × FoundUp steps old.0 server found
-    × exchanges old.1 (record { server = server; request = request; outcome = came }) new.1
-    × Told steps found server (op_of came) (Some answer) new.0
+    × exchanges old.1 (Sent server request (Some came)) new.1
+    × IsRecorded steps found server (op_of came) (Some answer) new.0
 Attempted steps exchanges sent request old (attempt.Spent server) new =
     FoundUp steps old.0 server new.0 × (sent old.1 server ≡ most_sends) × (new.1 ≡ old.1)
 
--- these attempts were made, and then a look-up found the next target up
-pub record RanShort {H L : Type 0} (steps : H → HealthItem → H → Type 0) (exchanges : L → Exchange → L → Type 0)
-    (sent : L → ℕ → ℕ) (request : Request) (targets : List ℕ) (old : H × L) (trail : List Attempt) (new : H × L)
+-- an attempt at which memory ran out: a look-up found the server up; then, if the request was sent,
+-- that is one item without an outcome, and if it was not, the links did not change
+pub record RanOut {H L : Type 0} (steps : H → HealthItem → H → Type 0)
+    (exchanges : L → LinksItem → L → Type 0) (request : Request)
+    (old : H × L) (server : ℕ) (was_sent : Bool) (new : H × L) : Type 0 where
+  pub look : FoundUp steps old.0 server new.0
+  pub item : MatchBool was_sent (exchanges old.1 (Sent server request None) new.1) (new.1 ≡ old.1)
+
+-- these attempts were made, and then memory ran out at the next target
+pub record RanShort {H L : Type 0} (steps : H → HealthItem → H → Type 0)
+    (exchanges : L → LinksItem → L → Type 0) (sent : L → ℕ → ℕ) (request : Request)
+    (targets : List ℕ) (old : H × L) (trail : List Attempt) (was_sent : Bool) (new : H × L)
     : Type 0 where
   pub mid : H × L
   pub made : Gains (Attempted steps exchanges sent request) old trail mid
-  pub look : FoundUp steps mid.0 (next_target targets trail) new.0
+  pub last : RanOut steps exchanges request mid (next_target targets trail) was_sent new
 
--- where memory was wanting: nothing was done, or the trail ran short in an exchange
-abbrev pub CutShort : {H L : Type 0} → (H → HealthItem → H → Type 0) → (L → Exchange → L → Type 0)
-    → (L → ℕ → ℕ) → Request → List ℕ → H × L → List Attempt → H × L → Type 0
-CutShort steps exchanges sent request targets old trail new =
-    ((trail ≡ []) × (new ≡ old)) ⊎ RanShort steps exchanges sent request targets old trail new
+-- memory ran out before the first attempt
+pub record NothingDone {S : Type 0} (old : S) (trail : List Attempt) (was_sent : Bool) (new : S)
+    : Type 0 where
+  pub untried : trail ≡ []
+  pub unsent : was_sent ≡ false
+  pub same : new ≡ old
+
+-- memory ran out: before the first attempt, or at the target after those of the trail
+abbrev pub CutShort : {H L : Type 0} → (H → HealthItem → H → Type 0)
+    → (L → LinksItem → L → Type 0) → (L → ℕ → ℕ) → Request → List ℕ → H × L → List Attempt → Bool
+    → H × L → Type 0
+CutShort steps exchanges sent request targets old trail was_sent new =
+    NothingDone old trail was_sent new
+    ⊎ RanShort steps exchanges sent request targets old trail was_sent new

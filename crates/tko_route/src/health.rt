@@ -1,12 +1,13 @@
 //! The health of servers, as a router asks for it.
 ghost use Rattle.std.specs.Prelude.{◌≡◌, ◌<◌};
-ghost use Rattle.tko_route.specs.Health.{Names, item, look_item};
+ghost use Rattle.tko_model.specs.Records.{Called};
+ghost use Rattle.tko_route.specs.Health.{Names, look_item};
 
-use crate::outside::Outside;
+use crate::io_runtime::IoRuntime;
 use tko_model::{Look, Reply};
 
-/// What is known of the servers' health, and what a router tells of them. Each call is one item of
-/// a record that contracts see: the operation, the server and the reply.
+/// What is known of the servers' health, and what a router reports of them. Each call is one item
+/// of a record that contracts see: the operation, the server and the reply.
 pub trait Health {
     ghost use Rattle.std.specs.Prelude.{ℕ};
     ghost use Rattle.tko_model.specs.Records.{HealthItem};
@@ -19,34 +20,34 @@ pub trait Health {
     ghost steps: { Self → HealthItem → Self → Type 0 };
 
     /// Looks a server up. What it finds up may be sent to once.
-    fn look_up<R: Outside>(&mut self, rt: &R, server: usize) -> Look
+    fn look_up<R: IoRuntime>(&mut self, rt: &R, server: usize) -> Look
         requires { server < servers self.old }
         ensures step { steps self.old (look_item server result) self.new }
         ensures names { Names server result }
         ensures servers { servers self.new ≡ servers self.old };
 
     /// The server failed in a way that may pass, such as a timeout.
-    fn soft_failure<R: Outside>(&mut self, rt: &R, server: usize) -> Reply
+    fn soft_failure<R: IoRuntime>(&mut self, rt: &R, server: usize) -> Reply
         requires { server < servers self.old }
-        ensures step { steps self.old (item SoftFailure server result) self.new }
+        ensures step { steps self.old (Called SoftFailure server result) self.new }
         ensures servers { servers self.new ≡ servers self.old };
 
     /// The server could not be reached.
-    fn hard_failure<R: Outside>(&mut self, rt: &R, server: usize) -> Reply
+    fn hard_failure<R: IoRuntime>(&mut self, rt: &R, server: usize) -> Reply
         requires { server < servers self.old }
-        ensures step { steps self.old (item HardFailure server result) self.new }
+        ensures step { steps self.old (Called HardFailure server result) self.new }
         ensures servers { servers self.new ≡ servers self.old };
 
     /// The server answered.
-    fn success<R: Outside>(&mut self, rt: &R, server: usize) -> Reply
+    fn success<R: IoRuntime>(&mut self, rt: &R, server: usize) -> Reply
         requires { server < servers self.old }
-        ensures step { steps self.old (item Success server result) self.new }
+        ensures step { steps self.old (Called Success server result) self.new }
         ensures servers { servers self.new ≡ servers self.old };
 
     /// The caller gives up its mark of the server.
-    fn release<R: Outside>(&mut self, rt: &R, server: usize) -> Reply
+    fn release<R: IoRuntime>(&mut self, rt: &R, server: usize) -> Reply
         requires { server < servers self.old }
-        ensures step { steps self.old (item Release server result) self.new }
+        ensures step { steps self.old (Called Release server result) self.new }
         ensures servers { servers self.new ≡ servers self.old };
 
     fn servers(&self) -> usize

@@ -1,10 +1,10 @@
 //! Links to the servers: one request out, and what came of it.
-ghost use Rattle.std.specs.Prelude.{◌≡◌, ◌+◌, ◌<◌, ◌↔◌, ℕ, IfOk};
+ghost use Rattle.std.specs.Prelude.{◌≡◌, ◌+◌, ◌<◌, ◌↔◌, ℕ};
 ghost use Rattle.tko_route.specs.Links.{Exchanged, is_counted, most_sends, part_of};
 
 mod scripted;
 
-use crate::outside::Outside;
+use crate::io_runtime::IoRuntime;
 pub use scripted::{RequestText, Script, Scripted};
 use tko_model::Clear;
 use tko_text::{Request, Response};
@@ -30,11 +30,11 @@ pub struct NoMemory {
     pub sent: bool,
 }
 
-/// The connections to the servers. Each send is one item of a record that contracts see: the server,
-/// the request and the outcome.
+/// The connections to the servers. Each send that is counted is one item of a record that contracts
+/// see: the server, the request and the outcome, or none where memory ran out.
 pub trait Links {
     ghost use Rattle.std.specs.Prelude.{ℕ};
-    ghost use Rattle.tko_route.specs.Links.{Exchange};
+    ghost use Rattle.tko_route.specs.Links.{LinksItem};
 
     /// How many servers there are.
     ghost servers: { Self → ℕ };
@@ -43,18 +43,17 @@ pub trait Links {
     ghost sent: { Self → ℕ → ℕ };
 
     /// From one state to the next, this was exchanged.
-    ghost exchanges: { Self → Exchange → Self → Type 0 };
+    ghost exchanges: { Self → LinksItem → Self → Type 0 };
 
     /// Sends a request to the server that the leave names, and waits for what comes of it.
-    fn exchange<R: Outside>(
+    fn exchange<R: IoRuntime>(
         &mut self,
         rt: &R,
         clear: Clear,
         request: &Request,
     ) -> Result<Outcome, NoMemory>
         requires { clear < servers self.old }
-        ensures record { IfOk result (λ came. Exchanged exchanges self.old
-            (record { server = clear; request = request.now; outcome = came }) self.new) }
+        ensures record { Exchanged exchanges self.old clear request.now result self.new }
         ensures spent { (result ≡ Ok Outcome.Spent) ↔ (sent self.old clear ≡ most_sends) }
         ensures sends { (server : ℕ) → sent self.new server
             ≡ sent self.old server + part_of (is_counted result) clear server }

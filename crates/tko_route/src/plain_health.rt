@@ -1,13 +1,14 @@
 //! Health that one thread keeps.
 ghost use Rattle.std.specs.Prelude.{◌≡◌, ◌<◌, length};
-ghost use Rattle.tko_route.specs.Health.{IsTrackerStep, item};
+ghost use Rattle.tko_model.specs.Records.{Called};
+ghost use Rattle.tko_route.specs.Health.{IsTrackerStep};
 
 use crate::health::Health;
-use crate::outside::Outside;
+use crate::io_runtime::IoRuntime;
 use std::marker::Model;
 use tko_model::{Look, Op, Plain, Reply};
 
-/// The sequential tracker in the hands of one thread. Contracts see the tracker and the thread's number.
+/// The sequential tracker, used by one thread. Contracts see the tracker and the thread's number.
 #[derive(Debug, Drop)]
 pub struct PlainHealth {
     plain: Plain,
@@ -42,7 +43,7 @@ impl PlainHealth {
 
     fn apply(&mut self, op: Op, server: usize) -> Reply
         requires { server < length self.old.tracker.servers }
-        ensures step { IsTrackerStep self.old (item op server result) self.new }
+        ensures step { IsTrackerStep self.old (Called op server result) self.new }
         ensures servers { length self.new.tracker.servers ≡ length self.old.tracker.servers }
     {
         self.plain.apply(self.thread, op, server)
@@ -54,23 +55,23 @@ impl Health for PlainHealth {
 
     ghost steps = { λ old it new. IsTrackerStep old it new };
 
-    fn look_up<R: Outside>(&mut self, _rt: &R, server: usize) -> Look {
+    fn look_up<R: IoRuntime>(&mut self, _rt: &R, server: usize) -> Look {
         Look::of(server, self.plain.mark(server))
     }
 
-    fn soft_failure<R: Outside>(&mut self, _rt: &R, server: usize) -> Reply {
+    fn soft_failure<R: IoRuntime>(&mut self, _rt: &R, server: usize) -> Reply {
         self.apply(Op::SoftFailure, server)
     }
 
-    fn hard_failure<R: Outside>(&mut self, _rt: &R, server: usize) -> Reply {
+    fn hard_failure<R: IoRuntime>(&mut self, _rt: &R, server: usize) -> Reply {
         self.apply(Op::HardFailure, server)
     }
 
-    fn success<R: Outside>(&mut self, _rt: &R, server: usize) -> Reply {
+    fn success<R: IoRuntime>(&mut self, _rt: &R, server: usize) -> Reply {
         self.apply(Op::Success, server)
     }
 
-    fn release<R: Outside>(&mut self, _rt: &R, server: usize) -> Reply {
+    fn release<R: IoRuntime>(&mut self, _rt: &R, server: usize) -> Reply {
         self.apply(Op::Release, server)
     }
 

@@ -1,14 +1,14 @@
-//! The way of a request from target to target.
+//! Routing of one request from target to target.
 ghost use Rattle.std.specs.Option.{option_copied};
-ghost use Rattle.std.specs.Prelude.{◌≡◌, ◌+◌, ◌<◌, ◌≤◌, ℕ, [], ◌∷◌, ◌++◌, All, IfOk, IfErr, OnOk, OnErr, length, vec_capacity, vec_len};
+ghost use Rattle.std.specs.Prelude.{◌≡◌, ◌+◌, ◌<◌, ◌≤◌, ℕ, [], ◌∷◌, All, IfOk, IfErr, OnOk, OnErr, length, vec_capacity, vec_len};
 ghost use Rattle.tko_model.specs.Records.{Gains};
 ghost use Rattle.tko_route.specs.Links.{part_of};
-ghost use Rattle.tko_route.specs.Trail.{Attempted, CutShort, FoundUp, IsCutTrail, IsTrail, RanShort, Told, answer_of, next_target, op_of, sends_in, server_of};
+ghost use Rattle.tko_route.specs.Trail.{Attempted, CutShort, IsCutTrail, IsRecorded, IsTrail, RanOut, RanShort, answer_of, next_target, op_of, sends_in, server_of};
 
 use crate::attempt::{Attempt, Trail};
 use crate::health::Health;
+use crate::io_runtime::IoRuntime;
 use crate::links::{Links, NoMemory, Outcome};
-use crate::outside::Outside;
 use std::alloc::Global;
 use tko_model::{Look, Reply};
 use tko_text::{Request, Response};
@@ -31,22 +31,22 @@ impl Routed {
     }
 }
 
-/// No memory was there for a request: the attempts until then, and whether one more was sent.
+/// Memory ran out: the attempts until then, and whether one more request was sent.
 #[derive(Debug, Drop)]
 pub struct RouteFault {
     pub trail: Trail,
     pub sent: bool,
 }
 
-/// Tells the tracker what came of a send. This is the table of outcomes.
-fn tell<R: Outside, H: Health>(
+/// Records the outcome of a send at the tracker. This is the table of outcomes.
+fn record_outcome<R: IoRuntime, H: Health>(
     rt: &R,
     health: &mut H,
     server: usize,
     outcome: &Outcome,
 ) -> Option<Reply>
     requires { server < H.servers health.old }
-    ensures told { Told H.steps health.old server (op_of outcome.now) result health.new }
+    ensures recorded { IsRecorded H.steps health.old server (op_of outcome.now) result health.new }
     ensures servers { H.servers health.new ≡ H.servers health.old }
 {
     match outcome {
@@ -59,7 +59,7 @@ fn tell<R: Outside, H: Health>(
 
 /// One attempt: a look-up, and where it finds the server up, one send.
 #[tactic(auto, unfolding(crate::specs::Trail::Attempted))]
-fn try_server<R: Outside, H: Health, L: Links>(
+fn try_server<R: IoRuntime, H: Health, L: Links>(
     rt: &R,
     health: &mut H,
     links: &mut L,
@@ -73,7 +73,8 @@ fn try_server<R: Outside, H: Health, L: Links>(
         (health.old, links.old) it (health.new, links.new)) }
     ensures sends { IfOk result (λ it. (s : ℕ) →
         L.sent links.new s ≡ L.sent links.old s + sends_in s (it ∷ [])) }
-    ensures fault { IfErr result (λ fault. FoundUp H.steps health.old server health.new) }
+    ensures fault { IfErr result (λ fault. RanOut H.steps L.exchanges request.now
+        (health.old, links.old) server fault.sent (health.new, links.new)) }
     ensures fault_sends { IfErr result (λ fault. (s : ℕ) →
         L.sent links.new s ≡ L.sent links.old s + part_of fault.sent server s) }
     ensures health_servers { H.servers health.new ≡ H.servers health.old }
@@ -84,26 +85,14 @@ fn try_server<R: Outside, H: Health, L: Links>(
         Look::Marked(mark) => return Ok(Attempt::Skipped(server, mark)),
     };
     let outcome = links.exchange(rt, clear, request)?;
-    match tell(rt, health, server, &outcome) {
+    match record_outcome(rt, health, server, &outcome) {
         Some(reply) => Ok(Attempt::Sent(server, outcome, reply)),
         None => Ok(Attempt::Spent(server)),
     }
 }
 
-/// Puts an attempt at the end, where there is room for it.
-fn note(attempts: &mut Vec<Attempt>, attempt: Attempt)
-    requires { vec_len attempts.old < vec_capacity attempts.old }
-    ensures items { attempts.new.items ≡ attempts.old.items ++ attempt ∷ [] }
-    ensures len { vec_len attempts.new ≡ vec_len attempts.old + 1 }
-    ensures room { vec_capacity attempts.old ≤ vec_capacity attempts.new }
-{
-    let Ok(()) = attempts.push(attempt) else {
-        unreachable!()
-    };
-}
-
-/// Goes from target to target until one answers, and notes each attempt.
-fn walk<R: Outside, H: Health, L: Links>(
+/// Tries one target after another until one answers, and keeps each attempt.
+fn try_targets<R: IoRuntime, H: Health, L: Links>(
     rt: &R,
     health: &mut H,
     links: &mut L,
@@ -121,8 +110,9 @@ fn walk<R: Outside, H: Health, L: Links>(
     ensures sends { OnOk result ((s : ℕ) →
         L.sent links.new s ≡ L.sent links.old s + sends_in s attempts.new.items) }
     ensures fault { OnErr result (IsCutTrail targets.now attempts.new.items) }
-    ensures fault_record { OnErr result (RanShort H.steps L.exchanges L.sent request.now targets.now
-        (health.old, links.old) attempts.new.items (health.new, links.new)) }
+    ensures fault_record { IfErr result (λ fault.
+        RanShort H.steps L.exchanges L.sent request.now targets.now
+        (health.old, links.old) attempts.new.items fault.sent (health.new, links.new)) }
     ensures fault_sends { IfErr result (λ fault. (s : ℕ) →
         L.sent links.new s ≡ L.sent links.old s + sends_in s attempts.new.items
         + part_of fault.sent (next_target targets.now attempts.new.items) s) }
@@ -132,7 +122,7 @@ fn walk<R: Outside, H: Health, L: Links>(
     for &target in targets {
         let attempt = try_server(rt, health, links, target, request)?;
         let answered = attempt.is_answer();
-        note(attempts, attempt);
+        attempts.push_reserved(attempt);
         if answered {
             return Ok(());
         }
@@ -140,10 +130,10 @@ fn walk<R: Outside, H: Health, L: Links>(
     Ok(())
 }
 
-/// Sends a request to one target after another, in order, until one answers, and tells the tracker of
-/// each outcome. It makes at most one exchange at each target. The expiry is for targets after the
-/// first; a `get` has none to replace.
-pub fn route<R: Outside, H: Health, L: Links>(
+/// Sends a request to one target after another, in order, until one answers, and records each
+/// outcome at the tracker. Each target gets at most one exchange. The expiry is for targets after
+/// the first; a `get` has none to replace.
+pub fn route<R: IoRuntime, H: Health, L: Links>(
     rt: &R,
     alloc: Global,
     health: &mut H,
@@ -162,11 +152,11 @@ pub fn route<R: Outside, H: Health, L: Links>(
     ensures sends { IfOk result (λ routed. (server : ℕ) →
         L.sent links.new server ≡ L.sent links.old server + sends_in server routed.trail) }
 
-    // Where memory was wanting, the trail is what was done until then.
+    // Where memory ran out, the trail is what was done until then.
     ensures fault { IfErr result (λ fault. IsCutTrail targets.now fault.trail) }
     ensures fault_record { IfErr result (λ fault.
         CutShort H.steps L.exchanges L.sent request.now targets.now
-        (health.old, links.old) fault.trail (health.new, links.new)) }
+        (health.old, links.old) fault.trail fault.sent (health.new, links.new)) }
     ensures fault_sends { IfErr result (λ fault. (server : ℕ) →
         L.sent links.new server ≡ L.sent links.old server + sends_in server fault.trail
         + part_of fault.sent (next_target targets.now fault.trail) server) }
@@ -178,7 +168,7 @@ pub fn route<R: Outside, H: Health, L: Links>(
         let trail = Trail::of(Vec::new(alloc));
         return Err(RouteFault { trail, sent: false });
     };
-    match walk(rt, health, links, targets, request, &mut attempts) {
+    match try_targets(rt, health, links, targets, request, &mut attempts) {
         Ok(()) => Ok(Routed {
             trail: Trail::of(attempts),
         }),

@@ -1,6 +1,8 @@
 //! Routes over scripted links, with the answers of the tracker's tables.
 ghost use Rattle.std.specs.Prelude.{◌≡◌, IfOk, length};
 
+mod limits;
+
 use crate::links::{Links, Script, Scripted};
 use crate::{Attempt, Health, PlainHealth, RouteFault, Routed, Trail, route};
 use std::alloc::Global;

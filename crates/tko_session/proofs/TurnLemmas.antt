@@ -12,7 +12,7 @@ use Rattle.tko_text.specs.declared.fault.TextFault.{TextFault}
 use Rattle.tko_text.specs.declared.fault.TextFault.TheVariants.{LineTooLong}
 use Rattle.tko_text.specs.declared.request.Request.{Request}
 use Rattle.tko_text.specs.Requests.{fault_text}
-use Rattle.tko_route.specs.Links.{Exchange}
+use Rattle.tko_route.specs.Links.{LinksItem}
 use Rattle.tko_session.specs.declared.parts.Parts.{Parts}
 use Rattle.tko_session.specs.Told.{Told}
 use Rattle.tko_text.specs.Reading.{Reading, Gives, Tells}
@@ -105,7 +105,7 @@ ends_here from to fault tells e = record {
   gives = subst (λ it. Gives from (item.Fault it ∷ []) to) e (Gives-one _ _ _ tells);
 }
 
-module _ {H L T : Type 0} {steps : H → HealthItem → H → Type 0} {exchanges : L → Exchange → L → Type 0} {sent : L → ℕ → ℕ} {tells : T → Told → T → Type 0} where
+module _ {H L T : Type 0} {steps : H → HealthItem → H → Type 0} {exchanges : L → LinksItem → L → Type 0} {sent : L → ℕ → ℕ} {tells : T → Told → T → Type 0} where
   -- a fault is a turn that changes nothing but the outbox
   pub answered_fault : (old mid new : Standing) (world : Parts H L T) (fault : TextFault)
       → Tells old.reading (item.Fault fault) mid.reading → mid ≡ record old { reading = mid.reading }

@@ -10,7 +10,7 @@ use Rattle.tko_route.specs.Trail.{sends_in}
 use Rattle.tko_session.specs.declared.parts.Parts.{Parts}
 use Rattle.tko_model.specs.Records.{HealthItem}
 use Rattle.tko_text.specs.declared.request.Request.{Request}
-use Rattle.tko_route.specs.Links.{Exchange}
+use Rattle.tko_route.specs.Links.{LinksItem}
 use Rattle.tko_session.specs.Told.{Told}
 use Rattle.tko_session.specs.Turns.{Turn, IsRouted, reply_text}
 
@@ -80,7 +80,7 @@ pub record Turned {W : Type 0} (step : W → Turn → W → Type 0) (sent : W �
 
 -- a request was answered: one more, and the reply after its trail at the end of the outbox
 pub record Replied {H L T : Type 0} (steps : H → HealthItem → H → Type 0)
-    (exchanges : L → Exchange → L → Type 0) (sent : L → ℕ → ℕ) (tells : T → Told → T → Type 0)
+    (exchanges : L → LinksItem → L → Type 0) (sent : L → ℕ → ℕ) (tells : T → Told → T → Type 0)
     (old : Standing) (before : Parts H L T) (request : Request)
     (new : Standing) (after : Parts H L T) : Type 0 where
   pub trail : List Attempt

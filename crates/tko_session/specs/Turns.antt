@@ -8,7 +8,7 @@ use Rattle.tko_text.specs.declared.response.Response.{Response}
 use Rattle.tko_text.specs.Requests.{fault_text}
 use Rattle.tko_text.specs.Responses.{response_text}
 use Rattle.tko_route.specs.declared.attempt.Attempt.{Attempt}
-use Rattle.tko_route.specs.Links.{Exchange}
+use Rattle.tko_route.specs.Links.{LinksItem}
 use Rattle.tko_route.specs.Trail.{IsTrail, Attempted, answer_of}
 use Rattle.tko_session.specs.declared.parts.Parts.{Parts}
 use Rattle.tko_session.specs.Told.{Told, Asked, Tried}
@@ -39,7 +39,7 @@ pub record IsTold {T : Type 0} (tells : T → Told → T → Type 0)
   pub tried : tells between (Tried trail) new
 
 module _ {H L T : Type 0} (steps : H → HealthItem → H → Type 0)
-    (exchanges : L → Exchange → L → Type 0) (sent : L → ℕ → ℕ)
+    (exchanges : L → LinksItem → L → Type 0) (sent : L → ℕ → ℕ)
     (tells : T → Told → T → Type 0) where
   -- a request took this trail over the targets
   pub record IsRouted (old : Parts H L T) (request : Request) (trail : List Attempt)

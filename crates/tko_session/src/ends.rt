@@ -2,7 +2,7 @@
 ghost use Rattle.std.specs.Prelude.{◌≡◌, ◌≢◌, ◌+◌, ◌<◌, ◌≤◌, Ok, Err, IfOk, length};
 ghost use Rattle.tko_session.specs.Ends.{moved, faults_in, idles_in, refusals_in};
 
-use tko_route::Outside;
+use tko_route::IoRuntime;
 
 /// Why a call moved no byte.
 #[derive(Clone, Copy, Debug, PartialEq, Eq)]
@@ -33,7 +33,7 @@ pub trait Inlet {
 
     /// Puts the next bytes at the front of the buffer, and answers how many. Where the buffer has
     /// room, none is the end.
-    fn read<R: Outside>(&mut self, rt: &R, buffer: &mut [u8]) -> Result<usize, Stop>
+    fn read<R: IoRuntime>(&mut self, rt: &R, buffer: &mut [u8]) -> Result<usize, Stop>
         ensures within { IfOk result (λ count. count ≤ length buffer.new) }
         ensures gives { gives self.old (moved result buffer.new) self.new }
         ensures ended { result ≡ Ok 0 → 0 < length buffer.new → is_ended self.new }
@@ -60,7 +60,7 @@ pub trait Outlet {
 
     /// Takes bytes from the front of the piece, and answers how many. To take none of a piece that
     /// isn't empty is a failure too.
-    fn write<R: Outside>(&mut self, rt: &R, piece: &[u8]) -> Result<usize, Stop>
+    fn write<R: IoRuntime>(&mut self, rt: &R, piece: &[u8]) -> Result<usize, Stop>
         ensures within { IfOk result (λ count. count ≤ length piece.now) }
         ensures takes { takes self.old (moved result piece.now) self.new }
         ensures failures { failures self.new ≡ failures self.old + refusals_in piece.now result }

@@ -6,7 +6,7 @@ ghost use Rattle.tko_session.specs.Standing.{Reaches};
 
 use std::alloc::Global;
 use tko_route::links::Links;
-use tko_route::{Health, Outside, RouteFault, Routed, route};
+use tko_route::{Health, IoRuntime, RouteFault, Routed, route};
 use tko_text::Request;
 
 /// What a request's expiry is replaced by at the targets behind the first: a `get` has none.
@@ -24,7 +24,7 @@ pub struct Parts<H, L, T> {
 
 impl<H: Health, L: Links, T> Parts<H, L, T> {
     /// Sends a request to one target after another, until one answers.
-    pub(crate) fn route<R: Outside>(
+    pub(crate) fn route<R: IoRuntime>(
         &mut self,
         rt: &R,
         alloc: Global,

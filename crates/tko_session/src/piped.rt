@@ -4,7 +4,7 @@ ghost use Rattle.std.specs.Prelude.{◌≡◌};
 use crate::tally::Tally;
 use crate::{Inlet, Outlet, Stop};
 use std::io::{Error, ErrorKind, Read, Write};
-use tko_route::Outside;
+use tko_route::IoRuntime;
 
 /// A reader as an inlet, or a writer as an outlet.
 #[derive(Drop)]
@@ -52,7 +52,7 @@ impl<T: Read> Inlet for Piped<T> {
         Consumes-trans (T.remaining x.inner) (T.remaining y.inner) (T.remaining z.inner)
         bytes more first second };
 
-    fn read<R: Outside>(&mut self, rt: &R, buffer: &mut [u8]) -> Result<usize, Stop> {
+    fn read<R: IoRuntime>(&mut self, rt: &R, buffer: &mut [u8]) -> Result<usize, Stop> {
         match self.inner.read(buffer) {
             Ok(count) => Ok(count),
             Err(error) => Err(self.tally.count(rt, stop_of(&error))),
@@ -75,7 +75,7 @@ impl<T: Write> Outlet for Piped<T> {
         Appends-trans (T.contents x.inner) (T.contents y.inner) (T.contents z.inner)
         bytes more first second };
 
-    fn write<R: Outside>(&mut self, rt: &R, piece: &[u8]) -> Result<usize, Stop> {
+    fn write<R: IoRuntime>(&mut self, rt: &R, piece: &[u8]) -> Result<usize, Stop> {
         match self.inner.write(piece) {
             Ok(0) if !piece.is_empty() => {
                 let _counted = self.tally.count(rt, Stop::Fault);

@@ -9,13 +9,13 @@ ghost use Rattle.tko_session.specs.Served.{CameTooLong, Passed, Served};
 use crate::{Inlet, Outlet, Parts, Report, Session, SessionFault, Stop, Trails};
 use std::alloc::{AllocError, Global};
 use tko_route::links::Links;
-use tko_route::{Health, Outside};
+use tko_route::{Health, IoRuntime};
 
 /// The greatest piece that is read at once.
 const PIECE: usize = 16_384;
 
 /// Serves one client, from the first byte of its input to the end.
-pub fn serve<R: Outside, I: Inlet, O: Outlet, H: Health, L: Links, T: Trails>(
+pub fn serve<R: IoRuntime, I: Inlet, O: Outlet, H: Health, L: Links, T: Trails>(
     rt: &R,
     alloc: Global,
     reader: &mut I,
@@ -68,7 +68,11 @@ pub fn piece_buffer(alloc: Global) -> Result<Vec<u8>, AllocError>
 }
 
 /// Reads the next piece, and answers how many bytes it has; None is a failure.
-pub fn read_piece<R: Outside, I: Inlet>(rt: &R, reader: &mut I, buffer: &mut [u8]) -> Option<usize>
+pub fn read_piece<R: IoRuntime, I: Inlet>(
+    rt: &R,
+    reader: &mut I,
+    buffer: &mut [u8],
+) -> Option<usize>
     requires { 0 < length buffer.old }
     ensures within { IfSome result (λ count. count ≤ length buffer.new) }
     ensures gives { IfSome result (λ count. I.gives reader.old (take count buffer.new) reader.new) }
@@ -88,7 +92,7 @@ pub fn read_piece<R: Outside, I: Inlet>(rt: &R, reader: &mut I, buffer: &mut [u8
 }
 
 /// Gives a piece to the session, and writes what it answers, also where it then takes no more.
-fn serve_piece<R: Outside, O: Outlet, H: Health, L: Links, T: Trails>(
+fn serve_piece<R: IoRuntime, O: Outlet, H: Health, L: Links, T: Trails>(
     rt: &R,
     alloc: Global,
     session: &mut Session,
@@ -121,7 +125,7 @@ fn serve_piece<R: Outside, O: Outlet, H: Health, L: Links, T: Trails>(
 
 /// Writes the text, and answers whether all of it went out. What went out is added to the count, which
 /// stays at 2^64 - 1.
-pub fn write_all<R: Outside, O: Outlet>(
+pub fn write_all<R: IoRuntime, O: Outlet>(
     rt: &R,
     writer: &mut O,
     text: &[u8],
@@ -146,7 +150,7 @@ pub fn write_all<R: Outside, O: Outlet>(
 }
 
 /// Writes from the front of a piece, and answers how many bytes went out; None is a failure.
-fn write_some<R: Outside, O: Outlet>(rt: &R, writer: &mut O, piece: &[u8]) -> Option<usize>
+fn write_some<R: IoRuntime, O: Outlet>(rt: &R, writer: &mut O, piece: &[u8]) -> Option<usize>
     requires { 0 < length piece.now }
     ensures within { IfSome result (λ count. count ≤ length piece.now) }
     ensures takes { IfSome result (λ count. O.takes writer.old (take count piece.now) writer.new) }

@@ -11,7 +11,7 @@ use crate::{Parts, PieceFault, Trails};
 use std::alloc::Global;
 use std::marker::Model;
 use tko_route::links::Links;
-use tko_route::{Health, Outside};
+use tko_route::{Health, IoRuntime};
 use tko_text::{FeedFault, Item, NoMemory, Reader, Request, Response, TextFault};
 
 /// What a request without a response is answered.
@@ -84,7 +84,7 @@ impl Session {
     }
 
     /// Takes the next piece of the client's bytes, and answers each item that it completes.
-    pub fn take<R: Outside, H: Health, L: Links, T: Trails>(
+    pub fn take<R: IoRuntime, H: Health, L: Links, T: Trails>(
         &mut self,
         rt: &R,
         alloc: Global,
@@ -111,7 +111,7 @@ impl Session {
     }
 
     /// Answers each item that is decided.
-    fn answer_all<R: Outside, H: Health, L: Links, T: Trails>(
+    fn answer_all<R: IoRuntime, H: Health, L: Links, T: Trails>(
         &mut self,
         rt: &R,
         alloc: Global,
@@ -134,7 +134,7 @@ impl Session {
     }
 
     /// Answers the next item, if one is decided.
-    fn answer_next<R: Outside, H: Health, L: Links, T: Trails>(
+    fn answer_next<R: IoRuntime, H: Health, L: Links, T: Trails>(
         &mut self,
         rt: &R,
         alloc: Global,
@@ -190,7 +190,7 @@ impl Session {
     }
 
     /// Routes a request, and answers with the last attempt's response.
-    fn answer_request<R: Outside, H: Health, L: Links, T: Trails>(
+    fn answer_request<R: IoRuntime, H: Health, L: Links, T: Trails>(
         &mut self,
         rt: &R,
         alloc: Global,

@@ -4,7 +4,7 @@ ghost use Rattle.std.specs.Prelude.{◌≡◌, ◌<◌, ◌≢◌};
 use crate::tally::Tally;
 use crate::{Inlet, Outlet, Stop};
 use std::marker::Model;
-use tko_route::Outside;
+use tko_route::IoRuntime;
 
 /// Bytes in memory: an inlet that gives them, and an outlet that adds to their end. A call moves at
 /// most `greatest` bytes, and a call whose number stands in `stops` comes to that Stop.
@@ -98,7 +98,7 @@ impl Inlet for Taped {
     ghost goes_on = { λ x y z bytes more first second.
         first ∙ ap (λ rest. bytes ++ rest) second ∙ sym (append_assoc bytes more z.left) };
 
-    fn read<R: Outside>(&mut self, rt: &R, buffer: &mut [u8]) -> Result<usize, Stop> {
+    fn read<R: IoRuntime>(&mut self, rt: &R, buffer: &mut [u8]) -> Result<usize, Stop> {
         if let Some(stop) = self.stop_here() {
             return Err(self.tally.count(rt, stop));
         }
@@ -123,7 +123,7 @@ impl Outlet for Taped {
     ghost goes_on = { λ x y z bytes more first second.
         second ∙ ap (λ front. front ++ more) first ∙ append_assoc x.bytes bytes more };
 
-    fn write<R: Outside>(&mut self, rt: &R, piece: &[u8]) -> Result<usize, Stop> {
+    fn write<R: IoRuntime>(&mut self, rt: &R, piece: &[u8]) -> Result<usize, Stop> {
         match self.stop_here() {
             Some(Stop::Fault) => return Err(self.tally.count(rt, Stop::Fault)),
             Some(Stop::Again | Stop::Idle) => return Err(Stop::Again),

@@ -4,7 +4,7 @@ ghost use Rattle.tko_session.specs.Told.{Asked, Tried};
 
 use std::alloc::Global;
 use std::marker::Model;
-use tko_route::{Outside, Trail};
+use tko_route::{IoRuntime, Trail};
 use tko_text::{NoMemory, Request};
 
 /// Is told of each item that isn't a fault, and then of the trail of its routed request.
@@ -14,10 +14,10 @@ pub trait Trails {
     /// From the one to the other it was told this.
     ghost tells: { Self → Told → Self → Type 0 };
 
-    fn request<R: Outside>(&mut self, rt: &R, request: &Request) -> Result<(), NoMemory>
+    fn request<R: IoRuntime>(&mut self, rt: &R, request: &Request) -> Result<(), NoMemory>
         ensures { OnOk result (tells self.old (Asked request.now) self.new) };
 
-    fn trail<R: Outside>(&mut self, rt: &R, trail: Trail) -> Result<(), NoMemory>
+    fn trail<R: IoRuntime>(&mut self, rt: &R, trail: Trail) -> Result<(), NoMemory>
         ensures { OnOk result (tells self.old (Tried trail) self.new) };
 }
 
@@ -58,14 +58,14 @@ impl Trails for Kept {
     ghost tells = { Keeps };
 
     /// Requests are not kept, so it takes no memory.
-    fn request<R: Outside>(&mut self, _rt: &R, _request: &Request) -> Result<(), NoMemory>
+    fn request<R: IoRuntime>(&mut self, _rt: &R, _request: &Request) -> Result<(), NoMemory>
         ensures told { OnOk result (Keeps self.old (Asked _request.now) self.new) }
         ensures ok { IsOk result }
     {
         Ok(())
     }
 
-    fn trail<R: Outside>(&mut self, _rt: &R, trail: Trail) -> Result<(), NoMemory> {
+    fn trail<R: IoRuntime>(&mut self, _rt: &R, trail: Trail) -> Result<(), NoMemory> {
         self.trails.push(trail)?;
         Ok(())
     }

@@ -26,7 +26,7 @@ fn words_of(rt: &(impl Env + AllocGlobal)) -> io::Result<Vec<String>> {
     Ok(env::args(rt)?.collect(rt.alloc())?)
 }
 
-/// The command over std's readers and writers. The bounds of `Outside` are written out, since only
+/// The command over std's readers and writers. The bounds of `IoRuntime` are written out, since only
 /// those are covered at the runtime itself.
 fn run<R: Wait + Net<Stream = TcpStream>, I: Read + Drop, O: Write + Drop, F: Write + Drop>(
     rt: &R,

@@ -1,10 +1,10 @@
 //! Links in memory, which play a list of scripts.
 ghost use Rattle.std.specs.Prelude.{◌≡◌, ◌<◌, [], true, false, IfOk, IfErr, OnErr, OnOk, length, replicate, slice_index};
-ghost use Rattle.tko_route.specs.Links.{most_sends};
+ghost use Rattle.tko_route.specs.Links.{most_sends, outcome_in};
 ghost use Rattle.tko_route.specs.Scripted.{IsPlayed};
 
+use crate::io_runtime::IoRuntime;
 use crate::links::{Links, NoMemory, Outcome};
-use crate::outside::Outside;
 use std::alloc::{AllocError, Global};
 use std::marker::Model;
 use tko_model::Clear;
@@ -72,7 +72,7 @@ impl Script {
 
     /// What it gives to a request.
     fn outcome(&self, alloc: Global, request: &Request) -> Result<Outcome, NoMemory>
-        ensures ok { IfOk result (λ came. Gives self.now request.now came) }
+        ensures came { Gives self.now request.now (outcome_in result) }
         ensures sent { IfErr result (λ fault. fault ≡ record { sent = true }) }
     {
         match self {
@@ -135,7 +135,7 @@ impl Scripted {
     /// Plays the next script.
     fn play(&mut self, request: &Request) -> Result<Outcome, NoMemory>
         ensures left { self.new ≡ record self.old { scripts = drop 1 self.old.scripts } }
-        ensures ok { IfOk result (λ came. NextGives (slice_get self.old.scripts 0) request.now came) }
+        ensures came { NextGives (slice_get self.old.scripts 0) request.now (outcome_in result) }
         ensures sent { IfErr result (λ fault. fault ≡ record { sent = true }) }
     {
         let Some(script) = self.scripts.get(self.next) else {
@@ -147,34 +147,18 @@ impl Scripted {
 }
 
 impl Links for Scripted {
-    ghost use Rattle.std.specs.Prelude.{◌+◌, ◌↔◌, ℕ, MatchBool};
-    ghost use Rattle.tko_route.specs.Links.{Exchanged, is_counted, part_of};
-    ghost use Rattle.tko_route.specs.Scripted.{sent_to};
-
     ghost servers = { λ links. length links.sends };
 
     ghost sent = { λ links server. slice_index links.sends server };
 
     ghost exchanges = { λ old it new. IsPlayed old it new };
 
-    // Beside the trait's clauses: where memory was wanting for the request's bytes nothing happened, and
-    // where it was wanting for the answer the request was sent.
-    fn exchange<R: Outside>(
+    fn exchange<R: IoRuntime>(
         &mut self,
         _rt: &R,
         clear: Clear,
         request: &Request,
-    ) -> Result<Outcome, NoMemory>
-        requires { clear < length self.old.sends }
-        ensures record { IfOk result (λ came. Exchanged IsPlayed self.old
-            (record { server = clear; request = request.now; outcome = came }) self.new) }
-        ensures spent { (result ≡ Ok Outcome.Spent) ↔ (slice_index self.old.sends clear ≡ most_sends) }
-        ensures sends { (server : ℕ) → slice_index self.new.sends server
-            ≡ slice_index self.old.sends server + part_of (is_counted result) clear server }
-        ensures fault { IfErr result (λ fault. MatchBool fault.sent
-            (self.new ≡ sent_to self.old clear request.now) (self.new ≡ self.old)) }
-        ensures servers { length self.new.sends ≡ length self.old.sends }
-    {
+    ) -> Result<Outcome, NoMemory> {
         let server = clear.server();
         if self.sends[server] == u64::MAX {
             return Ok(Outcome::Spent);

@@ -1,7 +1,7 @@
 use Rattle.std.proofs.Common.{◌≡◌, ◌+◌, ◌≤◌, ℕ, map, take, length, vec_capacity}
 use Rattle.tko_model.specs.Records.{Gains}
 use Rattle.tko_route.specs.Trail.{Attempted, NoneAnswered, sends_in, server_of}
-use Rattle.tko_route.proofs.routing.walk.Given as goal
+use Rattle.tko_route.proofs.routing.try_targets.Given as goal
 
 abbrev pub invariant-loop-target : goal.invariant-loop-target
 invariant-loop-target g l =

@@ -1,0 +1,116 @@
+//! Routes at the limits: so many servers, all of them targets; a key and a value of so many bytes.
+ghost use Rattle.std.specs.Prelude.{◌≡◌, ◌<◌, All, IfOk, IsTrue, length};
+
+use crate::links::{Script, Scripted};
+use crate::{PlainHealth, RouteFault, Routed, route};
+use std::alloc::Global;
+use std::net::{Net, TcpStream};
+use std::sync::Wait;
+use std::test::Fail;
+use tko_model::{Plain, Settings};
+use tko_text::{Key, Request, Response};
+
+/// Servers, bytes of the key and bytes of the value.
+const SIZES: [(u32, usize, usize); 2] = [(1, 1, 0), (256, 250, 1_048_576)];
+
+fn settings(servers: u32) -> Settings
+    ensures servers { result.servers ≡ servers }
+    ensures threads { result.threads ≡ 1 }
+{
+    Settings {
+        servers,
+        threads: 1,
+        failures: 1,
+        limit: 0,
+        tries: 1,
+        opening_stamp: 0,
+    }
+}
+
+fn filled(alloc: Global, count: usize) -> Result<Vec<u8>, Fail> {
+    Ok(vec![in alloc; b'x'; count]?)
+}
+
+/// Every server refuses but the last, which answers with the value.
+fn scripts(alloc: Global, servers: u32, key: &[u8], data: usize) -> Result<Vec<Script>, Fail> {
+    let mut text = Vec::from_slice(alloc, b"VALUE ".as_slice())?;
+    text.extend_from_slice(key)?;
+    text.extend_from_slice(format!(in alloc; " 0 {data}\r\n")?.as_bytes())?;
+    text.extend_from_slice(filled(alloc, data)?.as_slice())?;
+    text.extend_from_slice(b"\r\nEND\r\n".as_slice())?;
+    let mut scripts = Vec::new(alloc);
+    for _ in 1..servers {
+        scripts.push(Script::Refused)?;
+    }
+    scripts.push(Script::Bytes(text))?;
+    Ok(scripts)
+}
+
+fn are_below(targets: &[usize], servers: usize) -> bool
+    ensures { IsTrue result → All (λ target. target < servers) targets.now }
+{
+    targets.iter().all(|target| *target < servers)
+}
+
+fn health_of(alloc: Global, servers: u32) -> Result<PlainHealth, Fail>
+    ensures { IfOk result (λ health. length health.tracker.servers ≡ servers) }
+{
+    Ok(PlainHealth::new(Plain::open(alloc, settings(servers))?, 0))
+}
+
+fn links_of(alloc: Global, servers: u32, scripts: Vec<Script>) -> Result<Scripted, Fail>
+    ensures { IfOk result (λ links. length links.sends ≡ servers) }
+{
+    Ok(Scripted::new(alloc, servers as usize, scripts)?)
+}
+
+/// Asks these servers in order.
+fn ask_all<R: Wait + Net<Stream = TcpStream>>(
+    rt: &R,
+    alloc: Global,
+    health: &mut PlainHealth,
+    links: &mut Scripted,
+    targets: &[usize],
+    request: &Request,
+) -> Result<Routed, RouteFault>
+    requires links { length links.old.sends ≡ length health.old.tracker.servers }
+    requires targets { All (λ target. target < length health.old.tracker.servers) targets.now }
+{
+    route(rt, alloc, health, links, targets, request, 60)
+}
+
+/// How many bytes the value of a routed request has.
+fn data_len(routed: &Routed) -> Option<usize> {
+    match routed.response() {
+        Some(Response::Values(Some(value))) => Some(value.data.as_bytes().len()),
+        _ => None,
+    }
+}
+
+#[test]
+fn every_size_up_to_the_limits_is_routed(rt: HostRuntime) -> Result<(), Fail> {
+    let alloc = rt.alloc();
+    for (servers, key, data) in SIZES {
+        let key = filled(alloc, key)?;
+        let scripts = scripts(alloc, servers, key.as_slice(), data)?;
+        let mut links = links_of(alloc, servers, scripts)?;
+        let mut health = health_of(alloc, servers)?;
+        let key = Key::of(alloc, key.as_slice())?.expect(&rt, "a key");
+        let request = Request::Get { key };
+        let targets: Vec<usize> = (0..servers as usize).collect(alloc)?;
+        assert!(rt; are_below(targets.as_slice(), servers as usize));
+        let routed = ask_all(
+            &rt,
+            alloc,
+            &mut health,
+            &mut links,
+            targets.as_slice(),
+            &request,
+        )
+        .expect(&rt, "memory");
+        assert_eq!(rt; routed.trail.attempts().len(), servers as usize);
+        assert_eq!(rt; data_len(&routed), Some(data));
+        assert_eq!(rt; links.requests().len(), servers as usize);
+    }
+    Ok(())
+}
