@@ -1,3 +1,4 @@
+pub mod AnswerLemmas
 pub mod BecomeLemmas
 pub mod CallListLemmas
 pub mod CheckLemmas

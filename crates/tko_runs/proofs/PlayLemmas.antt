@@ -119,7 +119,7 @@ IsLegalRun-run s p law legal is =
 
 -- All commands of a schedule.
 
-after_commands-push : (p : Played) (commands : List Command) (command : Command)
+pub after_commands-push : (p : Played) (commands : List Command) (command : Command)
     → after_commands p (commands ++ command ∷ []) ≡ after_command (after_commands p commands) command
 after_commands-push p [] command = refl
 after_commands-push p (first ∷ commands) command = after_commands-push (after_command p first) commands command

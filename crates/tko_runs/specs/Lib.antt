@@ -1,6 +1,7 @@
 pub mod Claims
 pub mod Dockets
 pub mod Headers
+pub mod Limits
 pub mod Lines
 pub mod Numbers
 pub mod Orders

@@ -1,5 +1,5 @@
--- Playing a schedule: all threads enrol, in the order of their places, and then each command is followed.
-use Rattle.std.specs.Prelude.{ℕ, zero, suc, List, [], ◌∷◌, ◌++◌, length, replicate, Option, Some, None}
+-- Playing a schedule: all threads enrol, in the order of their places, and then do each command.
+use Rattle.std.specs.Prelude.{◌≡◌, ℕ, zero, suc, false, if◌then◌else◌, List, [], ◌∷◌, ◌++◌, length, replicate, Option, Some, None}
 use Rattle.tko_model.specs.declared.mark.Op.{Op}
 use Rattle.tko_model.specs.declared.settings.Settings.{Settings}
 use Rattle.tko_runs.specs.declared.command.Command.{Command}
@@ -8,14 +8,13 @@ use Rattle.tko_runs.specs.declared.event.Event.{Event}
 use Rattle.tko_runs.specs.declared.event.Event.TheVariants as event
 use Rattle.tko_runs.specs.declared.event.Remark.{Remark}
 use Rattle.tko_runs.specs.declared.event.Remark.TheVariants as remark
+use Rattle.tko_runs.specs.Limits.{max_steps}
 use Rattle.tko_runs.specs.Schedules.{Plan}
 use Rattle.tko_runs.specs.Stories.{Note, Story}
 use Rattle.tko_steps.specs.declared.step.BeginFault.{BeginFault}
 use Rattle.tko_steps.specs.declared.step.Stepped.{Stepped}
 use Rattle.tko_steps.specs.declared.step.Stepped.TheVariants.{NoThread, Idle, Did}
-use Rattle.tko_steps.specs.declared.thread.ThreadState.{ThreadState}
-use Rattle.tko_steps.specs.declared.thread.ThreadState.TheVariants as state
-use Rattle.tko_steps.specs.Core.{CoreState, after_begin, after_step, begin_fault, opened_core, thread_at, told_by_step}
+use Rattle.tko_steps.specs.Core.{CoreState, after_begin, after_step, begin_fault, has_call, opened_core, thread_at, told_by_step}
 use Rattle.tko_steps.specs.Runs.{Begin, Step, Turn}
 
 -- the core, and what was told up to now
@@ -56,17 +55,20 @@ abbrev pub after_all : Played → List Turn → Played
 after_all p [] = p
 after_all p (turn ∷ turns) = after_all (after_turn p turn) turns
 
--- how many steps a thread takes until its call is answered: a whole call is one step
-abbrev pub steps_to_answer : ThreadState → ℕ
-steps_to_answer state.NotEnrolled = 0
-steps_to_answer (state.Idle number) = 0
-steps_to_answer (state.InCall number op server) = 1
+-- how many steps a thread takes until it has no call, or so many if it still has one after these
+unfoldable pub steps_to_answer : ℕ → CoreState → ℕ → ℕ
+steps_to_answer zero core thread = 0
+steps_to_answer (suc most) core thread =
+    if has_call (thread_at core thread)
+    then suc (steps_to_answer most (after_step core thread) thread)
+    else 0
 
 -- the turns that a command asks for
 abbrev pub turns_of : CoreState → Command → List Turn
 turns_of core (command.Begin thread op server) = Begin thread op server ∷ []
 turns_of core (command.Step thread steps) = replicate steps (Step thread)
-turns_of core (command.Run thread) = replicate (steps_to_answer (thread_at core thread)) (Step thread)
+turns_of core (command.Run thread) =
+    replicate (steps_to_answer max_steps core thread) (Step thread)
 
 abbrev pub after_command : Played → Command → Played
 after_command p command = after_all p (turns_of p.core command)
@@ -88,6 +90,14 @@ enrolled s = after_all (opened_play s) (enrolments s.threads)
 
 abbrev pub played : Plan → Played
 played plan = after_commands (enrolled plan.settings) plan.commands
+
+-- after each of its run lines the thread has no call: the most steps of a run line are enough
+abbrev pub RunsToAnswers : Plan → Type 0
+RunsToAnswers plan =
+    (before others : List Command) (thread : ℕ) →
+    plan.commands ≡ before ++ command.Run thread ∷ others →
+    let run = after_commands (enrolled plan.settings) (before ++ command.Run thread ∷ []) in
+    has_call (thread_at run.core thread) ≡ false
 
 -- the run that a schedule names
 unfoldable pub named_by : Plan → Story

@@ -7,7 +7,7 @@ use crate::words::Words;
 use tko_model::{Op, op_word};
 
 /// The most steps that one line may ask for.
-const MAX_STEPS: u64 = 5_000;
+pub(crate) const MAX_STEPS: u64 = 5_000;
 
 /// What one line of a schedule says. A thread or a server of that number need not be there.
 #[derive(Clone, Copy, Debug, PartialEq, Eq)]

@@ -5,6 +5,7 @@ ghost use Rattle.tko_runs.specs.Claims.{IsStory};
 ghost use Rattle.tko_runs.specs.Plays.{after_all, after_command, after_turn, enrolled, with_event};
 ghost use Rattle.tko_steps.specs.Runs.{Begin, Step};
 
+use crate::command::MAX_STEPS;
 use crate::run::Noted;
 use crate::{Command, Event, PlayFault, Remark, Run};
 use std::alloc::{AllocError, Global};
@@ -115,11 +116,14 @@ impl Player {
         Ok(())
     }
 
-    /// Steps of a thread until its call is answered.
+    /// Steps of a thread until its call is answered. No call takes more than `MAX_STEPS`.
     fn run(&mut self, thread: usize) -> Result<(), AllocError>
         ensures { OnOk result (self.new ≡ after_command self.old (Command.Run thread)) }
     {
-        while self.core.has_call(thread) {
+        for _ in 0..MAX_STEPS {
+            if !self.core.has_call(thread) {
+                return Ok(());
+            }
             self.steps(thread, 1)?;
         }
         Ok(())

@@ -1,7 +1,7 @@
 //! Playing a schedule.
 ghost use Rattle.std.specs.Prelude.{◌≡◌, List, IfOk};
 ghost use Rattle.tko_runs.specs.Orders.{IsLegalRun};
-ghost use Rattle.tko_runs.specs.Plays.{named_by, played};
+ghost use Rattle.tko_runs.specs.Plays.{RunsToAnswers, named_by, played};
 ghost use Rattle.tko_runs.specs.Stories.{events_of};
 ghost use Rattle.tko_steps.specs.Runs.{Turn};
 ghost use Rattle.tko_steps.specs.Runs as runs;
@@ -49,6 +49,7 @@ pub fn play(alloc: Global, schedule: &Schedule) -> Result<Run, PlayFault>
     ensures turns { IfOk result (λ run.
         (turns : List Turn) × (run.events ≡ events_of (runs.run run.settings turns).past)) }
     ensures legal { IfOk result IsLegalRun }
+    ensures answered { IfOk result (λ run. RunsToAnswers schedule.now) }
 {
     let player = all_followed(alloc, schedule)?;
     // No code runs here: the law of every run says why this is a run, and a legal one.

@@ -4,6 +4,7 @@ use Rattle.tko_runs.specs.Orders.{IsLegalRun}
 use Rattle.tko_runs.specs.Stories.{Story, events_of}
 use Rattle.tko_steps.specs.Runs.{Turn, run}
 use Rattle.tko_runs.proofs.LinkLemmas.{IsLaw}
+use Rattle.tko_runs.proofs.AnswerLemmas.{runs_to_answers}
 use Rattle.tko_runs.proofs.PlayLemmas.{IsLegalRun-named_by, IsStory-named_by, story_of-played, turns-named_by}
 use Rattle.tko_runs.proofs.playing.play.Goals as goal
 
@@ -41,3 +42,6 @@ returns-clause-legal c =
     let same = c.finish.ensures
     ∙ story_of-played plan c.settings.result.now c.in_ok-player.player c.settings.ensures.value c.in_ok-player.ensures in
     subst IsLegalRun (sym same) (IsLegalRun-named_by plan law (c.every_run.ensures.legal plan.settings ranges))
+
+pub returns-clause-answered : goal.returns-clause-answered
+returns-clause-answered c = runs_to_answers c.args.schedule.now

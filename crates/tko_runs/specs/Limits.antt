@@ -1,0 +1,18 @@
+-- Limits of a schedule's text.
+use Rattle.std.specs.Prelude.{ℕ}
+
+-- the most bytes of a text
+abbrev pub max_bytes : ℕ
+max_bytes = 1048576
+
+-- the number of header lines
+abbrev pub header_lines : ℕ
+header_lines = 7
+
+-- the most lines after the header
+abbrev pub max_commands : ℕ
+max_commands = 1000
+
+-- the most steps that one line asks for
+abbrev pub max_steps : ℕ
+max_steps = 5000
