@@ -5,6 +5,7 @@ use Rattle.std.specs.List.{filter_map, position_or_len}
 use Rattle.std.proofs.lemmas.Bool.{cond-true, cond-false, lt-ltb, le-ltb}
 use Rattle.tko_runs.specs.declared.command.Command.{Command}
 use Rattle.tko_runs.specs.declared.fault.ScheduleFault.TheVariants as fault
+use Rattle.tko_runs.specs.Limits.{header_lines, max_commands}
 use Rattle.tko_runs.specs.Schedules.{bad_place, command_line, commands_of}
 
 -- the place of the first line that is no command
@@ -22,7 +23,7 @@ place_of-other line lines e = rw e refl
 
 -- of all lines these commands are read, and the rest is still to be read
 pub record HasRead (all : List (List ℕ)) (commands : List Command) (rest : List (List ℕ)) : Type 0 where
-  pub few : length commands ≤ 1000
+  pub few : length commands ≤ max_commands
   pub place : place_of all ≡ length commands + place_of rest
   pub count : length all ≡ length commands + length rest
   pub values : filter_map command_line all ≡ commands ++ filter_map command_line rest
@@ -31,7 +32,7 @@ pub has_read-none : (all : List (List ℕ)) → HasRead all [] all
 has_read-none all = record { few = omega arith; place = omega arith; count = omega arith; values = refl }
 
 pub has_read-more : (all : List (List ℕ)) (commands : List Command) (command : Command) (line : List ℕ) (rest : List (List ℕ))
-    → HasRead all commands (line ∷ rest) → length commands < 1000 → command_line line ≡ Some command
+    → HasRead all commands (line ∷ rest) → length commands < max_commands → command_line line ≡ Some command
     → HasRead all (commands ++ command ∷ []) rest
 has_read-more all commands command line rest so_far few is =
     let longer : length (commands ++ command ∷ []) ≡ length commands + 1 = length-append commands (command ∷ []) in
@@ -51,15 +52,15 @@ has_read-all all commands so_far =
     cond-false _ _ _ past ∙ ap Ok (so_far.values ∙ append-nil commands)
 
 -- the line at this place is bad
-bad_at : (all : List (List ℕ)) (place : ℕ) → bad_place all ≡ place → place < length all → commands_of all ≡ Err (fault.Line (place + 8))
+bad_at : (all : List (List ℕ)) (place : ℕ) → bad_place all ≡ place → place < length all → commands_of all ≡ Err (fault.Line (place + header_lines + 1))
 unfolding commands_of
 bad_at all place here inside =
     let past : nat_lt (bad_place all) (length all) ≡ true = lt-ltb (bad_place all) (length all) (omega arith) in
-    cond-true _ _ _ past ∙ ap (λ n. Err (fault.Line (n + 8))) here
+    cond-true _ _ _ past ∙ ap (λ n. Err (fault.Line (n + header_lines + 1))) here
 
 pub has_read-bad : (all : List (List ℕ)) (commands : List Command) (line : List ℕ) (rest : List (List ℕ))
-    → HasRead all commands (line ∷ rest) → (1000 ≤ length commands) ⊎ (command_line line ≡ None)
-    → commands_of all ≡ Err (fault.Line (length commands + 8))
+    → HasRead all commands (line ∷ rest) → (max_commands ≤ length commands) ⊎ (command_line line ≡ None)
+    → commands_of all ≡ Err (fault.Line (length commands + header_lines + 1))
 unfolding place_of
 has_read-bad all commands line rest so_far bad =
     bad_at all (length commands)

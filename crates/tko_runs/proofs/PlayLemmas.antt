@@ -9,10 +9,10 @@ use Rattle.tko_runs.specs.declared.event.Event.{Event}
 use Rattle.tko_model.specs.Ranges.{IsWithinRanges}
 use Rattle.tko_runs.specs.Claims.{AllCome, IsStory, calls_in, claimed, opened_roll}
 use Rattle.tko_runs.specs.Orders.{AllFollow, IsLegalRun}
-use Rattle.tko_runs.specs.Plays.{Played, after_all, after_command, after_commands, after_turn, enrolled, enrolments, named_by, opened_play, played, turns_of, with_begin, with_event, with_note}
+use Rattle.tko_runs.specs.Plays.{Played, after_all, after_command, after_commands, after_turn, enrolled, enrolments, named_by, opened_play, played, story_of, turns_of, with_begin, with_event, with_note}
 use Rattle.tko_runs.specs.Plays as plays
 use Rattle.tko_runs.specs.Schedules.{Plan}
-use Rattle.tko_runs.specs.Stories.{Story, event_of, events_of}
+use Rattle.tko_runs.specs.Stories.{event_of, events_of}
 use Rattle.tko_runs.proofs.LinkLemmas.{IsLaw, Linked-run, events_of-none, events_of-push}
 use Rattle.tko_steps.specs.declared.step.BeginFault.{BeginFault}
 use Rattle.tko_steps.specs.declared.step.Stepped.{Stepped}
@@ -85,10 +85,6 @@ IsRun-played s commands =
     IsRun-commands s (enrolled s) commands (IsRun-all s (opened_play s) (enrolments s.threads) (IsRun-opened s))
 
 -- What is played is a legal run.
-
--- the story of what was played
-abbrev pub story_of : Settings → Played → Story
-story_of s p = record { settings = s; events = p.events; notes = p.notes }
 
 pub IsStory-run : (s : Settings) (p : Played) → IsWithinRanges s → IsLaw s → IsRun s p → IsStory (story_of s p)
 IsStory-run s p ranges law is =

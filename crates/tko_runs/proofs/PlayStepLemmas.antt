@@ -9,7 +9,7 @@ use Rattle.tko_runs.specs.declared.event.Event.TheVariants as event
 use Rattle.tko_runs.specs.declared.event.Remark.{Remark}
 use Rattle.tko_runs.specs.declared.event.Remark.TheVariants as remark
 use Rattle.tko_model.specs.Ranges.{IsWithinRanges, first_fault, is_within, worn}
-use Rattle.tko_runs.specs.Plays.{Played, after_all, after_command, after_commands, after_turn, enrolled, enrolments, named_by, opened_play, played, turns_of, with_begin, with_event, with_note}
+use Rattle.tko_runs.specs.Plays.{Played, after_all, after_command, after_commands, after_turn, enrolled, enrolments, named_by, opened_play, played, turns_of, with_begin, with_event, with_note, with_notes}
 use Rattle.tko_runs.specs.Plays as plays
 use Rattle.tko_runs.specs.Stories.{Note, one_by_one}
 use Rattle.tko_runs.specs.declared.run.Noted.{Noted}
@@ -25,11 +25,6 @@ use Rattle.tko_steps.specs.Core.{CoreState, after_begin, after_step, after_step_
 use Rattle.tko_steps.specs.Runs.{Begin, Step, Turn}
 
 -- Turns in which nothing happens.
-
--- the same note so many times
-abbrev pub with_notes : Played → Remark → ℕ → Played
-with_notes p remark times =
-    record p { notes = p.notes ++ replicate times (record { after = length p.events; remark = remark }) }
 
 -- a thread of this core has no step to take, as the remark says
 abbrev pub Stalls : CoreState → ℕ → Remark → Type 0

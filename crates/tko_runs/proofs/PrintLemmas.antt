@@ -161,7 +161,7 @@ pub run_told :
     (opening told ordered served firm text : List ℕ)
     → events ≡ story.events
     → notes ≡ story.notes
-    → servers ≡ left_by (record story { events = events })
+    → servers ≡ left_by story.settings events
     → shown ≡ servers
     → counted ≡ servers
     → opening ≡ []
@@ -173,6 +173,6 @@ pub run_told :
     → text ≡ run_text story order
 unfolding run_text
 run_told story order events notes servers shown counted opening told ordered served firm text is_events is_notes is_servers is_shown is_counted is_opening is_told is_ordered is_served is_firm is_text =
-    let left : List ServerState = left_by story in
+    let left : List ServerState = left_by story.settings story.events in
     let whole = regroup (told_text 1 0 story.events story.notes) (order_text 1 order) (servers_text 0 left) (softs_text left) (line (codes "ok")) in
     rw (is_text, is_firm, is_served, is_ordered, is_told, is_opening, is_counted, is_shown, is_servers, is_events, is_notes) whole

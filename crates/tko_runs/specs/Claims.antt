@@ -1,4 +1,4 @@
--- Claimed runs: events in any order. What stands after some of them, by what they claim to have left,
+-- Claimed runs: events in any order. The state after some of them, as they claim to have left it,
 -- and which event can come next.
 use Rattle.std.specs.Prelude.{◌≡◌, ℕ, ◌+◌, ◌<◌, List, [], ◌∷◌, ◌++◌, length, slice_index_or, slice_set, reverse, replicate, Option, Some, None}
 use Rattle.tko_model.specs.declared.settings.Settings.{Settings}
@@ -21,14 +21,14 @@ use Rattle.tko_steps.specs.declared.thread.ThreadState.TheVariants.{NotEnrolled,
 use Rattle.tko_steps.specs.Core.{CoreState, abstract_of, in_call}
 use Rattle.tko_steps.specs.Runs.{Call, Moment, Took, World, began, calls_of, start}
 
--- Where the threads stand.
+-- Threads.
 
--- where each thread stands, and how many are enrolled
+-- the state of each thread, and how many are enrolled
 pub record Roll : Type 0 where
   pub threads : List ThreadState
   pub enrolled : ℕ
 
--- where the threads of a core stand
+-- the threads of a core
 abbrev pub roll_of : CoreState → Roll
 roll_of core = record { threads = core.threads; enrolled = core.enrolled }
 
@@ -38,14 +38,14 @@ opened_roll s = record { threads = replicate s.threads NotEnrolled; enrolled = 0
 abbrev pub standing : Roll → ℕ → ThreadState
 standing roll thread = slice_index_or roll.threads thread NotEnrolled
 
--- where a thread with a call stands after a step: an answer ends the call
+-- a thread with a call, after a step: an answer ends the call
 abbrev pub answered : Option Reply → ThreadState → ThreadState
 answered None state = state
 answered (Some reply) NotEnrolled = NotEnrolled
 answered (Some reply) (Idle number) = Idle number
 answered (Some reply) (InCall number op server) = Idle number
 
--- where threads stand after an event
+-- the threads after an event
 abbrev pub stepped_roll : Roll → ℕ → Kind → Option Reply → Roll
 stepped_roll roll thread Enrol answer =
     record {
@@ -57,7 +57,8 @@ stepped_roll roll thread Whole answer =
 
 abbrev pub roll_after : Roll → Event → Roll
 roll_after roll (Begin thread op server) =
-    record roll { threads = slice_set roll.threads thread (in_call (standing roll thread) op server) }
+    let state = in_call (standing roll thread) op server in
+    record roll { threads = slice_set roll.threads thread state }
 roll_after roll (Step thread kind place found left answer) = stepped_roll roll thread kind answer
 
 abbrev pub roll_after_all : Roll → List Event → Roll
@@ -76,14 +77,15 @@ HasCall NotEnrolled = ⊥
 HasCall (Idle number) = ⊥
 HasCall (InCall number op server) = Unit {0}
 
--- a place that is there
+-- there is such a place
 abbrev pub IsPlace : Settings → Place → Type 0
 IsPlace s (place.Server server) = server < s.servers
 IsPlace s place.Enrolment = Unit {0}
 
--- an enrolment is on the word of enrolments, finds how many were enrolled before, leaves one more, and
--- answers nothing
-pub record IsEnrolment (before : ℕ) (at : Place) (found left : Word) (answer : Option Reply) : Type 0 where
+-- an enrolment reads the enrolment word, which counts those before it, leaves one more, and answers
+-- nothing
+pub record IsEnrolment
+    (before : ℕ) (at : Place) (found left : Word) (answer : Option Reply) : Type 0 where
   pub at_enrolment : at ≡ place.Enrolment
   pub finds : found ≡ word.Enrolled before
   pub leaves : left ≡ word.Enrolled (before + 1)
@@ -97,19 +99,21 @@ CanStep s roll thread Enrol at found left answer =
 CanStep s roll thread Whole at found left answer =
     (thread < s.threads) × HasCall (standing roll thread) × IsPlace s at
 
--- the event can come where threads stand so: its numbers are in their ranges, a thread that begins a call
--- is idle, one that enrols is not enrolled, and one that takes another step has a call
+-- the event can come next after these threads: its numbers are in their ranges, a thread that
+-- begins a call is idle, one that enrols is not enrolled, and one that takes another step has a
+-- call
 abbrev pub CanCome : Settings → Roll → Event → Type 0
 CanCome s roll (Begin thread op server) =
     (thread < s.threads) × (server < s.servers) × IsIdle (standing roll thread)
-CanCome s roll (Step thread kind at found left answer) = CanStep s roll thread kind at found left answer
+CanCome s roll (Step thread kind at found left answer) =
+    CanStep s roll thread kind at found left answer
 
 -- the thread that an event is of
 abbrev pub thread_of : Event → ℕ
 thread_of (Begin thread op server) = thread
 thread_of (Step thread kind at found left answer) = thread
 
--- an enrolment leaves one more than were enrolled before; of another step nothing is said
+-- an enrolment leaves one more than were enrolled before; other steps are not restricted
 abbrev pub LeavesOneMore : ℕ → Kind → Word → Type 0
 LeavesOneMore before Enrol left = left ≡ word.Enrolled (before + 1)
 LeavesOneMore before Whole left = Unit {0}
@@ -133,18 +137,19 @@ pub record IsFirstBad (s : Settings) (events : List Event) (number : ℕ) : Type
   pub others : AllCome s (opened_roll s) before
   pub cannot : CanCome s (roll_after_all (opened_roll s) before) bad → ⊥
 
--- why a claim is no run: its settings come first, and memory may take the place of any answer
+-- why a claim is no run: settings are judged first; any call may instead fail with `Memory`
 abbrev pub TellsClaimFault : Settings → List Event → ClaimFault → Type 0
 TellsClaimFault s events (fault.Settings outside) = first_fault s ≡ Some outside
 TellsClaimFault s events (fault.Event number) = IsWithinRanges s × IsFirstBad s events number
 TellsClaimFault s events fault.Memory = Unit {0}
 
--- what holds of each run: its settings are in their ranges, and its events can come one after another
+-- what holds of each run: its settings are in their ranges, and its events can come one after
+-- another
 pub record IsStory (story : Story) : Type 0 where
   pub settings : IsWithinRanges story.settings
   pub events : AllCome story.settings (opened_roll story.settings) story.events
 
--- What stands, and what happened.
+-- The state, and what happened.
 
 -- the servers once a step left this word at that place
 abbrev pub written : List ServerState → Place → Word → List ServerState

@@ -1,4 +1,4 @@
--- What the check of a run keeps up to some event, and when that is so.
+-- What the check of a run keeps of the events so far, and what it means.
 use Rattle.std.specs.Prelude.{◌≡◌, ◌↔◌, ℕ, ◌+◌, ◌<◌, ◌==◌, if◌then◌else◌, true, List, [], ◌∷◌, ◌++◌, length, get_or, slice_set, reverse, All, Option, Some, None}
 use Rattle.tko_model.specs.declared.mark.Op.{Op}
 use Rattle.tko_model.specs.declared.mark.Reply.{Reply}
@@ -28,7 +28,7 @@ use Rattle.tko_steps.specs.Core.{CoreState, abstract_of, opened_core}
 use Rattle.tko_steps.specs.Legal.{IsLegal, tracker_in}
 use Rattle.tko_steps.specs.Runs.{Call, Moment, World, calls_of, start, steps_in}
 
--- What the code makes of the calls.
+-- Changes of the calls.
 
 -- so many threads, and no call
 pub record AreOpened (threads : ℕ) (new : Calls) : Type 0 where
@@ -36,7 +36,8 @@ pub record AreOpened (threads : ℕ) (new : Calls) : Type 0 where
   pub calls : new.all.items ≡ []
 
 -- one more call, which is the latest of its thread
-pub record HasBegun (old : Calls) (thread number : ℕ) (op : Op) (server : ℕ) (new : Calls) : Type 0 where
+pub record HasBegun
+    (old : Calls) (thread number : ℕ) (op : Op) (server : ℕ) (new : Calls) : Type 0 where
   pub call : OwnCall
   pub numbered : call.number ≡ number
   pub asks : call.op ≡ op
@@ -47,7 +48,8 @@ pub record HasBegun (old : Calls) (thread number : ℕ) (op : Op) (server : ℕ)
   pub latest : new.latest.items ≡ slice_set old.latest.items thread (length old.all.items)
 
 -- the call has one more step, and this answer
-pub record HasGrown (old : OwnCall) (sight : Sight) (answer : Option Reply) (new : OwnCall) : Type 0 where
+pub record HasGrown
+    (old : OwnCall) (sight : Sight) (answer : Option Reply) (new : OwnCall) : Type 0 where
   pub numbered : new.number ≡ old.number
   pub asks : new.op ≡ old.op
   pub on_server : new.server ≡ old.server
@@ -55,7 +57,8 @@ pub record HasGrown (old : OwnCall) (sight : Sight) (answer : Option Reply) (new
   pub one_more : new.steps.items ≡ old.steps.items ++ sight ∷ []
 
 -- so has the latest call of the thread, and no other
-pub record HasStepped (old : Calls) (thread : ℕ) (sight : Sight) (answer : Option Reply) (new : Calls) : Type 0 where
+pub record HasStepped
+    (old : Calls) (thread : ℕ) (sight : Sight) (answer : Option Reply) (new : Calls) : Type 0 where
   pub call : OwnCall
   pub now : OwnCall
   pub is : call ≡ get_or old.all.items (get_or old.latest.items thread 0) call
@@ -72,7 +75,8 @@ AreKept s [] (kept ∷ others) = ⊥
 AreKept s (call ∷ calls) [] = ⊥
 AreKept s (call ∷ calls) (kept ∷ others) = IsKept s call kept × AreKept s calls others
 
--- the place of the call that a thread began last, where the newest stands first and has the last place
+-- the place of the call that a thread began last, in a list with the newest first and the places
+-- counted from the oldest
 abbrev pub latest_place : ℕ → List Call → Option ℕ
 latest_place thread [] = None
 latest_place thread (call ∷ calls) =
@@ -84,18 +88,22 @@ IsLatest NotEnrolled found place = found ≡ None
 IsLatest (Idle number) found place = Unit {0}
 IsLatest (InCall number op server) found place = found ≡ Some place
 
--- these are the calls of this past, after which the threads stand so
+-- these are the calls of this past, after which the threads are these
 pub record AreCalls (s : Settings) (roll : Roll) (past : List Moment) (own : Calls) : Type 0 where
   pub kept : AreKept s (calls_of past) (reverse own.all.items)
   pub latest : (thread : ℕ) →
-      IsLatest (standing roll thread) (latest_place thread (calls_of past)) (get_or own.latest.items thread 0)
+      IsLatest
+      (standing roll thread)
+      (latest_place thread (calls_of past))
+      (get_or own.latest.items thread 0)
   pub threads : length own.latest.items ≡ s.threads
   pub on_server : All (λ call. call.server < s.servers) own.all.items
 
 -- What a step shows.
 
--- where these servers stand, a step that leaves this of a server shows that of a call of this thread:
--- whether it leaves all as it was, and the reply if it leaves what the sequential tracker leaves
+-- where these servers stand, a step that leaves this of a server shows that of a call of this
+-- thread: whether it leaves all as it was, and the reply if it leaves what the sequential tracker
+-- leaves
 pub record Shows (s : Settings) (servers : List ServerState) (number : ℕ) (op : Op) (on server : ℕ) (left : ServerState) (sight : Sight) : Type 0 where
   pub quiet : (sight.is_quiet ≡ true) ↔ (slice_set servers server left ≡ servers)
   pub effect : (reply : Reply) →
@@ -108,8 +116,14 @@ pub record Shows (s : Settings) (servers : List ServerState) (number : ℕ) (op 
 abbrev pub AllFit : Settings → List ServerState → Type 0
 AllFit s servers = All (λ state. IsFit s state.mark state.stamp) servers
 
--- the step finds what stands there, and leaves what it can
-pub record LeadsTo (s : Settings) (servers : List ServerState) (at : Place) (found left : Word) (server : ℕ) (now : ServerState) : Type 0 where
+-- the step finds the server's word, and leaves what a step can leave
+pub record LeadsTo
+    (s : Settings)
+    (servers : List ServerState)
+    (at : Place)
+    (found left : Word)
+    (server : ℕ)
+    (now : ServerState) : Type 0 where
   pub is_place : at ≡ place.Server server
   pub inside : server < length servers
   pub finds : found ≡ word.Server (server_at servers server)
@@ -118,13 +132,14 @@ pub record LeadsTo (s : Settings) (servers : List ServerState) (at : Place) (fou
   pub fit : IsFit s now.mark now.stamp
 
 -- it doesn't
-pub record LeadsNowhere (s : Settings) (servers : List ServerState) (at : Place) (found left : Word) : Type 0 where
+pub record LeadsNowhere
+    (s : Settings) (servers : List ServerState) (at : Place) (found left : Word) : Type 0 where
   pub strays : (core : CoreState) → servers ≡ abstract_of core → found ≡ standing_word core at
       → CanLeave s Whole found left → ⊥
 
 -- The docket.
 
--- the docket keeps what stands, and what happened
+-- the docket keeps the state of this world, and the calls of its past
 pub record Stands (w : World) (d : Docket) : Type 0 where
   pub settings : IsWithinRanges d.settings
   pub roll : d.register ≡ roll_of w.core
@@ -144,8 +159,14 @@ pub record IsOpened (s : Settings) (d : Docket) : Type 0 where
   pub settings : d.settings ≡ s
   pub stands : Stands (start s) d
 
--- a step of a thread's call that leads to this went into the docket
-pub record HasFollowed (old : Docket) (thread : ℕ) (at : Place) (found left : Word) (answer : Option Reply) (new : Docket) : Type 0 where
+-- the docket took a step of a thread's call
+pub record HasFollowed
+    (old : Docket)
+    (thread : ℕ)
+    (at : Place)
+    (found left : Word)
+    (answer : Option Reply)
+    (new : Docket) : Type 0 where
   pub server : ℕ
   pub now : ServerState
   pub leads : LeadsTo old.settings old.servers.items at found left server now
@@ -158,27 +179,27 @@ pub record HasFollowed (old : Docket) (thread : ℕ) (at : Place) (found left : 
   pub servers : new.servers.items ≡ slice_set old.servers.items server now
   pub steps : new.steps ≡ old.steps + 1
 
--- why a step didn't
+-- why it refused the step
 abbrev pub TellsStray : Docket → Place → Word → Word → RunFault → Type 0
 TellsStray old at found left (fault.Step number) =
     (number ≡ old.steps + 1) × LeadsNowhere old.settings old.servers.items at found left
 TellsStray old at found left (fault.Call number) = ⊥
 TellsStray old at found left fault.Memory = Unit {0}
 
--- the event went into the docket: it follows
+-- the docket took the event, which follows
 pub record HasEntered (old : Docket) (event : Event) (new : Docket) : Type 0 where
   pub settings : new.settings ≡ old.settings
   pub follows : (w : World) → Stands w old → Follows old.settings w.core event
   pub stands : (w : World) → Stands w old → Stands (world_after w event) new
 
--- why an event didn't
+-- why it refused the event
 abbrev pub TellsRefusal : Docket → Event → RunFault → Type 0
 TellsRefusal old event (fault.Step number) =
     (number ≡ old.steps + 1) × ((w : World) → Stands w old → Follows old.settings w.core event → ⊥)
 TellsRefusal old event (fault.Call number) = ⊥
 TellsRefusal old event fault.Memory = Unit {0}
 
--- some of these events went in, and these are left
+-- the docket took the first of these events, and these are left
 pub record AreIn (s : Settings) (events rest : List Event) (d : Docket) : Type 0 where
   pub before : List Event
   pub split : events ≡ before ++ rest
@@ -187,16 +208,17 @@ pub record AreIn (s : Settings) (events rest : List Event) (d : Docket) : Type 0
   pub follow : AllFollow s (opened_core s) before
   pub come : AllCome s (roll_of (claimed s before).core) rest
 
--- Where the calls stand.
+-- Where the calls take effect.
 
--- calls of which this is kept are legal, and stand there
+-- calls of which this is kept are legal, and take effect there
 pub record AreJudged (kept : List OwnCall) (places : List Placed) : Type 0 where
   pub legal : (s : Settings) (calls : List Call) → AreKept s calls kept → All (IsLegal s) calls
   pub order : (s : Settings) (calls : List Call) → AreKept s calls kept → IsOrder s calls places
 
 -- of those the call of that number is the first that isn't legal
 pub record IsIllegalAt (kept : List OwnCall) (number : ℕ) : Type 0 where
-  pub first : (s : Settings) (calls : List Call) → AreKept s calls kept → IsFirstIllegal s calls number
+  pub first : (s : Settings) (calls : List Call) →
+      AreKept s calls kept → IsFirstIllegal s calls number
 
 abbrev pub TellsIllegal : List OwnCall → RunFault → Type 0
 TellsIllegal kept (fault.Step number) = ⊥

@@ -5,7 +5,7 @@ use Rattle.tko_runs.specs.declared.fault.ScheduleFault.TheVariants as fault
 use Rattle.tko_runs.specs.Lines.{lines_of}
 use Rattle.tko_runs.specs.Schedules.{header_number, line_at, title_of}
 
--- the text begins with the title, and the rest stands behind it
+-- the text begins with the title, and this is the rest
 pub record HasTitle (text rest : List ℕ) : Type 0 where
   pub line : List ℕ
   pub lines : lines_of text ≡ line ∷ lines_of rest
@@ -16,7 +16,7 @@ pub record LacksTitle (text : List ℕ) (told : ScheduleFault) : Type 0 where
   pub bad : told ≡ fault.Line 1
   pub form : title_of (line_at (lines_of text) 0) ≡ None
 
--- the text begins with a header line of this name and number, and the rest stands behind it
+-- the text begins with a header line of this name and number, and this is the rest
 pub record HasHeaderLine (name text : List ℕ) (number : ℕ) (rest : List ℕ) : Type 0 where
   pub line : List ℕ
   pub lines : lines_of text ≡ line ∷ lines_of rest

@@ -1,4 +1,4 @@
--- Where a call stands in the order that a check finds, and what a check tells.
+-- The step at which a call takes effect in the order that a check finds, and the faults of a check.
 use Rattle.std.specs.Prelude.{◌≡◌, ◌≢◌, ℕ, zero, suc, slice_get, ◌+◌, ◌<◌, List, [], ◌∷◌, ◌++◌, length, All, Option, Some, None}
 use Rattle.tko_model.specs.declared.mark.Mark.{Mark}
 use Rattle.tko_model.specs.declared.mark.Op.{Op}
@@ -27,17 +27,17 @@ use Rattle.tko_steps.specs.Runs.{Call, OwnStep, steps_in}
 
 -- Steps, by the words that they find and leave.
 
--- the word that stands at a place
+-- the word at a place
 abbrev pub standing_word : CoreState → Place → Word
 standing_word core (place.Server server) = word.Server (server_at (abstract_of core) server)
 standing_word core place.Enrolment = word.Enrolled core.enrolled
 
--- a server's word once it got this mark, if one
+-- a server's word after it got this mark, if any
 abbrev pub with_change : ServerState → Option Mark → ServerState
 with_change found None = found
 with_change found (Some mark) = record { mark = mark; stamp = found.stamp + 1 }
 
--- what an operation of some thread leaves of a server's word, for some number of soft marks
+-- some operation of some thread leaves this of a server's word, for some number of soft marks
 pub record CanBecome (s : Settings) (found left : ServerState) : Type 0 where
   pub thread : ℕ
   pub op : Op
@@ -46,7 +46,7 @@ pub record CanBecome (s : Settings) (found left : ServerState) : Type 0 where
   pub leaves : left
       ≡ with_change found (transition s (has_room s softs) thread op found.mark found.stamp).change
 
--- what a step of this kind can leave of a word, whoever takes it: the word alone decides
+-- a step of this kind can leave this of a word, whoever takes it: the word alone decides
 abbrev pub CanLeave : Settings → Kind → Word → Word → Type 0
 CanLeave s Whole (word.Server found) (word.Server left) = CanBecome s found left
 CanLeave s Whole (word.Server found) (word.Enrolled left) = ⊥
@@ -55,7 +55,7 @@ CanLeave s Enrol (word.Enrolled found) (word.Enrolled left) = left ≡ found + 1
 CanLeave s Enrol (word.Enrolled found) (word.Server left) = ⊥
 CanLeave s Enrol (word.Server found) left = ⊥
 
--- a step finds the word that stands, and leaves what its kind can leave
+-- a step finds the word at its place, and leaves what its kind can leave
 abbrev pub Follows : Settings → CoreState → Event → Type 0
 Follows s core (Begin thread op server) = Unit {0}
 Follows s core (Step thread kind at found left answer) =
@@ -64,7 +64,8 @@ Follows s core (Step thread kind at found left answer) =
 -- so does each
 abbrev pub AllFollow : Settings → CoreState → List Event → Type 0
 AllFollow s core [] = Unit {0}
-AllFollow s core (event ∷ events) = Follows s core event × AllFollow s (core_after core event) events
+AllFollow s core (event ∷ events) =
+    Follows s core event × AllFollow s (core_after core event) events
 
 -- the first step that doesn't follow has that number among all steps of calls, from 1
 pub record IsFirstStray (s : Settings) (events : List Event) (number : ℕ) : Type 0 where
@@ -78,8 +79,8 @@ pub record IsFirstStray (s : Settings) (events : List Event) (number : ℕ) : Ty
 
 -- Calls.
 
--- the last own step at which the call is legal: with this reply it takes effect there, its other steps
--- are quiet, and there is no such step behind it
+-- the last own step at which the call is legal: with this reply it takes effect there, its other
+-- steps are quiet, and there is no such step after it
 pub record IsLastLegalAt (s : Settings) (call : Call) (reply : Reply) (own : OwnStep) : Type 0 where
   pub newer : List OwnStep
   pub older : List OwnStep
@@ -88,7 +89,7 @@ pub record IsLastLegalAt (s : Settings) (call : Call) (reply : Reply) (own : Own
   pub others : All IsQuiet (newer ++ older)
   pub last : All (λ other. IsLegalAt s call reply other → ⊥) newer
 
--- where a legal call stands: at the number of a step, or it lost every try, or it is open
+-- where a legal call takes effect: at the step of a number, or it lost every try, or it is open
 abbrev pub IsPlaced : Settings → Call → Placed → Type 0
 IsPlaced s call (placed.At number) =
     (reply : Reply) × (own : OwnStep) × (call.answer ≡ Some reply) × (reply ≢ Contended)
@@ -96,12 +97,16 @@ IsPlaced s call (placed.At number) =
 IsPlaced s call placed.Contended = call.answer ≡ Some Contended
 IsPlaced s call placed.Open = call.answer ≡ None
 
--- where each of the calls stands
+-- where each of the calls takes effect
 abbrev pub IsOrder : Settings → List Call → List Placed → Type 0
 IsOrder s [] [] = Unit {0}
 IsOrder s [] (placed ∷ others) = ⊥
 IsOrder s (call ∷ calls) [] = ⊥
 IsOrder s (call ∷ calls) (placed ∷ others) = IsPlaced s call placed × IsOrder s calls others
+
+-- where each call of a run takes effect
+abbrev pub IsOrderOf : Story → List Placed → Type 0
+IsOrderOf story places = IsOrder story.settings (calls_in story.settings story.events) places
 
 -- the first call that isn't legal is that one, counted from 1
 pub record IsFirstIllegal (s : Settings) (calls : List Call) (number : ℕ) : Type 0 where
@@ -115,12 +120,12 @@ pub record IsFirstIllegal (s : Settings) (calls : List Call) (number : ℕ) : Ty
 
 -- Runs.
 
--- the words of a run follow step by step, and all its calls are legal
+-- each step of a run finds and leaves a possible word, and all its calls are legal
 pub record IsLegalRun (story : Story) : Type 0 where
   pub follow : AllFollow story.settings (opened_core story.settings) story.events
   pub legal : All (IsLegal story.settings) (calls_in story.settings story.events)
 
--- the fault that a check tells: steps come before calls, and memory may take the place of any answer
+-- the fault of a check: steps are judged before calls; any call may instead fail with `Memory`
 abbrev pub TellsRunFault : Story → RunFault → Type 0
 TellsRunFault story (fault.Step number) = IsFirstStray story.settings story.events number
 TellsRunFault story (fault.Call number) =

@@ -17,7 +17,7 @@ use Rattle.tko_steps.specs.declared.step.Stepped.TheVariants.{NoThread, Idle, Di
 use Rattle.tko_steps.specs.Core.{CoreState, after_begin, after_step, begin_fault, has_call, opened_core, thread_at, told_by_step}
 use Rattle.tko_steps.specs.Runs.{Begin, Step, Turn}
 
--- the core, and what was told up to now
+-- the core, and the events and notes so far
 pub record Played : Type 0 where
   pub core : CoreState
   pub events : List Event
@@ -26,23 +26,30 @@ pub record Played : Type 0 where
 abbrev pub with_event : Played → Event → Played
 with_event p event = record p { events = p.events ++ event ∷ [] }
 
-abbrev pub with_note : Played → Remark → Played
-with_note p remark =
-    record p { notes = p.notes ++ record { after = length p.events; remark = remark } ∷ [] }
+-- a remark after the events so far
+abbrev pub note_of : Played → Remark → Note
+note_of p remark = record { after = length p.events; remark = remark }
 
--- what is told of a begin: a call, or that it was refused
+abbrev pub with_note : Played → Remark → Played
+with_note p remark = record p { notes = p.notes ++ note_of p remark ∷ [] }
+
+-- the same note so many times
+abbrev pub with_notes : Played → Remark → ℕ → Played
+with_notes p remark times = record p { notes = p.notes ++ replicate times (note_of p remark) }
+
+-- after a begin: it is an event, or a note that it was refused
 abbrev pub with_begin : Played → ℕ → Op → ℕ → Option BeginFault → Played
 with_begin p thread op server None = with_event p (event.Begin thread op server)
 with_begin p thread op server (Some fault) = with_note p (remark.Refused thread op server fault)
 
--- what is told of a step: the step, or that there was none
+-- after a step: it is an event, or a note that there was none
 abbrev pub with_step : Played → ℕ → Stepped → Played
 with_step p thread NoThread = with_note p (remark.NoThread thread)
 with_step p thread Idle = with_note p (remark.Idle thread)
 with_step p thread (Did kind place found left won answer) =
     with_event p (event.Step thread kind place found left answer)
 
--- one turn, as the core does it
+-- after one turn of the core
 abbrev pub after_turn : Played → Turn → Played
 after_turn p (Begin thread op server) =
     record (with_begin p thread op server (begin_fault p.core thread server)) {
@@ -99,7 +106,10 @@ RunsToAnswers plan =
     let run = after_commands (enrolled plan.settings) (before ++ command.Run thread ∷ []) in
     has_call (thread_at run.core thread) ≡ false
 
+-- the story of what was played
+abbrev pub story_of : Settings → Played → Story
+story_of s p = record { settings = s; events = p.events; notes = p.notes }
+
 -- the run that a schedule names
 unfoldable pub named_by : Plan → Story
-named_by plan =
-    record { settings = plan.settings; events = (played plan).events; notes = (played plan).notes }
+named_by plan = story_of plan.settings (played plan)

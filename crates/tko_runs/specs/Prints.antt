@@ -1,8 +1,9 @@
--- The text of a run: a line for each event and remark, then one for each call and each server, the number
--- of soft marks, and `ok`.
+-- The text of a run: a line for each event and remark, then one for each call and each server, the
+-- number of soft marks, and `ok`.
 use Rattle.std.specs.Prelude.{ℕ, ◌+◌, ◌-◌, List, [], ◌∷◌, ◌++◌, take, drop, codes, decimal, Option, Some, None}
 use Rattle.tko_model.specs.declared.mark.Op.{Op}
 use Rattle.tko_model.specs.declared.mark.Reply.{Reply}
+use Rattle.tko_model.specs.declared.settings.Settings.{Settings}
 use Rattle.tko_model.specs.declared.state.ServerState.{ServerState}
 use Rattle.tko_model.specs.Tracker.{opened, softs}
 use Rattle.tko_runs.specs.declared.event.Event.{Event}
@@ -27,13 +28,14 @@ line text = text ++ 10 ∷ []
 
 abbrev pub begin_text : ℕ → Op → ℕ → List ℕ
 begin_text thread op server =
-    codes "begin " ++ (decimal thread ++ (codes " " ++ (op_text op ++ (codes " " ++ decimal server))))
+    codes "begin "
+    ++ (decimal thread ++ (codes " " ++ (op_text op ++ (codes " " ++ decimal server))))
 
 abbrev pub place_text : Place → List ℕ
 place_text (place.Server server) = codes "server:" ++ decimal server
 place_text place.Enrolment = codes "enrolment"
 
--- the line behind a step that ends its call
+-- the line after a step that ends its call
 abbrev pub answer_text : ℕ → Option Reply → List ℕ
 answer_text thread None = []
 answer_text thread (Some reply) =
@@ -43,20 +45,23 @@ answer_text thread (Some reply) =
 abbrev pub step_text : ℕ → ℕ → Kind → Place → Option Reply → List ℕ
 step_text number thread kind.Enrol at answer = []
 step_text number thread kind.Whole at answer =
-    line (decimal number ++ (codes " " ++ (decimal thread ++ (codes " whole " ++ (place_text at ++ codes " done")))))
+    line
+    (decimal number
+    ++ (codes " " ++ (decimal thread ++ (codes " whole " ++ (place_text at ++ codes " done")))))
     ++ answer_text thread answer
 
 -- an event, which has that number if it is a step of a call
 abbrev pub event_text : ℕ → Event → List ℕ
 event_text number (event.Begin thread op server) = line (begin_text thread op server)
-event_text number (event.Step thread kind at found left answer) = step_text number thread kind at answer
+event_text number (event.Step thread kind at found left answer) =
+    step_text number thread kind at answer
 
--- how many steps of calls an event is: enrolments aren't numbered
+-- the number of steps of calls that an event is: enrolments aren't numbered
 abbrev pub steps_of : Event → ℕ
 steps_of (event.Begin thread op server) = 0
 steps_of (event.Step thread kind at found left answer) = count_of kind
 
--- the number behind those of the events
+-- the number after those of the events
 abbrev pub number_behind : ℕ → List Event → ℕ
 number_behind number [] = number
 number_behind number (event ∷ events) = number_behind (number + steps_of event) events
@@ -64,7 +69,8 @@ number_behind number (event ∷ events) = number_behind (number + steps_of event
 -- the events, from that number on
 abbrev pub events_text : ℕ → List Event → List ℕ
 events_text number [] = []
-events_text number (event ∷ events) = event_text number event ++ events_text (number + steps_of event) events
+events_text number (event ∷ events) =
+    event_text number event ++ events_text (number + steps_of event) events
 
 abbrev pub refusal_text : BeginFault → List ℕ
 refusal_text fault.NoThread = codes " refused no-thread"
@@ -72,11 +78,12 @@ refusal_text fault.Busy = codes " refused busy"
 refusal_text fault.NoServer = codes " refused no-server"
 
 abbrev pub remark_text : Remark → List ℕ
-remark_text (remark.Refused thread op server fault) = line (begin_text thread op server ++ refusal_text fault)
+remark_text (remark.Refused thread op server fault) =
+    line (begin_text thread op server ++ refusal_text fault)
 remark_text (remark.Idle thread) = line (codes "- " ++ (decimal thread ++ codes " idle"))
 remark_text (remark.NoThread thread) = line (codes "- " ++ (decimal thread ++ codes " no-thread"))
 
--- the events behind so many others, from that number on, with the notes between them
+-- the events after so many others, from that number on, with the notes between them
 abbrev pub told_text : ℕ → ℕ → List Event → List Note → List ℕ
 told_text number place events [] = events_text number events
 told_text number place events (note ∷ notes) =
@@ -103,18 +110,19 @@ state_text server = mark_text server.mark ++ (codes "@" ++ decimal server.stamp)
 abbrev pub servers_text : ℕ → List ServerState → List ℕ
 servers_text number [] = []
 servers_text number (server ∷ others) =
-    line (codes "server " ++ (decimal number ++ (codes " " ++ state_text server))) ++ servers_text (number + 1) others
+    line (codes "server " ++ (decimal number ++ (codes " " ++ state_text server)))
+    ++ servers_text (number + 1) others
 
--- the servers as a run leaves them
-abbrev pub left_by : Story → List ServerState
-left_by story = servers_after_all (opened story.settings).servers story.events
+-- the servers as events leave them
+abbrev pub left_by : Settings → List Event → List ServerState
+left_by s events = servers_after_all (opened s).servers events
 
 abbrev pub softs_text : List ServerState → List ℕ
 softs_text servers = line (codes "soft firm:" ++ (decimal (softs servers) ++ codes ",held:0"))
 
 unfoldable pub run_text : Story → List Placed → List ℕ
 run_text story order =
+    let servers = left_by story.settings story.events in
     told_text 1 0 story.events story.notes
     ++ (order_text 1 order
-    ++ (servers_text 0 (left_by story)
-    ++ (softs_text (left_by story) ++ line (codes "ok"))))
+    ++ (servers_text 0 servers ++ (softs_text servers ++ line (codes "ok"))))

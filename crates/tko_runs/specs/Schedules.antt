@@ -13,6 +13,7 @@ use Rattle.tko_runs.specs.declared.command.Command.{Command}
 use Rattle.tko_runs.specs.declared.command.Command.TheVariants.{Begin, Step, Run}
 use Rattle.tko_runs.specs.declared.fault.ScheduleFault.{ScheduleFault}
 use Rattle.tko_runs.specs.declared.fault.ScheduleFault.TheVariants as fault
+use Rattle.tko_runs.specs.Limits.{header_lines, max_bytes, max_commands, max_steps}
 use Rattle.tko_runs.specs.Lines.{lines_of}
 use Rattle.tko_runs.specs.Numbers.{number_of}
 use Rattle.tko_model.specs.Texts.{op_text}
@@ -26,37 +27,48 @@ pub record Plan : Type 0 where
 -- what holds of a schedule that was read
 pub record IsPlan (plan : Plan) : Type 0 where
   pub settings : IsWithinRanges plan.settings
-  pub few : length plan.commands ≤ 1000
+  pub few : length plan.commands ≤ max_commands
 
 -- The forms of lines.
 
 -- the operation of that word
 abbrev pub op_of : List ℕ → Option Op
 op_of word =
-    find (λ op. bytes_eq word (op_text op)) (LookUp ∷ SoftFailure ∷ HardFailure ∷ Success ∷ Release ∷ [])
+    find
+    (λ op. bytes_eq word (op_text op))
+    (LookUp ∷ SoftFailure ∷ HardFailure ∷ Success ∷ Release ∷ [])
 
--- `begin <thread> <op> <server>`, behind its first word
+-- `begin <thread> <op> <server>`, after its first word
 abbrev pub begin_of : List (List ℕ) → Option Command
 begin_of [] = None
 begin_of (thread ∷ []) = None
 begin_of (thread ∷ op ∷ []) = None
 begin_of (thread ∷ op ∷ server ∷ []) =
-    option_and_then (λ thread. option_and_then (λ op. option_map (λ server. Begin thread op server) (number_of server)) (op_of op)) (number_of thread)
+    option_and_then
+    (λ thread. option_and_then
+    (λ op. option_map (λ server. Begin thread op server) (number_of server))
+    (op_of op))
+    (number_of thread)
 begin_of (thread ∷ op ∷ server ∷ other ∷ others) = None
 
 -- a number of steps that one line may ask for
 abbrev pub steps_of : List ℕ → Option ℕ
-steps_of word = option_and_then (λ steps. if is_within 1 5000 steps then Some steps else None) (number_of word)
+steps_of word =
+    option_and_then
+    (λ steps. if is_within 1 max_steps steps then Some steps else None)
+    (number_of word)
 
--- `step <thread> <n>`
+-- `step <thread> <n>`, after its first word
 abbrev pub step_of : List (List ℕ) → Option Command
 step_of [] = None
 step_of (thread ∷ []) = None
 step_of (thread ∷ steps ∷ []) =
-    option_and_then (λ thread. option_map (λ steps. Step thread steps) (steps_of steps)) (number_of thread)
+    option_and_then
+    (λ thread. option_map (λ steps. Step thread steps) (steps_of steps))
+    (number_of thread)
 step_of (thread ∷ steps ∷ other ∷ others) = None
 
--- `run <thread>`
+-- `run <thread>`, after its first word
 abbrev pub run_of : List (List ℕ) → Option Command
 run_of [] = None
 run_of (thread ∷ []) = option_map (λ thread. Run thread) (number_of thread)
@@ -91,7 +103,8 @@ abbrev pub line_at : List (List ℕ) → ℕ → List ℕ
 line_at lines place = slice_index_or lines place []
 
 -- what follows from the line of this number, counted from 1, where it has its form
-abbrev pub on_line : {A B : Type 0} → ℕ → Option A → (A → Result B ScheduleFault) → Result B ScheduleFault
+abbrev pub on_line : {A B : Type 0} →
+    ℕ → Option A → (A → Result B ScheduleFault) → Result B ScheduleFault
 on_line number None next = Err (fault.Line number)
 on_line number (Some value) next = next value
 
@@ -118,17 +131,17 @@ header lines =
       opening_stamp = stamp;
     }))))))))
 
--- The lines behind the header.
+-- The lines after the header.
 
--- the place of the first that is no command, or of the one that is one too many
+-- the place of the first that is no command, or of the first of too many
 abbrev pub bad_place : List (List ℕ) → ℕ
-bad_place lines = min (position_or_len (λ line. is_none (command_line line)) lines) 1000
+bad_place lines = min (position_or_len (λ line. is_none (command_line line)) lines) max_commands
 
--- the commands of up to 1,000 lines, or the first bad line
+-- the commands of so many lines, or the first bad line
 unfoldable pub commands_of : List (List ℕ) → Result (List Command) ScheduleFault
 commands_of lines =
     if nat_lt (bad_place lines) (length lines)
-    then Err (fault.Line (bad_place lines + 8))
+    then Err (fault.Line (bad_place lines + header_lines + 1))
     else Ok (filter_map command_line lines)
 
 -- The whole text.
@@ -143,18 +156,19 @@ plan_behind settings (Err bad) = Err bad
 plan_behind settings (Ok commands) = plan_of (first_fault settings) settings commands
 
 -- the lines are judged first, from the first to the last, and then the settings
-abbrev pub plan_in : Result Settings ScheduleFault → Result (List Command) ScheduleFault → Result Plan ScheduleFault
+abbrev pub plan_in :
+    Result Settings ScheduleFault → Result (List Command) ScheduleFault → Result Plan ScheduleFault
 plan_in (Err bad) commands = Err bad
 plan_in (Ok settings) commands = plan_behind settings commands
 
--- what a text says, or why it is no schedule; a text that is too long has the bad line 0
+-- what a text says, or why it is no schedule; a text that is too long is fault 0
 unfoldable pub reads : List ℕ → Result Plan ScheduleFault
 reads text =
-    if nat_lt 1048576 (length text)
+    if nat_lt max_bytes (length text)
     then Err (fault.Line 0)
-    else plan_in (header (lines_of text)) (commands_of (drop 7 (lines_of text)))
+    else plan_in (header (lines_of text)) (commands_of (drop header_lines (lines_of text)))
 
--- the fault that a text is told: memory may take the place of any answer, and the others are exact
+-- the fault of a text is exact; any call may instead fail with `Memory`
 abbrev pub TellsFault : List ℕ → ScheduleFault → Type 0
 TellsFault text (fault.Line number) = reads text ≡ Err (fault.Line number)
 TellsFault text (fault.Settings outside) = reads text ≡ Err (fault.Settings outside)

@@ -1,9 +1,11 @@
--- How the steps of a call stand to its answer.
+-- Where a call can take effect, among its steps so far.
 use Rattle.std.specs.Prelude.{◌≡◌, ℕ, List, ◌∷◌, ◌++◌, All, Option, Some, None}
 use Rattle.tko_model.specs.declared.mark.Reply.{Reply}
 use Rattle.tko_model.specs.declared.settings.Settings.{Settings}
 use Rattle.tko_runs.specs.declared.judging.Standing.{Standing}
 use Rattle.tko_runs.specs.declared.judging.Standing.TheVariants.{Quiet, Changed}
+use Rattle.tko_runs.specs.declared.order.Placed.{Placed}
+use Rattle.tko_runs.specs.Sights.{Judges}
 use Rattle.tko_steps.specs.Legal.{IsQuiet, TakesEffect}
 use Rattle.tko_steps.specs.Runs.{Call, OwnStep}
 
@@ -29,7 +31,8 @@ pub record IsQuietNowhere (s : Settings) (call : Call) (steps : List OwnStep) : 
   pub quiet : All IsQuiet steps
   pub nowhere : All (λ own. IsEffective s call own → ⊥) steps
 
--- the steps, the newest first, are quiet, and this is the number of the last at which the call takes effect
+-- the steps, newest first, are quiet, and this is the number of the last at which the call takes
+-- effect
 pub record IsQuietAt (s : Settings) (call : Call) (steps : List OwnStep) (number : ℕ) : Type 0 where
   pub newer : List OwnStep
   pub own : OwnStep
@@ -43,11 +46,12 @@ pub record IsQuietAt (s : Settings) (call : Call) (steps : List OwnStep) (number
 -- some step is not quiet, and at none of them the call takes effect while the others are quiet
 pub record IsChangedNowhere (s : Settings) (call : Call) (steps : List OwnStep) : Type 0 where
   pub changed : All IsQuiet steps → ⊥
-  pub nowhere : (newer : List OwnStep) (own : OwnStep) (older : List OwnStep) → steps ≡ newer ++ own ∷ older
-      → IsEffective s call own → All IsQuiet (newer ++ older) → ⊥
+  pub nowhere : (newer : List OwnStep) (own : OwnStep) (older : List OwnStep) →
+      steps ≡ newer ++ own ∷ older → IsEffective s call own → All IsQuiet (newer ++ older) → ⊥
 
 -- the step of this number alone is not quiet, and the call takes effect there
-pub record IsChangedAt (s : Settings) (call : Call) (steps : List OwnStep) (number : ℕ) : Type 0 where
+pub record IsChangedAt
+    (s : Settings) (call : Call) (steps : List OwnStep) (number : ℕ) : Type 0 where
   pub newer : List OwnStep
   pub own : OwnStep
   pub older : List OwnStep
@@ -57,9 +61,15 @@ pub record IsChangedAt (s : Settings) (call : Call) (steps : List OwnStep) (numb
   pub changed : IsQuiet own → ⊥
   pub others : All IsQuiet (newer ++ older)
 
--- so the steps, the newest first, stand to the call's answer
+-- the meaning of a `Standing`, for these steps, newest first
 abbrev pub Stands : Settings → Call → List OwnStep → Standing → Type 0
 Stands s call steps (Quiet None) = IsQuietNowhere s call steps
 Stands s call steps (Quiet (Some number)) = IsQuietAt s call steps number
 Stands s call steps (Changed None) = IsChangedNowhere s call steps
 Stands s call steps (Changed (Some number)) = IsChangedAt s call steps number
+
+-- this is where every call with this answer takes effect whose steps have this `Standing`
+abbrev pub PlacesCalls : Option Reply → Standing → Option Placed → Type 0
+PlacesCalls answer standing place =
+    (s : Settings) (call : Call) →
+    call.answer ≡ answer → Stands s call call.steps standing → Judges s call place

@@ -19,7 +19,8 @@ pub(crate) fn can_become(settings: &Settings, found: ServerState, left: ServerSt
     left == found || is_left_by(settings, taker(left.mark, found.mark), found, left)
 }
 
-/// The thread of a change from one mark to another: one of them names it, or any thread may be the one.
+/// The thread of a change from one mark to another: one of them names it, or any thread may be
+/// the one.
 fn taker(left: Mark, found: Mark) -> u32
     ensures { result ≡ unwrap_or (option_or (owner_of left) (owner_of found)) 0 }
 {

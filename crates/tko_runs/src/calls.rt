@@ -53,12 +53,13 @@ impl Calls {
     pub fn last(&self, thread: usize) -> &OwnCall
         requires thread { thread < length self.now.latest.items }
         requires latest { get_or self.now.latest.items thread 0 < length self.now.all.items }
-        ensures { result.now ≡ get_or self.now.all.items (get_or self.now.latest.items thread 0) result.now }
+        ensures { result.now ≡
+            get_or self.now.all.items (get_or self.now.latest.items thread 0) result.now }
     {
         &self.all[self.latest[thread]]
     }
 
-    /// A thread takes a step, which shows this of the call that it began last, and gives it this answer.
+    /// Adds a step to the call that a thread began last, and sets the call's answer.
     pub fn step(
         &mut self,
         thread: usize,

@@ -1,18 +1,18 @@
-//! The check of a run: whether its words follow one another, and where each call takes effect.
+//! The check of a run: whether each step finds the word that was left, and where each call takes
+//! effect.
 ghost use Rattle.std.specs.Prelude.{◌≡◌, IfOk, IfErr};
-ghost use Rattle.tko_runs.specs.Claims.{calls_in};
-ghost use Rattle.tko_runs.specs.Orders.{IsLegalRun, IsOrder, TellsRunFault};
+ghost use Rattle.tko_runs.specs.Orders.{IsLegalRun, IsOrderOf, TellsRunFault};
 
 use crate::docket::Docket;
 use crate::{Order, Run};
 use std::alloc::{AllocError, AllocFailed, Global};
 use thiserror::Error;
 
-/// Why a run is refused. Steps come before calls.
+/// Why a run is refused. Steps are judged before calls.
 #[derive(Clone, Copy, Debug, PartialEq, Eq, Error)]
 pub enum RunFault {
-    /// The number, as printed, of the first step that doesn't find the word that stands, or leaves what no
-    /// step of its kind leaves.
+    /// The number, as printed, of the first step that doesn't find the word that the steps before
+    /// it left, or that leaves a word which no step of its kind can leave.
     #[error("step {0}")]
     Step(u64),
     /// The number, in the order of begins, of the first call that isn't legal.
@@ -44,9 +44,10 @@ impl<T: Drop> From<AllocFailed<T>> for RunFault {
     }
 }
 
-/// Where each call takes effect, if the words of the run follow step by step and all calls are legal.
+/// Where each call takes effect, if each step of the run finds and leaves a possible word and all
+/// calls are legal.
 pub fn check(alloc: Global, run: &Run) -> Result<Order, RunFault>
-    ensures order { IfOk result (λ order. IsOrder run.now.settings (calls_in run.now.settings run.now.events) order) }
+    ensures order { IfOk result (IsOrderOf run.now) }
     ensures legal { IfOk result (λ order. IsLegalRun run.now) }
     ensures err { IfErr result (TellsRunFault run.now) }
     ensures never { IsLegalRun run.now → IfErr result (λ fault. fault ≡ RunFault.Memory) }

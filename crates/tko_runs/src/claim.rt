@@ -13,9 +13,9 @@ use tko_model::{Settings, SettingsFault};
 pub enum ClaimFault {
     #[error("settings {0}")]
     Settings(SettingsFault),
-    /// The number, counted from 1, of the first event that can't come where it stands: a number is out of
-    /// its range, a call is begun by a thread that isn't enrolled or has one, a thread enrols twice or not
-    /// with the number of those before it, or a thread without a call takes a step.
+    /// The number, counted from 1, of the first event that can't come next: a number is out of its
+    /// range, a call is begun by a thread that isn't enrolled or has one, a thread enrols twice or
+    /// not with the number of those before it, or a thread without a call takes a step.
     #[error("event {0}")]
     Event(usize),
     #[error("memory")]
@@ -45,7 +45,7 @@ impl<T: Drop> From<AllocFailed<T>> for ClaimFault {
 }
 
 impl Run {
-    /// The run that is claimed, whatever its words say. `check` judges them.
+    /// The run that is claimed, whatever words its steps find and leave; `check` judges these.
     pub fn of(alloc: Global, settings: Settings, events: Vec<Event>) -> Result<Run, ClaimFault>
         ensures ok { IfOk result (λ run.
             run ≡ record { settings = settings; events = events.items; notes = [] }) }

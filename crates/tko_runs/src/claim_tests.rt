@@ -50,7 +50,7 @@ fn look(thread: usize, server: usize) -> Event {
     }
 }
 
-/// Why these events with that one behind them are no run.
+/// The fault of these events followed by that one.
 fn fault_behind(alloc: Global, before: &[Event], bad: Event) -> Result<Option<ClaimFault>, Fail> {
     let mut events = Vec::from_slice(alloc, before)?;
     events.push(bad)?;

@@ -1,8 +1,7 @@
-//! The end of a run's text: where its calls stand, the servers as it leaves them, and the soft marks.
+//! The end of a run's text: its calls, the servers as it leaves them, and the number of soft marks.
 ghost use Rattle.std.specs.Prelude.{◌≡◌, ◌++◌, [], ◌∷◌, IfOk, OnOk};
-ghost use Rattle.tko_model.specs.Tracker.{opened};
-ghost use Rattle.tko_runs.specs.Claims.{AllCome, opened_roll, servers_after_all};
-ghost use Rattle.tko_runs.specs.Prints.{line, order_text, placed_text, servers_text, softs_text};
+ghost use Rattle.tko_runs.specs.Claims.{AllCome, opened_roll};
+ghost use Rattle.tko_runs.specs.Prints.{left_by, line, order_text, placed_text, servers_text, softs_text};
 
 use crate::{Event, Placed};
 use std::alloc::{AllocError, Global};
@@ -45,7 +44,7 @@ pub(crate) fn servers_left(
     events: &[Event],
 ) -> Result<Vec<ServerState>, AllocError>
     requires { AllCome settings.now (opened_roll settings.now) events.now }
-    ensures { IfOk result (λ servers. servers.items ≡ servers_after_all (opened settings.now).servers events.now) }
+    ensures { IfOk result (λ servers. servers.items ≡ left_by settings.now events.now) }
 {
     let mut servers = opened_servers(alloc, settings)?;
     for event in events {

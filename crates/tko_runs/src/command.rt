@@ -6,10 +6,10 @@ use crate::number::number;
 use crate::words::Words;
 use tko_model::{Op, op_word};
 
-/// The most steps that one line may ask for.
+/// The most steps that one line asks for. No call takes more.
 pub(crate) const MAX_STEPS: u64 = 5_000;
 
-/// What one line of a schedule says. A thread or a server of that number need not be there.
+/// One line of a schedule. A thread or a server of that number need not exist.
 #[derive(Clone, Copy, Debug, PartialEq, Eq)]
 pub enum Command {
     /// The thread begins a call.
@@ -48,7 +48,7 @@ impl Command {
     }
 }
 
-/// `begin <thread> <op> <server>`, behind its first word.
+/// `begin <thread> <op> <server>`, after its first word.
 fn begin(mut words: Words) -> Option<Command>
     ensures { result ≡ begin_of words.entry }
 {
@@ -63,7 +63,7 @@ fn begin(mut words: Words) -> Option<Command>
     })
 }
 
-/// `step <thread> <n>`
+/// `step <thread> <n>`, after its first word.
 fn step(mut words: Words) -> Option<Command>
     ensures { result ≡ step_of words.entry }
 {
@@ -77,7 +77,7 @@ fn step(mut words: Words) -> Option<Command>
     })
 }
 
-/// `run <thread>`
+/// `run <thread>`, after its first word.
 fn run(mut words: Words) -> Option<Command>
     ensures { result ≡ run_of words.entry }
 {

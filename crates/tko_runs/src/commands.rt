@@ -1,5 +1,6 @@
-//! The lines of a schedule behind its header.
+//! The lines of a schedule after its header.
 ghost use Rattle.std.specs.Prelude.{◌≡◌, ◌+◌, ◌<◌, ◌≤◌, ◌⊎◌, Ok, Err, Some, None, length, IfOk, IfErr};
+ghost use Rattle.tko_runs.specs.Limits.{header_lines, max_commands};
 ghost use Rattle.tko_runs.specs.Lines.{lines_of};
 ghost use Rattle.tko_runs.specs.Schedules.{command_line, commands_of};
 
@@ -7,16 +8,16 @@ use crate::lines::first_line;
 use crate::{Command, ScheduleFault};
 use std::alloc::Global;
 
-/// The most lines that may stand behind the header.
+/// The most lines after the header.
 const MAX_COMMANDS: usize = 1_000;
 
-/// The lines of the header.
+/// The number of header lines.
 const HEADER_LINES: u32 = 7;
 
 /// The commands of a text of such lines.
 pub(crate) fn read_commands(alloc: Global, text: &[u8]) -> Result<Vec<Command>, ScheduleFault>
     ensures ok { IfOk result (λ commands. commands_of (lines_of text.now) ≡ Ok commands.items) }
-    ensures few { IfOk result (λ commands. length commands.items ≤ 1000) }
+    ensures few { IfOk result (λ commands. length commands.items ≤ max_commands) }
     ensures err { IfErr result (λ fault.
         (fault ≡ ScheduleFault.Memory) ⊎ (commands_of (lines_of text.now) ≡ Err fault)) }
 {
@@ -31,13 +32,13 @@ pub(crate) fn read_commands(alloc: Global, text: &[u8]) -> Result<Vec<Command>, 
     Ok(commands)
 }
 
-/// The command of the line at this place behind the header.
+/// The command of the line at this place after the header.
 fn command_at(place: usize, line: &[u8]) -> Result<Command, ScheduleFault>
-    requires { place ≤ 1000 }
-    ensures few { IfOk result (λ command. place < 1000) }
+    requires { place ≤ max_commands }
+    ensures few { IfOk result (λ command. place < max_commands) }
     ensures ok { IfOk result (λ command. command_line line.now ≡ Some command) }
-    ensures line { IfErr result (λ fault. fault ≡ ScheduleFault.Line (place + 8)) }
-    ensures err { IfErr result (λ fault. (1000 ≤ place) ⊎ (command_line line.now ≡ None)) }
+    ensures line { IfErr result (λ fault. fault ≡ ScheduleFault.Line (place + header_lines + 1)) }
+    ensures err { IfErr result (λ fault. (max_commands ≤ place) ⊎ (command_line line.now ≡ None)) }
 {
     let bad = ScheduleFault::Line(place as u32 + HEADER_LINES + 1);
     if place >= MAX_COMMANDS {

@@ -1,4 +1,4 @@
-//! What stands after some events of a run, and their calls.
+//! The state after some events of a run, and the calls that they began.
 ghost use Rattle.std.specs.Prelude.{◌≡◌, ◌+◌, ◌<◌, ◌^◌, length, IfOk, IfErr, OnOk, MatchOption};
 ghost use Rattle.tko_model.specs.Ranges.{IsWithinRanges};
 ghost use Rattle.tko_runs.specs.Claims.{CanCome, HasCall, IsPlace, standing};
@@ -14,14 +14,14 @@ use std::alloc::{AllocError, Global};
 use tko_model::{Reply, ServerState, Settings, opened_servers};
 use tko_steps::{Kind, Place, Word};
 
-/// What stands after some events of a run, and the calls up to there.
+/// The state after some events of a run, and the calls that they began.
 #[derive(Drop)]
 pub(crate) struct Docket {
     settings: Settings,
     register: Register,
     servers: Vec<ServerState>,
     calls: Calls,
-    /// How many steps of calls there were.
+    /// The number of steps of calls among these events.
     steps: u64,
 }
 
@@ -75,7 +75,7 @@ impl Docket {
         }
     }
 
-    /// Takes a step of a thread's call, if its words follow.
+    /// Takes a step of a thread's call, if it finds and leaves possible words.
     fn step(
         &mut self,
         thread: usize,
@@ -109,7 +109,7 @@ impl Docket {
         Ok(())
     }
 
-    /// Where each call stands.
+    /// Where each call takes effect, if all are legal.
     pub fn order(self, alloc: Global) -> Result<Order, RunFault>
         ensures ok { IfOk result (AreJudged self.calls.all.items) }
         ensures err { IfErr result (TellsIllegal self.calls.all.items) }
@@ -132,7 +132,8 @@ fn judge(alloc: Global, calls: &[OwnCall]) -> Result<Order, RunFault>
     Ok(Order::new(places))
 }
 
-/// The server of a step and what it leaves, if it finds what stands and leaves what it can.
+/// The server of a step and the word that it leaves, if it finds the server's word and leaves a
+/// word that a step can leave.
 fn follow(
     settings: &Settings,
     servers: &[ServerState],
@@ -144,7 +145,10 @@ fn follow(
     requires count { length servers.now ≡ settings.now.servers }
     requires fit { AllFit settings.now servers.now }
     requires place { IsPlace settings.now place }
-    ensures { MatchOption result (LeadsNowhere settings.now servers.now place found left) (λ it. LeadsTo settings.now servers.now place found left it.0 it.1) }
+    ensures { MatchOption
+        result
+        (LeadsNowhere settings.now servers.now place found left)
+        (λ it. LeadsTo settings.now servers.now place found left it.0 it.1) }
 {
     match place {
         Place::Enrolment => None,

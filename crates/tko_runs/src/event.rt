@@ -1,4 +1,4 @@
-//! What a run tells.
+//! Events of a run, and remarks.
 
 use tko_model::{Op, Reply};
 use tko_steps::{BeginFault, Kind, Place, Word};
@@ -26,7 +26,7 @@ pub enum Event {
     },
 }
 
-/// What was asked of a thread and is no event, since nothing came of it.
+/// What a thread was asked to do without effect.
 #[derive(Clone, Copy, Debug, PartialEq, Eq)]
 pub enum Remark {
     /// A begin was refused.
@@ -40,7 +40,7 @@ pub enum Remark {
     Idle {
         thread: usize,
     },
-    /// A step of a thread that isn't there.
+    /// A step of a thread that doesn't exist.
     NoThread {
         thread: usize,
     },

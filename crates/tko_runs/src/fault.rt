@@ -7,7 +7,7 @@ use tko_model::SettingsFault;
 /// Why a text is no schedule.
 #[derive(Clone, Copy, Debug, PartialEq, Eq, Error)]
 pub enum ScheduleFault {
-    /// The first bad line, counted from 1; 0 stands for a text that is too long.
+    /// The first bad line, counted from 1, or 0 if the text is too long.
     #[error("line {0}")]
     Line(u32),
     #[error("settings {0}")]

@@ -2,6 +2,7 @@
 ghost use Rattle.std.specs.Prelude.{◌≡◌, Ok, Err, Some, None, drop, min, IfOk, IfErr};
 ghost use Rattle.tko_model.specs.Ranges.{IsWithinRanges, first_fault};
 ghost use Rattle.tko_runs.specs.Headers.{HasHeaderLine, HasTitle, LacksHeaderLine, LacksTitle};
+ghost use Rattle.tko_runs.specs.Limits.{header_lines};
 ghost use Rattle.tko_runs.specs.Lines.{lines_of};
 ghost use Rattle.tko_runs.specs.Schedules.{header, header_number};
 
@@ -12,7 +13,7 @@ use crate::words::Words;
 use std::marker::Model;
 use tko_model::{Settings, SettingsFault};
 
-/// The numbers of the header lines. Contracts see settings of these numbers, however large they are.
+/// The numbers of the header lines. Contracts see settings with these numbers, however large.
 #[derive(Drop)]
 pub(crate) struct Header {
     servers: u64,
@@ -39,10 +40,11 @@ impl Model for Header {
 }
 
 impl Header {
-    /// The header that a text begins with, and what stands behind it.
+    /// The header at the start of a text, and the rest of the text.
     pub(crate) fn read(text: &[u8]) -> Result<(Header, &[u8]), ScheduleFault>
         ensures ok { IfOk result (λ read. header (lines_of text.now) ≡ Ok read.0) }
-        ensures rest { IfOk result (λ read. lines_of read.1.now ≡ drop 7 (lines_of text.now)) }
+        ensures rest { IfOk result (λ read.
+            lines_of read.1.now ≡ drop header_lines (lines_of text.now)) }
         ensures err { IfErr result (λ fault. header (lines_of text.now) ≡ Err fault) }
     {
         let rest = title(text)?;
@@ -63,7 +65,8 @@ impl Header {
         Ok((header, rest))
     }
 
-    /// The settings, where each number is in its range. A number that is too large for its field is in none.
+    /// The settings, if each number is in its range. A number too large for its field is outside
+    /// the field's range.
     pub(crate) fn settings(self) -> Result<Settings, SettingsFault>
         ensures ok { IfOk result (λ settings. settings ≡ self) }
         ensures ranges { IfOk result (λ settings. IsWithinRanges settings) }
@@ -83,14 +86,14 @@ impl Header {
     }
 }
 
-/// The number, or the largest one where it is too large.
+/// The number, or the largest `u32` if it is larger.
 fn narrow(number: u64) -> u32
     ensures { result ≡ min number 4294967295 }
 {
     number.min(u64::from(u32::MAX)) as u32
 }
 
-/// Passes over the first line, which is spelt out.
+/// The text after its first line, which is always the same.
 fn title(text: &[u8]) -> Result<&[u8], ScheduleFault>
     ensures ok { IfOk result (λ rest. HasTitle text.now rest.now) }
     ensures err { IfErr result (λ fault. LacksTitle text.now fault) }
@@ -105,7 +108,7 @@ fn title(text: &[u8]) -> Result<&[u8], ScheduleFault>
     Ok(rest)
 }
 
-/// The number of the header line of this name that a text begins with, and what stands behind it.
+/// The number of the header line of this name at the start of a text, and the rest of the text.
 fn header_line<'a>(line: u32, name: &[u8], text: &'a [u8]) -> Result<(u64, &'a [u8]), ScheduleFault>
     ensures ok { IfOk result (λ read. HasHeaderLine name.now text.now read.0 read.1.now) }
     ensures err { IfErr result (λ fault. LacksHeaderLine line name.now text.now fault) }

@@ -1,9 +1,9 @@
-//! Whether one call is legal.
+//! Whether a call is legal.
 ghost use Rattle.std.specs.Prelude.{◌≡◌, ◌≢◌, ◌↔◌, List, ◌∷◌, true};
 ghost use Rattle.tko_model.specs.declared.mark.Reply.{Reply};
 ghost use Rattle.tko_model.specs.declared.settings.Settings.{Settings};
 ghost use Rattle.tko_runs.specs.Sights.{IsKept, IsSight, Judges};
-ghost use Rattle.tko_runs.specs.Standings.{HasReply, IsEffective, Stands};
+ghost use Rattle.tko_runs.specs.Standings.{HasReply, IsEffective, PlacesCalls, Stands};
 ghost use Rattle.tko_steps.specs.Runs.{Call, OwnStep};
 
 use crate::Placed;
@@ -30,16 +30,16 @@ pub(crate) struct Sight {
     pub effect: Option<Reply>,
 }
 
-/// How the steps of a call stand to its answer.
+/// Where a call takes effect, by those of its steps that were judged so far.
 #[derive(Clone, Copy, Debug, PartialEq, Eq)]
 enum Standing {
-    /// All are quiet; this is the last at which the call takes effect, if there is one.
+    /// All steps are quiet; at this one the call takes effect last, if it does at any.
     Quiet(Option<u64>),
-    /// Not all are; this one alone isn't, and there the call takes effect, or there is no such step.
+    /// Some step isn't quiet. If it is the only one and the call takes effect there, this is it.
     Changed(Option<u64>),
 }
 
-/// Where a call stands, if it is legal.
+/// Where a call takes effect, if it is legal.
 pub(crate) fn place_of(call: &OwnCall) -> Option<Placed>
     ensures { (s : Settings) → (of : Call) → IsKept s of call.now → Judges s of result }
 {
@@ -50,8 +50,8 @@ pub(crate) fn place_of(call: &OwnCall) -> Option<Placed>
     placed(call.answer, standing)
 }
 
-/// Whether a step that has this effect can be the one at which a call with this answer takes effect. A call
-/// that is open may get any answer yet.
+/// Whether a call with this answer can take effect at a step with this effect. An open call may
+/// still get any answer.
 fn is_effect(answer: Option<Reply>, effect: Option<Reply>) -> bool
     ensures { (result ≡ true) ↔ HasReply answer effect }
 {
@@ -62,7 +62,7 @@ fn is_effect(answer: Option<Reply>, effect: Option<Reply>) -> bool
 }
 
 fn placed(answer: Option<Reply>, standing: Standing) -> Option<Placed>
-    ensures { (s : Settings) → (of : Call) → of.answer ≡ answer → Stands s of of.steps standing → Judges s of result }
+    ensures { PlacesCalls answer standing result }
 {
     let Some(reply) = answer else {
         return open(standing);
@@ -74,7 +74,7 @@ fn placed(answer: Option<Reply>, standing: Standing) -> Option<Placed>
 }
 
 fn contended(standing: Standing) -> Option<Placed>
-    ensures { (s : Settings) → (of : Call) → of.answer ≡ Some Reply.Contended → Stands s of of.steps standing → Judges s of result }
+    ensures { PlacesCalls (Some Reply.Contended) standing result }
 {
     match standing {
         Standing::Quiet(_) => Some(Placed::Contended),
@@ -83,7 +83,7 @@ fn contended(standing: Standing) -> Option<Placed>
 }
 
 fn answered(standing: Standing) -> Option<Placed>
-    ensures { (s : Settings) → (of : Call) → (reply : Reply) → of.answer ≡ Some reply → reply ≢ Reply.Contended → Stands s of of.steps standing → Judges s of result }
+    ensures { (reply : Reply) → reply ≢ Reply.Contended → PlacesCalls (Some reply) standing result }
 {
     match standing {
         Standing::Quiet(Some(at)) => Some(Placed::At(at)),
@@ -94,7 +94,7 @@ fn answered(standing: Standing) -> Option<Placed>
 }
 
 fn open(standing: Standing) -> Option<Placed>
-    ensures { (s : Settings) → (of : Call) → of.answer ≡ None → Stands s of of.steps standing → Judges s of result }
+    ensures { PlacesCalls None standing result }
 {
     match standing {
         Standing::Quiet(_) => Some(Placed::Open),
@@ -104,10 +104,11 @@ fn open(standing: Standing) -> Option<Placed>
 }
 
 impl Standing {
-    /// With one more step, which is newer.
+    /// After one more step, which is newer.
     fn with(self, takes_effect: bool, sight: Sight) -> Standing
-        ensures { (s : Settings) → (of : Call) → (own : OwnStep) → (older : List OwnStep) → IsSight s of own sight
-            → ((takes_effect ≡ true) ↔ IsEffective s of own) → Stands s of older self → Stands s of (own ∷ older) result }
+        ensures { (s : Settings) (of : Call) (own : OwnStep) (older : List OwnStep) →
+            IsSight s of own sight → ((takes_effect ≡ true) ↔ IsEffective s of own) →
+            Stands s of older self → Stands s of (own ∷ older) result }
     {
         match (self, sight.is_quiet, takes_effect) {
             (Standing::Quiet(_), true, true) => Standing::Quiet(Some(sight.at)),

@@ -1,9 +1,13 @@
 //! Schedules of what threads do with a tracker, the runs that they name, and the check of runs.
 //!
-//! - `Command`: one line of a schedule: a thread begins a call, takes steps, or runs its call to the end.
-//! - `Schedule`: the settings of a tracker and the commands in order; `ScheduleFault`: why a text is none.
-//! - `play`: the run that a schedule names. `Run`: its events in order; `Run::of` makes any claimed run.
-//! - `check`: whether a run's words follow one another and all its calls are legal; `Order`: at which step.
+//! - `Command`: one line of a schedule: a thread begins a call, takes steps, or runs until its call
+//!   is answered.
+//! - `Schedule`: the settings of a tracker and the commands in order; `ScheduleFault`: why a text
+//!   is no schedule.
+//! - `play`: the run that a schedule names. `Run`: its events in order; `Run::of` makes any claimed
+//!   run.
+//! - `check`: whether each step of a run finds the word that the steps before it left, and whether
+//!   all its calls are legal; `Order`: the step at which each call takes effect.
 //! - `Run::print`: the text of a run.
 #![tactic(auto)]
 
@@ -43,6 +47,8 @@ pub use schedule::Schedule;
 
 #[cfg(test)]
 mod claim_tests;
+#[cfg(test)]
+mod limit_tests;
 #[cfg(test)]
 mod row_tests;
 #[cfg(test)]

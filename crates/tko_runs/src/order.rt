@@ -4,19 +4,19 @@ ghost use Rattle.tko_runs.specs.Orders.{number_at};
 
 use std::marker::Model;
 
-/// Where a call stands.
+/// Where a call takes effect.
 #[derive(Clone, Copy, Debug, PartialEq, Eq)]
 pub enum Placed {
-    /// At the step of that number, which is the last of its own at which the sequential tracker gives its
+    /// At the step of this number, the last of its own at which the sequential tracker gives its
     /// reply and change.
     At(u64),
     /// It lost every try and changed nothing.
     Contended,
-    /// It isn't answered.
+    /// It wasn't answered.
     Open,
 }
 
-/// Where each call of a run stands, in the order of their begins. Contracts see the list.
+/// Where each call of a run takes effect, in the order of their begins. Contracts see the list.
 #[derive(Debug, Drop)]
 pub struct Order {
     places: Vec<Placed>,
@@ -38,8 +38,8 @@ impl Order {
         Order { places }
     }
 
-    /// The number of the step at which a call takes effect. Calls are numbered from 1, in the order of
-    /// their begins. None for one that is contended, open, or not there.
+    /// The number of the step at which a call takes effect. Calls are numbered from 1, in the order
+    /// of their begins. None for a call that is contended, open or not in the run.
     pub fn at(&self, call: usize) -> Option<u64>
         ensures { result ≡ number_at self.now call }
     {
@@ -49,7 +49,7 @@ impl Order {
         }
     }
 
-    /// Where the calls stand, in the order of their begins.
+    /// Where the calls take effect, in the order of their begins.
     pub fn places(&self) -> &[Placed]
         ensures { result.now ≡ self.now }
     {

@@ -1,8 +1,8 @@
-//! A core that is played on, and what is told of it.
-ghost use Rattle.std.specs.Prelude.{◌≡◌, ◌++◌, IfOk, OnOk, length, replicate};
+//! A core that does the commands of a schedule, and the record of what happened.
+ghost use Rattle.std.specs.Prelude.{◌≡◌, IfOk, OnOk, replicate};
 ghost use Rattle.tko_model.specs.Ranges.{IsWithinRanges};
 ghost use Rattle.tko_runs.specs.Claims.{IsStory};
-ghost use Rattle.tko_runs.specs.Plays.{after_all, after_command, after_turn, enrolled, with_event};
+ghost use Rattle.tko_runs.specs.Plays.{after_all, after_command, after_turn, enrolled, story_of, with_event, with_notes};
 ghost use Rattle.tko_steps.specs.Runs.{Begin, Step};
 
 use crate::command::MAX_STEPS;
@@ -13,7 +13,7 @@ use std::marker::Model;
 use tko_model::{Op, OpenFault, Settings};
 use tko_steps::{Core, Stepped};
 
-/// The core, and what was told up to now. Contracts see what was `Played`.
+/// The core, and the events and notes so far. Contracts see a `Played`.
 #[derive(Drop)]
 pub(crate) struct Player {
     core: Core,
@@ -56,7 +56,7 @@ impl Player {
         Ok(player)
     }
 
-    /// Does what a line of a schedule says.
+    /// Does one line of a schedule.
     pub fn follow(&mut self, command: &Command) -> Result<(), AllocError>
         ensures { OnOk result (self.new ≡ after_command self.old command.now) }
     {
@@ -67,7 +67,7 @@ impl Player {
         }
     }
 
-    /// A begin that is refused leaves a remark.
+    /// Begins a call, or notes that the begin was refused.
     fn begin(&mut self, thread: usize, op: Op, server: usize) -> Result<(), AllocError>
         ensures { OnOk result (self.new ≡ after_turn self.old (Begin thread op server)) }
     {
@@ -85,8 +85,8 @@ impl Player {
         }
     }
 
-    /// So many steps of a thread. Once one does nothing, none of those that are left does, and one note
-    /// stands for them all.
+    /// So many steps of a thread. Once a step does nothing, neither does any later one, and one
+    /// note records them all.
     fn steps(&mut self, thread: usize, steps: u64) -> Result<(), AllocError>
         ensures { OnOk result (self.new ≡ after_all self.old (replicate steps (Step thread))) }
     {
@@ -136,11 +136,9 @@ impl Player {
         Ok(())
     }
 
-    /// A remark that stands so many times behind what was told.
+    /// Notes a remark so many times after the events so far.
     fn note(&mut self, remark: Remark, times: u64) -> Result<(), AllocError>
-        ensures { OnOk result (self.new ≡ record self.old {
-          notes = self.old.notes ++ replicate times (record { after = length self.old.events; remark = remark });
-        }) }
+        ensures { OnOk result (self.new ≡ with_notes self.old remark times) }
     {
         let noted = Noted {
             after: self.events.len(),
@@ -151,10 +149,10 @@ impl Player {
         Ok(())
     }
 
-    /// The run that was told.
+    /// The run of these events and notes.
     pub fn finish(self, settings: Settings) -> Run
-        requires { IsStory (record { settings = settings; events = self.events; notes = self.notes }) }
-        ensures { result ≡ record { settings = settings; events = self.events; notes = self.notes } }
+        requires { IsStory (story_of settings self) }
+        ensures { result ≡ story_of settings self }
     {
         Run::new(settings, self.events, self.notes)
     }

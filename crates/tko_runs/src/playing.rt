@@ -41,8 +41,8 @@ impl<T: Drop> From<AllocFailed<T>> for PlayFault {
     }
 }
 
-/// The run that a schedule names: all threads enrol, in the order of their places, and then each line is
-/// followed.
+/// The run that a schedule names: all threads enrol, in the order of their places, and then do each
+/// line.
 pub fn play(alloc: Global, schedule: &Schedule) -> Result<Run, PlayFault>
     ensures named { IfOk result (λ run. run ≡ named_by schedule.now) }
     // so that the law of every run speaks of it
@@ -52,7 +52,7 @@ pub fn play(alloc: Global, schedule: &Schedule) -> Result<Run, PlayFault>
     ensures answered { IfOk result (λ run. RunsToAnswers schedule.now) }
 {
     let player = all_followed(alloc, schedule)?;
-    // No code runs here: the law of every run says why this is a run, and a legal one.
+    // This runs no code. Its contract, the law of every run, shows that this is a legal run.
     every_run();
     Ok(player.finish(*schedule.settings()))
 }

@@ -13,8 +13,9 @@ use tko_model::{Op, Reply, append_number, append_reply, op_word};
 use tko_steps::{BeginFault, Kind, Place};
 
 impl Run {
-    /// The text of the run: a line for each event and each refused turn, then where each call stands in
-    /// this order, the servers as the run leaves them, the number of soft marks, and `ok`.
+    /// The text of the run: a line for each event and each remark, then where each call takes
+    /// effect by this order, the servers as the run leaves them, the number of soft marks, and
+    /// `ok`.
     pub fn print(&self, alloc: Global, order: &Order) -> Result<Vec<u8>, AllocError>
         ensures { IfOk result (λ text. text.items ≡ run_text self.now order.now) }
     {
@@ -30,10 +31,11 @@ impl Run {
     }
 }
 
-/// The events and the remarks between them. A note may stand there no time at all, and then the events
-/// before it belong to the next one.
+/// The events and the remarks between them. A note's count may be zero; the events before it are
+/// then printed with those before the next note.
 fn append_told(out: &mut Vec<u8>, events: &[Event], notes: &[Noted]) -> Result<(), AllocError>
-    ensures { OnOk result (out.new.items ≡ out.old.items ++ told_text 1 0 events.now (one_by_one notes.now)) }
+    ensures { OnOk result (out.new.items ≡
+        out.old.items ++ told_text 1 0 events.now (one_by_one notes.now)) }
 {
     let mut number = 1;
     let mut place = 0;
@@ -53,7 +55,8 @@ fn append_told(out: &mut Vec<u8>, events: &[Event], notes: &[Noted]) -> Result<(
 
 fn append_events(out: &mut Vec<u8>, number: &mut u64, events: &[Event]) -> Result<(), AllocError>
     requires { number.old + length events.now < 2 ^ 64 }
-    ensures text { OnOk result (out.new.items ≡ out.old.items ++ events_text number.old events.now) }
+    ensures text { OnOk result (out.new.items ≡
+        out.old.items ++ events_text number.old events.now) }
     ensures number { OnOk result (number.new ≡ number_behind number.old events.now) }
 {
     for event in events {
@@ -63,7 +66,7 @@ fn append_events(out: &mut Vec<u8>, number: &mut u64, events: &[Event]) -> Resul
     Ok(())
 }
 
-/// How many steps of calls an event is.
+/// The number of steps of calls that an event is.
 fn steps_of(event: &Event) -> u64
     ensures { result ≡ steps_of event.now }
 {
@@ -120,7 +123,8 @@ fn append_step(
     thread: usize,
     place: Place,
 ) -> Result<(), AllocError>
-    ensures { OnOk result (out.new.items ≡ out.old.items ++ step_text number thread Whole place None) }
+    ensures { OnOk result (out.new.items ≡
+        out.old.items ++ step_text number thread Whole place None) }
 {
     append_number(out, b"", number)?;
     append_number(out, b" ", thread as u64)?;

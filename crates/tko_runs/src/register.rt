@@ -1,4 +1,4 @@
-//! Where the threads of a claimed run stand.
+//! The threads of a claimed run, and which event can come next.
 ghost use Rattle.std.specs.Prelude.{◌≡◌, ◌↔◌, ◌<◌, ◌+◌, None, true, length, unwrap_or, IfOk};
 ghost use Rattle.tko_runs.specs.Claims.{CanCome, CountsUp, HasCall, IsEnrolment, IsIdle, IsPlace, opened_roll, roll_after, standing, stepped_roll, thread_of};
 ghost use Rattle.tko_steps.specs.Core.{number_of};
@@ -9,7 +9,7 @@ use std::marker::Model;
 use tko_model::{Op, Reply, Settings};
 use tko_steps::{Kind, Place, ThreadState, Word};
 
-/// Where each thread stands, and how many are enrolled, by what events claim. Contracts see a `Roll`.
+/// The state of each thread, and how many are enrolled, as events claim. Contracts see a `Roll`.
 #[derive(Drop)]
 pub(crate) struct Register {
     threads: Vec<ThreadState>,
@@ -61,7 +61,7 @@ impl Register {
         }
     }
 
-    /// Whether the thread is there and idle.
+    /// Whether there is such a thread and it is idle.
     fn has_idle(&self, thread: usize) -> bool
         ensures { (result ≡ true) ↔
             (thread < length self.now.threads) × IsIdle (standing self.now thread) }
@@ -69,7 +69,7 @@ impl Register {
         thread < self.threads.len() && matches!(self.threads[thread], ThreadState::Idle { .. })
     }
 
-    /// Whether the thread is there and has a call.
+    /// Whether there is such a thread and it has a call.
     fn has_call(&self, thread: usize) -> bool
         ensures { (result ≡ true) ↔
             (thread < length self.now.threads) × HasCall (standing self.now thread) }
@@ -77,10 +77,11 @@ impl Register {
         thread < self.threads.len() && matches!(self.threads[thread], ThreadState::InCall { .. })
     }
 
-    /// Whether the thread is there and isn't enrolled.
+    /// Whether there is such a thread and it isn't enrolled.
     fn awaits_enrolment(&self, thread: usize) -> bool
         ensures { (result ≡ true) ↔
-            (thread < length self.now.threads) × (standing self.now thread ≡ ThreadState.NotEnrolled) }
+            (thread < length self.now.threads)
+            × (standing self.now thread ≡ ThreadState.NotEnrolled) }
     {
         thread < self.threads.len() && matches!(self.threads[thread], ThreadState::NotEnrolled)
     }
@@ -156,7 +157,7 @@ impl Register {
         self.threads[thread] = ThreadState::Idle {
             number: self.enrolled,
         };
-        // What it leaves is one more, and a sum here might not fit.
+        // The word left is one more; adding 1 here might overflow.
         if let Word::Enrolled(count) = left {
             self.enrolled = count;
         }
@@ -173,7 +174,7 @@ impl Register {
     }
 }
 
-/// Whether the place is there.
+/// Whether there is such a place.
 fn is_place(settings: &Settings, place: Place) -> bool
     ensures { (result ≡ true) ↔ IsPlace settings.now place }
 {

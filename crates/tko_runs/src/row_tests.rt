@@ -1,4 +1,4 @@
-//! Runs that were worked out by hand, and what becomes of them where one word is changed.
+//! Runs that were worked out by hand, and the check of them with one event changed.
 
 use crate::{Event, Run, RunFault, Schedule, check, play};
 use std::alloc::Global;

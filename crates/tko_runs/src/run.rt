@@ -7,8 +7,8 @@ use crate::{Event, Remark};
 use std::marker::Model;
 use tko_model::Settings;
 
-/// What a run tells: events in order, and between them remarks on what was asked for and is no event.
-/// Contracts see a `Story`.
+/// Events in order, and between them remarks on what was asked for and did nothing. Contracts see a
+/// `Story`.
 #[derive(Debug, Drop)]
 pub struct Run {
     settings: Settings,
@@ -16,7 +16,7 @@ pub struct Run {
     notes: Vec<Noted>,
 }
 
-/// A remark that stands so many times behind so many events.
+/// A remark, how often it comes, and the number of events before it.
 #[derive(Clone, Copy, Debug)]
 pub(crate) struct Noted {
     pub after: usize,

@@ -9,11 +9,11 @@ use std::alloc::Global;
 use std::marker::Model;
 use tko_model::Settings;
 
-/// The most bytes that a schedule may have.
+/// The most bytes of a schedule.
 const MAX_BYTES: usize = 1_048_576;
 
-/// How a tracker is opened, and then what its threads do. Contracts see the settings, which are in their
-/// ranges, and the list of the commands.
+/// The settings of a tracker, and then what its threads do. Contracts see the settings, which are
+/// in their ranges, and the list of the commands.
 #[derive(Debug, Drop)]
 pub struct Schedule {
     settings: Settings,
@@ -27,7 +27,10 @@ impl Model for Schedule {
 
     ghost view = { λ s. record { settings = s.settings; commands = s.commands.items } };
 
-    ghost invariant = { λ s. IsPlan (record { settings = s.settings; commands = s.commands.items }) };
+    ghost invariant = { λ s. IsPlan (record {
+      settings = s.settings;
+      commands = s.commands.items;
+    }) };
 }
 
 impl Schedule {

@@ -1,4 +1,4 @@
-//! Texts and what they say, by hand.
+//! Texts of schedules, and what is read of them; worked out by hand.
 
 use crate::{Command, Schedule, ScheduleFault};
 use std::alloc::{AllocError, Global};
@@ -16,7 +16,7 @@ fn fault_of(alloc: Global, text: &[u8]) -> Option<ScheduleFault> {
     Schedule::read(alloc, text).err()
 }
 
-/// The fault of the header with this text behind it.
+/// The fault of the header followed by this text.
 fn fault_behind(alloc: Global, text: &[u8]) -> Result<Option<ScheduleFault>, AllocError> {
     let mut whole = Vec::from_slice(alloc, HEADER)?;
     whole.extend_from_slice(text)?;
@@ -81,7 +81,8 @@ fn settings_fault(
     stamp: &str,
 ) -> Result<Option<ScheduleFault>, AllocError> {
     let text = format!(in alloc;
-        "schedule 1\nservers {servers}\nthreads {threads}\nfailures 1\nlimit {limit}\ntries 3\nstamp {stamp}"
+        "schedule 1\nservers {servers}\nthreads {threads}\n\
+         failures 1\nlimit {limit}\ntries 3\nstamp {stamp}"
     )?;
     Ok(fault_of(alloc, text.as_bytes()))
 }

@@ -9,4 +9,4 @@ returns-in-Contended c = λ s of answer stands. c.contended.ensures s of (answer
 
 pub returns-in_default-reply : goal.returns-in_default-reply
 returns-in_default-reply c = λ s of answer stands.
-    c.answered.ensures s of c.in-Some.reply (answer ∙ c.in-Some.is) c.in_default-reply.not-Contended stands
+    c.answered.ensures c.in-Some.reply c.in_default-reply.not-Contended s of (answer ∙ c.in-Some.is) stands

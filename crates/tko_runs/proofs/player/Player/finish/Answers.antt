@@ -1,7 +1,6 @@
 use Rattle.std.proofs.Common.{subst, sym}
 use Rattle.tko_runs.specs.Claims.{IsStory}
-use Rattle.tko_runs.specs.Plays.{Played}
-use Rattle.tko_runs.proofs.PlayLemmas.{story_of}
+use Rattle.tko_runs.specs.Plays.{Played, story_of}
 use Rattle.tko_runs.proofs.player.Player.finish.Goals as goal
 
 pub new-requires : goal.new-requires
