@@ -3,10 +3,16 @@ use Rattle.std.proofs.Common.{◌≡◌, ℕ, ◌+◌, ◌<◌, ◌≤◌, ◌�
 use Rattle.std.specs.Prelude.{is_none, nat_lt}
 use Rattle.std.specs.List.{filter_map, position_or_len}
 use Rattle.std.proofs.lemmas.Bool.{cond-true, cond-false, lt-ltb, le-ltb}
+use Rattle.tko_bytes.specs.Lines.{lines_of}
 use Rattle.tko_runs.specs.declared.command.Command.{Command}
 use Rattle.tko_runs.specs.declared.fault.ScheduleFault.TheVariants as fault
 use Rattle.tko_runs.specs.Limits.{header_lines, max_commands}
 use Rattle.tko_runs.specs.Schedules.{bad_place, command_line, commands_of}
+
+pub lines_of-empty : (text : List ℕ) → length text ≡ 0 → lines_of text ≡ []
+unfolding lines_of
+lines_of-empty [] e = refl
+lines_of-empty (byte ∷ bytes) e = absurd (omega arith)
 
 -- the place of the first line that is no command
 pub place_of : List (List ℕ) → ℕ

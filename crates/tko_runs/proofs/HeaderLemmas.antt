@@ -8,10 +8,10 @@ use Rattle.tko_model.specs.Ranges.{first_broken, first_fault, is_within, worn}
 use Rattle.tko_runs.specs.declared.fault.ScheduleFault.{ScheduleFault}
 use Rattle.tko_runs.specs.declared.fault.ScheduleFault.TheVariants as fault
 use Rattle.tko_runs.specs.Headers.{HasHeaderLine, HasTitle, LacksHeaderLine, LacksTitle}
-use Rattle.tko_runs.specs.Lines.{lines_of}
+use Rattle.tko_bytes.specs.Lines.{lines_of}
 use Rattle.tko_runs.specs.Schedules.{header}
-use Rattle.tko_runs.specs.Words.{words_in}
-use Rattle.tko_runs.proofs.LineLemmas.{lines_of-empty}
+use Rattle.tko_bytes.specs.Fields.{fields_in}
+use Rattle.tko_runs.proofs.CommandLemmas.{lines_of-empty}
 
 -- what is above a range stays so, where it is narrowed to something above
 is_within-min : (low high n : ℕ) → low ≤ high → high < 4294967295 → is_within low high (min n 4294967295) ≡ is_within low high n
@@ -52,7 +52,7 @@ pub lacks_title-empty : (text : List ℕ) → length text ≡ 0 → LacksTitle t
 lacks_title-empty text e = record { bad = refl; form = rw (lines_of-empty text e) refl }
 
 pub lacks_header_line-empty : (line : ℕ) (name text : List ℕ) → length text ≡ 0 → LacksHeaderLine line name text (fault.Line line)
-unfolding words_in
+unfolding fields_in
 lacks_header_line-empty line name text e = record { bad = refl; form = rw (lines_of-empty text e) refl }
 
 -- The first line that is bad or missing.

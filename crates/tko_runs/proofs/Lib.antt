@@ -10,15 +10,11 @@ pub mod FaultLemmas
 pub mod HeaderLemmas
 pub mod JudgeLemmas
 pub mod KeptLemmas
-pub mod LineLemmas
 pub mod LinkLemmas
-pub mod NumberLemmas
 pub mod OrderLemmas
 pub mod PlayLemmas
 pub mod PlayStepLemmas
 pub mod PrintLemmas
 pub mod ScheduleLemmas
 pub mod SightLemmas
-pub mod SplitLemmas
 pub mod StandingLemmas
-pub mod WordLemmas

@@ -6,7 +6,7 @@ use Rattle.tko_model.specs.Ranges.{first_fault}
 use Rattle.tko_runs.specs.declared.command.Command.{Command}
 use Rattle.tko_runs.specs.declared.fault.ScheduleFault.{ScheduleFault}
 use Rattle.tko_runs.specs.declared.fault.ScheduleFault.TheVariants as fault
-use Rattle.tko_runs.specs.Lines.{lines_of}
+use Rattle.tko_bytes.specs.Lines.{lines_of}
 use Rattle.tko_runs.specs.Schedules.{commands_of, header, plan_behind, plan_in, plan_of, reads, TellsFault}
 
 pub reads-long : (text : List ℕ) → 1048576 < length text → reads text ≡ Err (fault.Line 0)

@@ -2,7 +2,7 @@
 use Rattle.std.specs.Prelude.{◌≡◌, ℕ, List, ◌∷◌, Some, None}
 use Rattle.tko_runs.specs.declared.fault.ScheduleFault.{ScheduleFault}
 use Rattle.tko_runs.specs.declared.fault.ScheduleFault.TheVariants as fault
-use Rattle.tko_runs.specs.Lines.{lines_of}
+use Rattle.tko_bytes.specs.Lines.{lines_of}
 use Rattle.tko_runs.specs.Schedules.{header_number, line_at, title_of}
 
 -- the text begins with the title, and this is the rest

@@ -2,8 +2,6 @@ pub mod Claims
 pub mod Dockets
 pub mod Headers
 pub mod Limits
-pub mod Lines
-pub mod Numbers
 pub mod Orders
 pub mod Plays
 pub mod Prints
@@ -12,4 +10,3 @@ pub mod Schedules
 pub mod Sights
 pub mod Standings
 pub mod Stories
-pub mod Words

@@ -13,6 +13,10 @@ header_lines = 7
 abbrev pub max_commands : ℕ
 max_commands = 1000
 
+-- the greatest number
+abbrev pub max_number : ℕ
+max_number = 18446744073709551615
+
 -- the most steps that one line asks for
 abbrev pub max_steps : ℕ
 max_steps = 5000

@@ -13,11 +13,11 @@ use Rattle.tko_runs.specs.declared.command.Command.{Command}
 use Rattle.tko_runs.specs.declared.command.Command.TheVariants.{Begin, Step, Run}
 use Rattle.tko_runs.specs.declared.fault.ScheduleFault.{ScheduleFault}
 use Rattle.tko_runs.specs.declared.fault.ScheduleFault.TheVariants as fault
-use Rattle.tko_runs.specs.Limits.{header_lines, max_bytes, max_commands, max_steps}
-use Rattle.tko_runs.specs.Lines.{lines_of}
-use Rattle.tko_runs.specs.Numbers.{number_of}
+use Rattle.tko_runs.specs.Limits.{header_lines, max_bytes, max_commands, max_number, max_steps}
+use Rattle.tko_bytes.specs.Lines.{lines_of}
+use Rattle.tko_bytes.specs.Numbers.{number_of}
 use Rattle.tko_model.specs.Texts.{op_text}
-use Rattle.tko_runs.specs.Words.{words_of}
+use Rattle.tko_bytes.specs.Fields.{fields_of}
 
 -- what a schedule says: the settings of the tracker, and the commands in order
 pub record Plan : Type 0 where
@@ -30,6 +30,10 @@ pub record IsPlan (plan : Plan) : Type 0 where
   pub few : length plan.commands ≤ max_commands
 
 -- The forms of lines.
+
+-- the number that a word writes
+abbrev pub value_of : List ℕ → Option ℕ
+value_of word = number_of max_number word
 
 -- the operation of that word
 abbrev pub op_of : List ℕ → Option Op
@@ -46,9 +50,9 @@ begin_of (thread ∷ op ∷ []) = None
 begin_of (thread ∷ op ∷ server ∷ []) =
     option_and_then
     (λ thread. option_and_then
-    (λ op. option_map (λ server. Begin thread op server) (number_of server))
+    (λ op. option_map (λ server. Begin thread op server) (value_of server))
     (op_of op))
-    (number_of thread)
+    (value_of thread)
 begin_of (thread ∷ op ∷ server ∷ other ∷ others) = None
 
 -- a number of steps that one line may ask for
@@ -56,7 +60,7 @@ abbrev pub steps_of : List ℕ → Option ℕ
 steps_of word =
     option_and_then
     (λ steps. if is_within 1 max_steps steps then Some steps else None)
-    (number_of word)
+    (value_of word)
 
 -- `step <thread> <n>`, after its first word
 abbrev pub step_of : List (List ℕ) → Option Command
@@ -65,13 +69,13 @@ step_of (thread ∷ []) = None
 step_of (thread ∷ steps ∷ []) =
     option_and_then
     (λ thread. option_map (λ steps. Step thread steps) (steps_of steps))
-    (number_of thread)
+    (value_of thread)
 step_of (thread ∷ steps ∷ other ∷ others) = None
 
 -- `run <thread>`, after its first word
 abbrev pub run_of : List (List ℕ) → Option Command
 run_of [] = None
-run_of (thread ∷ []) = option_map (λ thread. Run thread) (number_of thread)
+run_of (thread ∷ []) = option_map (λ thread. Run thread) (value_of thread)
 run_of (thread ∷ other ∷ others) = None
 
 -- the command of a line with these words
@@ -84,7 +88,7 @@ command_of (name ∷ others) =
 
 -- the command that a line is
 abbrev pub command_line : List ℕ → Option Command
-command_line line = command_of (words_of line)
+command_line line = command_of (fields_of line)
 
 -- The header.
 
@@ -92,11 +96,11 @@ command_line line = command_of (words_of line)
 abbrev pub numbered : List ℕ → List (List ℕ) → Option ℕ
 numbered name [] = None
 numbered name (word ∷ []) = None
-numbered name (word ∷ number ∷ []) = if bytes_eq word name then number_of number else None
+numbered name (word ∷ number ∷ []) = if bytes_eq word name then value_of number else None
 numbered name (word ∷ number ∷ other ∷ others) = None
 
 abbrev pub header_number : List ℕ → List ℕ → Option ℕ
-header_number name line = numbered name (words_of line)
+header_number name line = numbered name (fields_of line)
 
 -- a missing line reads as an empty one, which has no form
 abbrev pub line_at : List (List ℕ) → ℕ → List ℕ

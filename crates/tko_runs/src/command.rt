@@ -2,8 +2,7 @@
 ghost use Rattle.std.specs.Prelude.{◌≡◌};
 ghost use Rattle.tko_runs.specs.Schedules.{begin_of, command_line, op_of, run_of, step_of, steps_of};
 
-use crate::number::number;
-use crate::words::Words;
+use tko_bytes::{Fields, number};
 use tko_model::{Op, op_word};
 
 /// The most steps that one line asks for. No call takes more.
@@ -34,14 +33,14 @@ impl Command {
     pub(crate) fn of_line(line: &[u8]) -> Option<Command>
         ensures { result ≡ command_line line.now }
     {
-        let mut words = Words::of(line);
-        let name = words.next()?;
+        let mut fields = Fields::of(line);
+        let name = fields.next()?;
         if name == b"begin".as_slice() {
-            begin(words)
+            begin(fields)
         } else if name == b"step".as_slice() {
-            step(words)
+            step(fields)
         } else if name == b"run".as_slice() {
-            run(words)
+            run(fields)
         } else {
             None
         }
@@ -49,44 +48,44 @@ impl Command {
 }
 
 /// `begin <thread> <op> <server>`, after its first word.
-fn begin(mut words: Words) -> Option<Command>
-    ensures { result ≡ begin_of words.entry }
+fn begin(mut fields: Fields) -> Option<Command>
+    ensures { result ≡ begin_of fields.entry }
 {
-    let (thread, op, server) = (words.next()?, words.next()?, words.next()?);
-    if words.next().is_some() {
+    let (thread, op, server) = (fields.next()?, fields.next()?, fields.next()?);
+    if fields.next().is_some() {
         return None;
     }
     Some(Command::Begin {
-        thread: number(thread)? as usize,
+        thread: number(thread, u64::MAX)? as usize,
         op: op_of(op)?,
-        server: number(server)? as usize,
+        server: number(server, u64::MAX)? as usize,
     })
 }
 
 /// `step <thread> <n>`, after its first word.
-fn step(mut words: Words) -> Option<Command>
-    ensures { result ≡ step_of words.entry }
+fn step(mut fields: Fields) -> Option<Command>
+    ensures { result ≡ step_of fields.entry }
 {
-    let (thread, steps) = (words.next()?, words.next()?);
-    if words.next().is_some() {
+    let (thread, steps) = (fields.next()?, fields.next()?);
+    if fields.next().is_some() {
         return None;
     }
     Some(Command::Step {
-        thread: number(thread)? as usize,
+        thread: number(thread, u64::MAX)? as usize,
         steps: steps_of(steps)?,
     })
 }
 
 /// `run <thread>`, after its first word.
-fn run(mut words: Words) -> Option<Command>
-    ensures { result ≡ run_of words.entry }
+fn run(mut fields: Fields) -> Option<Command>
+    ensures { result ≡ run_of fields.entry }
 {
-    let thread = words.next()?;
-    if words.next().is_some() {
+    let thread = fields.next()?;
+    if fields.next().is_some() {
         return None;
     }
     Some(Command::Run {
-        thread: number(thread)? as usize,
+        thread: number(thread, u64::MAX)? as usize,
     })
 }
 
@@ -111,7 +110,7 @@ fn op_of(word: &[u8]) -> Option<Op>
 fn steps_of(word: &[u8]) -> Option<u64>
     ensures { result ≡ steps_of word.now }
 {
-    let steps = number(word)?;
+    let steps = number(word, u64::MAX)?;
     if steps == 0 || steps > MAX_STEPS {
         return None;
     }

@@ -1,12 +1,12 @@
 //! The lines of a schedule after its header.
 ghost use Rattle.std.specs.Prelude.{◌≡◌, ◌+◌, ◌<◌, ◌≤◌, ◌⊎◌, Ok, Err, Some, None, length, IfOk, IfErr};
 ghost use Rattle.tko_runs.specs.Limits.{header_lines, max_commands};
-ghost use Rattle.tko_runs.specs.Lines.{lines_of};
+ghost use Rattle.tko_bytes.specs.Lines.{lines_of};
 ghost use Rattle.tko_runs.specs.Schedules.{command_line, commands_of};
 
-use crate::lines::first_line;
 use crate::{Command, ScheduleFault};
 use std::alloc::Global;
+use tko_bytes::first_line;
 
 /// The most lines after the header.
 const MAX_COMMANDS: usize = 1_000;

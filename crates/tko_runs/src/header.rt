@@ -3,14 +3,12 @@ ghost use Rattle.std.specs.Prelude.{◌≡◌, Ok, Err, Some, None, drop, min, I
 ghost use Rattle.tko_model.specs.Ranges.{IsWithinRanges, first_fault};
 ghost use Rattle.tko_runs.specs.Headers.{HasHeaderLine, HasTitle, LacksHeaderLine, LacksTitle};
 ghost use Rattle.tko_runs.specs.Limits.{header_lines};
-ghost use Rattle.tko_runs.specs.Lines.{lines_of};
+ghost use Rattle.tko_bytes.specs.Lines.{lines_of};
 ghost use Rattle.tko_runs.specs.Schedules.{header, header_number};
 
 use crate::ScheduleFault;
-use crate::lines::first_line;
-use crate::number::number;
-use crate::words::Words;
 use std::marker::Model;
+use tko_bytes::{Fields, first_line, number};
 use tko_model::{Settings, SettingsFault};
 
 /// The numbers of the header lines. Contracts see settings with these numbers, however large.
@@ -127,10 +125,10 @@ fn header_line<'a>(line: u32, name: &[u8], text: &'a [u8]) -> Result<(u64, &'a [
 fn header_number(name: &[u8], line: &[u8]) -> Option<u64>
     ensures { result ≡ header_number name.now line.now }
 {
-    let mut words = Words::of(line);
-    let (word, value) = (words.next()?, words.next()?);
-    if words.next().is_some() || word != name {
+    let mut fields = Fields::of(line);
+    let (word, value) = (fields.next()?, fields.next()?);
+    if fields.next().is_some() || word != name {
         return None;
     }
-    number(value)
+    number(value, u64::MAX)
 }

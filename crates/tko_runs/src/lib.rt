@@ -23,8 +23,6 @@ mod event;
 mod fault;
 mod header;
 mod judging;
-mod lines;
-mod number;
 mod order;
 mod player;
 mod playing;
@@ -33,7 +31,6 @@ mod register;
 mod run;
 mod schedule;
 mod sighting;
-mod words;
 
 pub use checking::{RunFault, check};
 pub use claim::ClaimFault;

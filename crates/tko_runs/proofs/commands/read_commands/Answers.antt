@@ -1,7 +1,6 @@
 use Rattle.std.proofs.Common.{rules, ◌≡◌, inr, length, arith}
 use Rattle.std.proofs.lemmas.Result.{err_from_is_err_and}
-use Rattle.tko_runs.proofs.CommandLemmas.{has_read-all, has_read-bad, has_read-more}
-use Rattle.tko_runs.proofs.LineLemmas.{lines_of-empty}
+use Rattle.tko_runs.proofs.CommandLemmas.{has_read-all, has_read-bad, has_read-more, lines_of-empty}
 use Rattle.tko_runs.proofs.commands.read_commands.Goals as goal
 
 pub returns-in_err-command-clause-err : goal.returns-in_err-command-clause-err

@@ -1,5 +1,5 @@
 use Rattle.std.proofs.Common.{length}
-use Rattle.tko_runs.specs.Lines.{lines_of}
+use Rattle.tko_bytes.specs.Lines.{lines_of}
 use Rattle.tko_runs.proofs.CommandLemmas.{HasRead}
 use Rattle.tko_runs.proofs.commands.read_commands.Given as goal
 
