@@ -7,11 +7,11 @@ use Rattle.std.specs.List.{list_all}
 use Rattle.std.specs.Prelude.{nat_le}
 use Rattle.std.specs.Str.{IsUtf8}
 use Rattle.std.specs.Str.Parse.{digits_value}
-use Rattle.std.proofs.lemmas.Bool.{cond-true, cond-false, lt-ltb, le-leb, lt-leb, cases_lt}
+use Rattle.std.proofs.lemmas.Bool.{and_parts, cond-true, cond-false, lt-ltb, leb-true, le-leb, lt-leb, cases_lt}
 use Rattle.std.proofs.lemmas.Fmt.{IsAscii-from_digits, decimal_is_IsNumeral}
 use Rattle.std.proofs.lemmas.Str.{IsUtf8-from_ascii}
 use Rattle.std.proofs.lemmas.Str.Parse.{IsNumeralModel, numerals_by_value}
-use Rattle.tko_bytes.specs.Numbers.{number_of}
+use Rattle.tko_bytes.specs.Numbers.{is_decimal, number_of}
 
 -- these are words of digits
 abbrev pub AreDigits : List ℕ → Type 0
@@ -75,6 +75,19 @@ number_read most word value digits some is = elim (cases_lt most value) [
       ap (λ b. then_some b value) (le-leb value most within) ∙ ap (λ n. Some n) is
       ∙ sym (number_of-within most word digits some (omega arith))
 ]
+
+-- a number that is read is at most what it may be
+pub number_of-le : (most : ℕ) (word : List ℕ) (n : ℕ) → number_of most word ≡ Some n → n ≤ most
+unfolding number_of
+number_of-le most word n is = by_test (is_decimal word && nat_le (digits_value 10 word) most) refl is
+  where
+    by_test : (t : Bool) → is_decimal word && nat_le (digits_value 10 word) most ≡ t
+        → cond t (Some (digits_value 10 word)) None ≡ Some n → n ≤ most
+    by_test true test e =
+        let same : digits_value 10 word ≡ n = cc in
+        let parts = and_parts (is_decimal word) (nat_le (digits_value 10 word) most) test in
+        omega (arith, leb-true _ most parts.1)
+    by_test false test e = absurd (cc)
 
 -- a printed number is read as that number
 pub number_of-decimal : (most n : ℕ) → n < 2 ^ 64 → n ≤ most → number_of most (decimal n) ≡ Some n

@@ -1,5 +1,5 @@
 //! Decimal numbers.
-ghost use Rattle.std.specs.Prelude.{◌≡◌};
+ghost use Rattle.std.specs.Prelude.{◌≡◌, ◌≤◌, IfSome};
 ghost use Rattle.std.specs.Char.{is_ascii_digit};
 ghost use Rattle.std.specs.List.{list_all};
 ghost use Rattle.tko_bytes.specs.Numbers.{number_of};
@@ -7,7 +7,8 @@ ghost use Rattle.tko_bytes.specs.Numbers.{number_of};
 /// The number that a word writes: decimal digits, any number of leading zeros, and no sign.
 /// `None` where the word is no number, or a greater one than `most`.
 pub fn number(word: &[u8], most: u64) -> Option<u64>
-    ensures { result ≡ number_of most word.now }
+    ensures value { result ≡ number_of most word.now }
+    ensures within { IfSome result (λ n. n ≤ most) }
 {
     if !is_digits(word) {
         return None;

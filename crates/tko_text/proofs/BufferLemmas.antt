@@ -3,7 +3,7 @@ use Rattle.std.proofs.Common.{◌≡◌, ℕ, ◌+◌, ◌-◌, ◌<◌, ◌≤�
 use Rattle.std.proofs.lemmas.Bool.{cases_lt}
 use Rattle.std.proofs.lemmas.List.{take_rest, get_or-drop}
 use Rattle.memchr.specs.Find.{IsFirstByte, is_byte}
-use Rattle.tko_text.specs.Lines.{line_feed}
+use Rattle.tko_bytes.specs.Lines.{line_feed}
 use Rattle.tko_text.specs.Buffers.{IsSearched}
 
 -- what is left to search

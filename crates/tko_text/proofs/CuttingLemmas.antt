@@ -1,4 +1,4 @@
--- Bytes that come later change nothing of what is told, and what bytes tell is told in one way.
+-- Bytes that come later change nothing of what is emitted, and what bytes tell is emitted in one way.
 use Rattle.std.proofs.Common.{◌≡◌, ℕ, ◌+◌, ◌-◌, ◌<◌, ◌≤◌, ◌≢◌, true, false, cond, eqb, List, [], ◌∷◌, ◌++◌, length, get_or, drop, refl, ap, sym, ◌∙◌, subst, inl, inr, arith, append_assoc, length-append, drop-drop, drop_at, le-leb}
 use Rattle.std.proofs.lemmas.Bool.{cond-true, cond-false, lt-leb, cases_lt}
 use Rattle.std.proofs.lemmas.List.{append_cancel_left, drop-append-le, get_or_append_left, get_or_at}
@@ -7,10 +7,11 @@ use Rattle.tko_text.specs.declared.item.Item.{Item}
 use Rattle.tko_text.specs.declared.item.Item.TheVariants as item
 use Rattle.tko_text.specs.declared.request.Request.{Request}
 use Rattle.tko_text.specs.declared.request.Request.TheVariants as request
-use Rattle.tko_text.specs.Commands.{Said, Asks, Wants, Refused, said}
-use Rattle.tko_text.specs.Lines.{line_feed, carriage_return, crlf, HasNoEnd, IsLine, IsTooLong, content}
+use Rattle.tko_text.specs.Commands.{ParsedLine, Asks, AwaitsData, Refused, parsed}
+use Rattle.tko_bytes.specs.Lines.{line_feed, carriage_return, crlf, HasNoEnd, content}
+use Rattle.tko_text.specs.Lines.{IsLine, IsTooLong}
 use Rattle.tko_text.specs.Requests.{command_of}
-use Rattle.tko_text.specs.Reading.{After, Next, Pass, PassLine, Never, Reading, after_wrong, IsWrongEnd, Completes, Decides, by_line, by_length, passed, fed, start, Tells, IsOpen, TellsEach, FeedingKeeps, OneReading}
+use Rattle.tko_text.specs.Reading.{After, Next, Pass, PassLine, Never, Reading, after_wrong, IsWrongEnd, Completes, Decides, by_line, by_length, passed, fed, start, Emits, NeedsMore, EmitsEach, FeedingKeeps, OneReading}
 
 passed-enough : (n : ℕ) (xs : List ℕ) → n ≤ length xs
     → passed (Pass n) xs ≡ record { after = Next; unread = drop n xs }
@@ -70,10 +71,10 @@ fed-fed from xs ys =
     ∙ ap (λ bytes. passed from.after bytes) (append_assoc from.unread xs ys)
 
 -- feeding commutes with telling
-pub Tells-fed : (from : Reading) (told : Item) (to : Reading) (piece : List ℕ)
-    → Tells from told to → Tells (fed from piece) told (fed to piece)
-unfolding Tells
-Tells-fed from told to piece (text, left, after, is, decides, goes) = (
+pub Emits-fed : (from : Reading) (emitted : Item) (to : Reading) (piece : List ℕ)
+    → Emits from emitted to → Emits (fed from piece) emitted (fed to piece)
+unfolding Emits
+Emits-fed from emitted to piece (text, left, after, is, decides, goes) = (
   text,
   left ++ piece,
   after,
@@ -143,7 +144,7 @@ same_wrong_end (c ∷ k ∷ []) (d ∷ f ∷ g ∷ more) x y a b v w e = absurd 
 same_wrong_end (c ∷ k ∷ l ∷ more) q x y a b v w e = absurd v
 
 -- what completes a line does so in one way
-same_completion : (s : Said) (p q x y : List ℕ) (i j : Item) (a b : After)
+same_completion : (s : ParsedLine) (p q x y : List ℕ) (i j : Item) (a b : After)
     → Completes s p i a → Completes s q j b → p ++ x ≡ q ++ y → (p ≡ q) × (i ≡ j) × (a ≡ b)
 same_completion (Asks c) p q x y (item.Request r) (item.Request t) a b v w e =
     (v.0 ∙ sym w.0, ap (λ k. item.Request k) (same_request r t (v.1 ∙ sym w.1)), v.2 ∙ sym w.2)
@@ -153,22 +154,22 @@ same_completion (Refused f n) p q x y (item.Fault g) (item.Fault h) a b v w e =
     (v.0 ∙ sym w.0, ap (λ k. item.Fault k) (v.1 ∙ sym w.1), v.2 ∙ sym w.2)
 same_completion (Refused f n) p q x y (item.Fault g) (item.Request t) a b v w e = absurd w
 same_completion (Refused f n) p q x y (item.Request r) j a b v w e = absurd v
-same_completion (Wants n c) p q x y (item.Request r) (item.Request t) a b (m, ml, mp, mr, ma) (k, kl, kq, kr, ka) e =
+same_completion (AwaitsData n c) p q x y (item.Request r) (item.Request t) a b (m, ml, mp, mr, ma) (k, kl, kq, kr, ka) e =
     let value = same_front m k (crlf ++ x) (crlf ++ y) (ml ∙ sym kl)
     (sym (append_assoc m crlf x) ∙ ap (λ z. z ++ x) (sym mp) ∙ e ∙ ap (λ z. z ++ y) kq ∙ append_assoc k crlf y) in (
       mp ∙ ap (λ z. z ++ crlf) value.0 ∙ sym kq,
       ap (λ z. item.Request z) (same_request r t (mr ∙ ap c value.0 ∙ sym kr)),
       ma ∙ sym ka,
     )
-same_completion (Wants n c) p q x y (item.Request r) (item.Fault g) a b (m, ml, mp, mr, ma) (k, end, kl, kq, kw, kg) e =
+same_completion (AwaitsData n c) p q x y (item.Request r) (item.Fault g) a b (m, ml, mp, mr, ma) (k, end, kl, kq, kw, kg) e =
     let value = same_front m k (crlf ++ x) (end ++ y) (ml ∙ sym kl)
     (sym (append_assoc m crlf x) ∙ ap (λ z. z ++ x) (sym mp) ∙ e ∙ ap (λ z. z ++ y) kq ∙ append_assoc k end y) in
     absurd (wrong_end end x y b kw value.1)
-same_completion (Wants n c) p q x y (item.Fault g) (item.Request t) a b (k, end, kl, kq, kw, kg) (m, ml, mp, mr, ma) e =
+same_completion (AwaitsData n c) p q x y (item.Fault g) (item.Request t) a b (k, end, kl, kq, kw, kg) (m, ml, mp, mr, ma) e =
     let value = same_front m k (crlf ++ y) (end ++ x) (ml ∙ sym kl)
     (sym (append_assoc m crlf y) ∙ ap (λ z. z ++ y) (sym mp) ∙ sym e ∙ ap (λ z. z ++ x) kq ∙ append_assoc k end x) in
     absurd (wrong_end end y x a kw value.1)
-same_completion (Wants n c) p q x y (item.Fault g) (item.Fault h) a b (m, low, ml, mp, mw, mg) (k, end, kl, kq, kw, kh) e =
+same_completion (AwaitsData n c) p q x y (item.Fault g) (item.Fault h) a b (m, low, ml, mp, mw, mg) (k, end, kl, kq, kw, kh) e =
     let value = same_front m k (low ++ x) (end ++ y) (ml ∙ sym kl)
     (sym (append_assoc m low x) ∙ ap (λ z. z ++ x) (sym mp) ∙ e ∙ ap (λ z. z ++ y) kq ∙ append_assoc k end y) in
     let ends = same_wrong_end low end x y a b mw kw value.1 in
@@ -181,8 +182,8 @@ same_decision p q x y i j a b (by_line v m vl vp vc) (by_line w n wl wq wc) e =
     let lines = same_line v w (m ++ x) (n ++ y) vl.unended wl.unended
     (sym (append_assoc v (line_feed ∷ m) x) ∙ ap (λ z. z ++ x) (sym vp) ∙ e
     ∙ ap (λ z. z ++ y) wq ∙ append_assoc w (line_feed ∷ n) y) in
-    let here : Completes (said (content w)) m i a = subst (λ z. Completes (said (content z)) m i a) lines.0 vc in
-    let behind = same_completion (said (content w)) m n x y i j a b here wc lines.1 in
+    let here : Completes (parsed (content w)) m i a = subst (λ z. Completes (parsed (content z)) m i a) lines.0 vc in
+    let behind = same_completion (parsed (content w)) m n x y i j a b here wc lines.1 in
     (vp ∙ ap (λ z. z ++ line_feed ∷ m) lines.0 ∙ ap (λ z. w ++ line_feed ∷ z) behind.0 ∙ sym wq, behind.1, behind.2)
 same_decision p q x y i j a b (by_line v m vl vp vc) (by_length long wi wa) e =
     absurd (line_is_short v q (m ++ x) y vl long
@@ -193,10 +194,10 @@ same_decision p q x y i j a b (by_length long vi va) (by_line w n wl wq wc) e =
 same_decision p q x y i j a b (by_length v vi va) (by_length w wi wa) e =
     ((same_front p q x y (v.beyond ∙ sym w.beyond) e).0, vi ∙ sym wi, va ∙ sym wa)
 
--- from one place one item is told
-pub same_item : (from : Reading) (i j : Item) (to on : Reading) → Tells from i to → Tells from j on
+-- from one place one item is emitted
+pub same_item : (from : Reading) (i j : Item) (to on : Reading) → Emits from i to → Emits from j on
     → (i ≡ j) × (to ≡ on)
-unfolding Tells
+unfolding Emits
 same_item from i j to on (p, x, a, pi, pd, pt) (q, y, b, qi, qd, qt) =
     let e : p ++ x ≡ q ++ y = ap (λ (r : Reading). r.unread) (sym pi ∙ qi) in
     let same = same_decision p q x y i j a b pd qd e in
@@ -204,21 +205,21 @@ same_item from i j to on (p, x, a, pi, pd, pt) (q, y, b, qi, qd, qt) =
     (same.1, pt ∙ ap (λ z. passed z x) same.2 ∙ ap (λ z. passed b z) left ∙ sym qt)
 
 same_items : (from : Reading) (items others : List Item) (to on : Reading)
-    → TellsEach from items to → IsOpen to → TellsEach from others on → IsOpen on
+    → EmitsEach from items to → NeedsMore to → EmitsEach from others on → NeedsMore on
     → (items ≡ others) × (to ≡ on)
-unfolding IsOpen
+unfolding NeedsMore
 same_items from [] [] to on v vo w wo = (refl, v ∙ sym w)
-same_items from [] (j ∷ others) to on v vo (mid, told, w) wo =
-    absurd (vo j mid (subst (λ r. Tells r j mid) (sym v) told))
-same_items from (i ∷ items) [] to on (mid, told, v) vo w wo =
-    absurd (wo i mid (subst (λ r. Tells r i mid) (sym w) told))
-same_items from (i ∷ items) (j ∷ others) to on (mid, told, v) vo (way, also, w) wo =
-    let first = same_item from i j mid way told also in
-    let rest = same_items way items others to on (subst (λ r. TellsEach r items to) first.1 v) vo w wo in
+same_items from [] (j ∷ others) to on v vo (mid, emitted, w) wo =
+    absurd (vo j mid (subst (λ r. Emits r j mid) (sym v) emitted))
+same_items from (i ∷ items) [] to on (mid, emitted, v) vo w wo =
+    absurd (wo i mid (subst (λ r. Emits r i mid) (sym w) emitted))
+same_items from (i ∷ items) (j ∷ others) to on (mid, emitted, v) vo (way, also, w) wo =
+    let first = same_item from i j mid way emitted also in
+    let rest = same_items way items others to on (subst (λ r. EmitsEach r items to) first.1 v) vo w wo in
     (ap (λ z. z ∷ items) first.0 ∙ ap (λ z. j ∷ z) rest.0, rest.1)
 
 pub feeding_keeps : FeedingKeeps
-feeding_keeps = Tells-fed
+feeding_keeps = Emits-fed
 
 pub one_reading : OneReading
 one_reading bytes items others left rest v w =

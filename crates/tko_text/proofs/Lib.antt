@@ -4,12 +4,10 @@ pub mod CommandLemmas
 pub mod CuttingLemmas
 pub mod GivesLemmas
 pub mod KeyLemmas
-pub mod LineLemmas
 pub mod PrintLemmas
 pub mod ReadingLemmas
 pub mod ResponseLaws
 pub mod ResponseLemmas
 pub mod ResponseLineLemmas
-pub mod ResponseNumberLemmas
 pub mod ResponseTextLemmas
-pub mod WordLemmas
+pub mod ResponseWriteLemmas

@@ -1,17 +1,19 @@
 -- The printed form of a request is read as that request.
-use Rattle.std.proofs.Common.{◌≡◌, ℕ, ◌≢◌, List, [], ◌∷◌, ◌++◌, length, drop, codes, refl, ap, sym, ◌∙◌, subst, arith, append_assoc, length-append, take_all}
-use Rattle.std.proofs.lemmas.List.{drop_all}
+use Rattle.std.proofs.Common.{◌≡◌, ℕ, ◌≢◌, ◌-◌, eq-eqb, List, [], ◌∷◌, ◌++◌, length, drop, codes, refl, ap, sym, ◌∙◌, subst, arith, append_assoc, length-append, take_all}
+use Rattle.std.proofs.lemmas.Bool.{cond-true}
+use Rattle.std.proofs.lemmas.List.{drop_all, get_or_at, take_at}
 use Rattle.std.proofs.lemmas.List.Elements.{All-append, All-cons, All-nil, All-weaker}
 use Rattle.tko_text.specs.declared.item.Item.TheVariants as item
 use Rattle.tko_text.specs.declared.request.Request.TheVariants as request
-use Rattle.tko_text.specs.Commands.{Asks, Next, said, words_said}
+use Rattle.tko_text.specs.Commands.{Asks, Next, parsed, parsed_words}
 use Rattle.tko_text.specs.Keys.{IsKey, IsKeyByte}
-use Rattle.tko_text.specs.Lines.{line_feed, carriage_return, HasNoEnd, IsLine, content}
-use Rattle.tko_text.specs.Reading.{by_line, Completes, Tells, PrintedIsRead}
+use Rattle.tko_bytes.specs.Lines.{line_feed, carriage_return, HasNoEnd, content}
+use Rattle.tko_text.specs.Lines.{IsLine}
+use Rattle.tko_text.specs.Reading.{by_line, Completes, Emits, ReadAgain}
 use Rattle.tko_text.specs.Requests.{Get, printed}
-use Rattle.tko_text.specs.Words.{space, words}
-use Rattle.tko_text.proofs.CommandLemmas.{words_said-get, keys_said-key}
-use Rattle.tko_text.proofs.WordLemmas.{words-run}
+use Rattle.tko_bytes.specs.Words.{space, words}
+use Rattle.tko_text.proofs.CommandLemmas.{parsed_words-get, parsed_keys-key}
+use Rattle.tko_bytes.proofs.WordLemmas.{words-run}
 
 -- what the printed line of a key holds
 abbrev get_line : List ℕ → List ℕ
@@ -26,9 +28,10 @@ words-get key is =
     ∙ ap (λ w. key ∷ words w) (drop_all (length key) key (omega arith)))
 
 content-push_cr : (bytes : List ℕ) → content (bytes ++ carriage_return ∷ []) ≡ bytes
-content-push_cr [] = refl
-content-push_cr (b ∷ []) = refl
-content-push_cr (b ∷ c ∷ bytes) = ap (λ xs. b ∷ xs) (content-push_cr (c ∷ bytes))
+content-push_cr bytes =
+    let size : length (bytes ++ carriage_return ∷ []) - 1 ≡ length bytes = simp length-append (omega arith) in
+    cond-true _ _ _ (eq-eqb _ carriage_return (get_or_at bytes carriage_return [] 0 _ (sym size)))
+    ∙ take_at bytes (carriage_return ∷ []) _ (sym size)
 
 unended_key : (key : List ℕ) → IsKey key → HasNoEnd (key ++ carriage_return ∷ [])
 unended_key key is =
@@ -51,22 +54,22 @@ IsLine-get key is = record {
   within = omega (arith, length-append key (carriage_return ∷ []), is.few);
 }
 
-said-get : (key : List ℕ) → IsKey key
-    → said (content (get_line key ++ carriage_return ∷ [])) ≡ Asks (Get (key ∷ []))
-said-get key is =
-    ap said (content-push_cr (get_line key)) ∙ ap words_said (words-get key is)
-    ∙ words_said-get (codes "get") (key ∷ []) refl ∙ keys_said-key key is
+parsed-get : (key : List ℕ) → IsKey key
+    → parsed (content (get_line key ++ carriage_return ∷ [])) ≡ Asks (Get (key ∷ []))
+parsed-get key is =
+    ap parsed (content-push_cr (get_line key)) ∙ ap parsed_words (words-get key is)
+    ∙ parsed_words-get (codes "get") (key ∷ []) refl ∙ parsed_keys-key key is
 
-pub printed_is_read : PrintedIsRead
-unfolding Tells printed
-printed_is_read (request.Get key) more is = (
+pub read_again : ReadAgain
+unfolding Emits printed
+read_again (request.Get key) more is = (
   get_line key ++ carriage_return ∷ line_feed ∷ [],
   more,
   Next,
   refl,
   by_line (get_line key ++ carriage_return ∷ []) [] (IsLine-get key is)
       (sym (append_assoc (get_line key) (carriage_return ∷ []) (line_feed ∷ [])))
-      (subst (λ s. Completes s [] (item.Request (request.Get key)) Next) (sym (said-get key is))
+      (subst (λ s. Completes s [] (item.Request (request.Get key)) Next) (sym (parsed-get key is))
       (refl, refl, refl)),
   refl,
 )

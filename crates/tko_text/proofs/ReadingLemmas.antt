@@ -1,24 +1,26 @@
--- What is told, and when nothing is.
+-- What is emitted, and when nothing is.
 use Rattle.std.proofs.Common.{◌≡◌, ℕ, ◌+◌, ◌<◌, ◌≤◌, ◌≢◌, List, [], ◌∷◌, ◌++◌, length, get_or, take, drop, refl, ap, sym, ◌∙◌, subst, arith, Some, None, eq-eqb, eqb-true, length-take-le, get_or-take, append_assoc, take-append-drop, length-append}
 use Rattle.std.proofs.lemmas.List.{drop_more, get_or_at, get_or_default}
 use Rattle.memchr.specs.Find.{IsFirstByte, is_byte}
 use Rattle.tko_text.specs.declared.fault.TextFault.TheVariants as fault
 use Rattle.tko_text.specs.declared.item.Item.{Item}
 use Rattle.tko_text.specs.declared.item.Item.TheVariants as item
-use Rattle.tko_text.specs.Commands.{said}
-use Rattle.tko_text.specs.Lines.{line_feed, line_limit, IsEndedAt, IsBeyond, content}
-use Rattle.tko_text.specs.Reading.{After, Next, Never, Reading, Completes, Decides, by_line, by_length, Tells, IsOpen}
+use Rattle.tko_text.specs.Commands.{parsed}
+use Rattle.tko_bytes.specs.Lines.{line_feed, content}
+use Rattle.tko_text.specs.Limits.{line_limit}
+use Rattle.tko_text.specs.Lines.{IsEndedAt, IsBeyond}
+use Rattle.tko_text.specs.Reading.{After, Next, Never, Reading, Completes, Decides, by_line, by_length, Emits, NeedsMore}
 
 -- where reading is at the beginning of a text
 abbrev pub at : List ℕ → Reading
 at bytes = record { after = Next; unread = bytes }
 
 -- the line of a request or a fault that is decided by it alone
-pub Tells-line : (bytes : List ℕ) (len : ℕ) (told : Item) → IsEndedAt bytes len
-    → Completes (said (content (take len bytes))) [] told Next
-    → Tells (at bytes) told (at (drop (len + 1) bytes))
-unfolding Tells
-Tells-line bytes len told line completes =
+pub Emits-line : (bytes : List ℕ) (len : ℕ) (emitted : Item) → IsEndedAt bytes len
+    → Completes (parsed (content (take len bytes))) [] emitted Next
+    → Emits (at bytes) emitted (at (drop (len + 1) bytes))
+unfolding Emits
+Emits-line bytes len emitted line completes =
     let rest : drop len bytes ≡ line_feed ∷ drop (len + 1) bytes =
     drop_more bytes len 0 line.fits ∙ ap (λ b. b ∷ drop (len + 1) bytes) line.ended in
     let parts : bytes ≡ (take len bytes ++ line_feed ∷ []) ++ drop (len + 1) bytes =
@@ -32,10 +34,10 @@ Tells-line bytes len told line completes =
       refl,
     )
 
-pub Tells-beyond : (bytes : List ℕ) → IsBeyond bytes
-    → Tells (at bytes) (item.Fault fault.LineTooLong) (record { after = Never; unread = [] })
-unfolding Tells
-Tells-beyond bytes long = (
+pub Emits-beyond : (bytes : List ℕ) → IsBeyond bytes
+    → Emits (at bytes) (item.Fault fault.LineTooLong) (record { after = Never; unread = [] })
+unfolding Emits
+Emits-beyond bytes long = (
   take (line_limit + 1) bytes,
   drop (line_limit + 1) bytes,
   Never,
@@ -52,58 +54,58 @@ get_or-line before behind left =
     ∙ get_or_at before line_feed (behind ++ left) 0 (length before) refl
 
 -- nothing is decided by fewer bytes than are too many, without an LF
-undecided : (bytes text left : List ℕ) (told : Item) (after : After) → bytes ≡ text ++ left
+undecided : (bytes text left : List ℕ) (emitted : Item) (after : After) → bytes ≡ text ++ left
     → IsFirstByte (is_byte line_feed) bytes None → length bytes ≤ line_limit
-    → Decides text told after → ⊥
-undecided bytes text left told after parts none few (by_line before behind line is completes) =
+    → Decides text emitted after → ⊥
+undecided bytes text left emitted after parts none few (by_line before behind line is completes) =
     let whole : bytes ≡ (before ++ line_feed ∷ behind) ++ left = parts ∙ ap (λ xs. xs ++ left) is in
     none (length before) (omega arith)
     (omega (arith, ap length whole, length-append (before ++ line_feed ∷ behind) left, length-append before (line_feed ∷ behind)))
     (eq-eqb _ line_feed (ap (λ xs. get_or xs (length before) 0) whole ∙ get_or-line before behind left))
-undecided bytes text left told after parts none few (by_length long told_is after_is) =
+undecided bytes text left emitted after parts none few (by_length long emitted_is after_is) =
     absurd (omega (arith, ap length parts, length-append text left, long.beyond))
 
-pub IsOpen-short : (bytes : List ℕ) → IsFirstByte (is_byte line_feed) bytes None
-    → length bytes ≤ line_limit → IsOpen (at bytes)
-unfolding IsOpen Tells
-IsOpen-short bytes none few told to (text, left, after, from, decides, goes) =
-    undecided bytes text left told after (ap (λ (r : Reading). r.unread) from) none few decides
+pub NeedsMore-short : (bytes : List ℕ) → IsFirstByte (is_byte line_feed) bytes None
+    → length bytes ≤ line_limit → NeedsMore (at bytes)
+unfolding NeedsMore Emits
+NeedsMore-short bytes none few emitted to (text, left, after, from, decides, goes) =
+    undecided bytes text left emitted after (ap (λ (r : Reading). r.unread) from) none few decides
 
-pub IsOpen-never : (bytes : List ℕ) → IsOpen (record { after = Never; unread = bytes })
-unfolding IsOpen Tells
-IsOpen-never bytes told to (text, left, after, from, decides, goes) =
+pub NeedsMore-never : (bytes : List ℕ) → NeedsMore (record { after = Never; unread = bytes })
+unfolding NeedsMore Emits
+NeedsMore-never bytes emitted to (text, left, after, from, decides, goes) =
     let never : Never ≡ Next = ap (λ (r : Reading). r.after) from in cc
 
 -- a reading by its parts
 at_next : (from : Reading) → from.after ≡ Next → at from.unread ≡ from
 at_next from next = ap (λ after. record { after = after; unread = from.unread }) (sym next)
 
-pub Tells-read : (from to : Reading) (len : ℕ) (told : Item) → from.after ≡ Next → to.after ≡ Next
+pub Emits-read : (from to : Reading) (len : ℕ) (emitted : Item) → from.after ≡ Next → to.after ≡ Next
     → to.unread ≡ drop (len + 1) from.unread → IsEndedAt from.unread len
-    → Completes (said (content (take len from.unread))) [] told Next → Tells from told to
-Tells-read from to len told next goes rest line completes =
+    → Completes (parsed (content (take len from.unread))) [] emitted Next → Emits from emitted to
+Emits-read from to len emitted next goes rest line completes =
     let on : at (drop (len + 1) from.unread) ≡ to = ap at (sym rest) ∙ at_next to goes in
-    subst (λ r. Tells from told r) on
-    (subst (λ r. Tells r told (at (drop (len + 1) from.unread))) (at_next from next)
-    (Tells-line from.unread len told line completes))
+    subst (λ r. Emits from emitted r) on
+    (subst (λ r. Emits r emitted (at (drop (len + 1) from.unread))) (at_next from next)
+    (Emits-line from.unread len emitted line completes))
 
-pub Tells-failed : (from : Reading) (rest : List ℕ) → from.after ≡ Next → rest ≡ [] → IsBeyond from.unread
-    → Tells from (item.Fault fault.LineTooLong) (record { after = Never; unread = rest })
-Tells-failed from rest next none long =
-    subst (λ bytes. Tells from (item.Fault fault.LineTooLong) (record { after = Never; unread = bytes })) (sym none)
-    (subst (λ r. Tells r (item.Fault fault.LineTooLong) (record { after = Never; unread = [] })) (at_next from next)
-    (Tells-beyond from.unread long))
+pub Emits-failed : (from : Reading) (rest : List ℕ) → from.after ≡ Next → rest ≡ [] → IsBeyond from.unread
+    → Emits from (item.Fault fault.LineTooLong) (record { after = Never; unread = rest })
+Emits-failed from rest next none long =
+    subst (λ bytes. Emits from (item.Fault fault.LineTooLong) (record { after = Never; unread = bytes })) (sym none)
+    (subst (λ r. Emits r (item.Fault fault.LineTooLong) (record { after = Never; unread = [] })) (at_next from next)
+    (Emits-beyond from.unread long))
 
-pub IsOpen-waiting : (from : Reading) → from.after ≡ Next
-    → IsFirstByte (is_byte line_feed) from.unread None → length from.unread ≤ line_limit → IsOpen from
-IsOpen-waiting from next none few =
-    subst (λ r. IsOpen r) (at_next from next) (IsOpen-short from.unread none few)
+pub NeedsMore-waiting : (from : Reading) → from.after ≡ Next
+    → IsFirstByte (is_byte line_feed) from.unread None → length from.unread ≤ line_limit → NeedsMore from
+NeedsMore-waiting from next none few =
+    subst (λ r. NeedsMore r) (at_next from next) (NeedsMore-short from.unread none few)
 
-pub IsOpen-failed : (from : Reading) → from.after ≡ Never → IsOpen from
-IsOpen-failed from never =
+pub NeedsMore-failed : (from : Reading) → from.after ≡ Never → NeedsMore from
+NeedsMore-failed from never =
     let is : record { after = Never; unread = from.unread } ≡ from =
     ap (λ after. record { after = after; unread = from.unread }) (sym never) in
-    subst (λ r. IsOpen r) is (IsOpen-never from.unread)
+    subst (λ r. NeedsMore r) is (NeedsMore-never from.unread)
 
 -- the first LF ends a line, where it comes soon enough
 pub IsEndedAt-found : (bytes : List ℕ) (len : ℕ) → IsFirstByte (is_byte line_feed) bytes (Some len)

@@ -1,31 +1,33 @@
--- What a line says: the table of command words, what stands behind each of them, and the faults in
+-- Request lines: the table of command words, the words that follow each of them, and the faults in
 -- the order in which they are looked for.
-use Rattle.std.specs.Prelude.{ℕ, ◌+◌, ◌^◌, Bool, true, false, List, [], ◌∷◌, length, codes, Option, Some, None, option_and_then, unwrap_or, nat_le, if◌then◌else◌}
+use Rattle.std.specs.Prelude.{ℕ, ◌+◌, Bool, true, false, List, [], ◌∷◌, length, codes, Option, Some, None, option_and_then, unwrap_or, nat_le, if◌then◌else◌}
 use Rattle.std.specs.List.{list_all, list_any}
 use Rattle.std.specs.Str.{bytes_eq}
 use Rattle.tko_text.specs.declared.fault.TextFault.{TextFault}
 use Rattle.tko_text.specs.declared.fault.TextFault.TheVariants.{UnknownCommand, BadLine, BadKey, TooLarge}
 use Rattle.tko_text.specs.Keys.{is_key}
-use Rattle.tko_text.specs.Numbers.{number_below, expiry}
+use Rattle.tko_bytes.specs.Numbers.{number_of}
+use Rattle.tko_text.specs.Limits.{data_limit, flags_limit, number_limit}
+use Rattle.tko_text.specs.Numbers.{expiry}
 use Rattle.tko_text.specs.Requests.{Verb, Set, Add, Replace, Append, Prepend, Command, Get, Gets, Store, Cas, Delete, Incr, Decr, Touch, Version, Quit, StatsTko}
-use Rattle.tko_text.specs.Words.{words}
+use Rattle.tko_bytes.specs.Words.{words}
 
--- what is passed over behind a text before the next one begins: nothing, so many bytes, or all up to
--- the first LF; or no text begins any more
+-- what is skipped after a text before the next one begins: nothing, so many bytes, or all up to the
+-- first LF; or no further text is read
 pub data After : Type 0 where
   Next : After
   Pass : ℕ → After
   PassLine : After
   Never : After
 
--- what a line says by itself: a whole request; a request that so many bytes of data complete; or a
--- fault, with what is passed over behind the line
-pub data Said : Type 0 where
-  Asks : Command → Said
-  Wants : ℕ → (List ℕ → Command) → Said
-  Refused : TextFault → After → Said
+-- what a line is by itself: a whole request; a request that so many bytes of data complete; or a
+-- fault, and what is skipped after the line
+pub data ParsedLine : Type 0 where
+  Asks : Command → ParsedLine
+  AwaitsData : ℕ → (List ℕ → Command) → ParsedLine
+  Refused : TextFault → After → ParsedLine
 
--- what stands behind a command word
+-- what follows a command word
 pub data Form : Type 0 where
   -- <key> ..
   Keys : (List (List ℕ) → Command) → Form
@@ -64,12 +66,13 @@ commands =
     ∷ (codes "stats", Followed (codes "tko") StatsTko)
     ∷ []
 
--- what is taken of the protocol: some command words, and so many keys on a line, where that is bounded
+-- what is read of the protocol: some command words, and the most keys on a line, where it is
+-- bounded
 pub record Scope : Type 0 where
   pub words : List (List ℕ)
   pub most_keys : Option ℕ
 
--- what this stage takes
+-- what is read so far
 abbrev pub taken : Scope
 taken = record { words = codes "get" ∷ []; most_keys = Some 1 }
 
@@ -78,7 +81,7 @@ abbrev pub form_in : List ℕ → List (List ℕ × Form) → Option Form
 form_in word [] = None
 form_in word (entry ∷ table) = if bytes_eq word entry.0 then Some entry.1 else form_in word table
 
--- the form of a command word that is taken
+-- the form of a command word that is read
 unfoldable pub form_of : List ℕ → Option Form
 form_of word = if list_any (bytes_eq word) taken.words then form_in word commands else None
 
@@ -87,115 +90,113 @@ abbrev pub is_within : Option ℕ → ℕ → Bool
 is_within None count = true
 is_within (Some most) count = nat_le count most
 
-abbrev pub bad_line : Said
+abbrev pub bad_line : ParsedLine
 bad_line = Refused BadLine Next
 
 -- the request, where the key is one
-abbrev pub with_key : List ℕ → Command → Said
+abbrev pub with_key : List ℕ → Command → ParsedLine
 with_key key command = if is_key key then Asks command else Refused BadKey Next
 
--- the greatest length of data
-abbrev pub data_limit : ℕ
-data_limit = 1048576
-
--- so many bytes of data are wanted, where the key is one and they aren't too many; else they and
--- their CR LF are passed over
-abbrev pub with_data : List ℕ → ℕ → (List ℕ → Command) → Said
+-- so many bytes of data follow, where the key is one and they aren't too many; else they and their
+-- CR LF are skipped
+abbrev pub with_data : List ℕ → ℕ → (List ℕ → Command) → ParsedLine
 with_data key size command =
     if is_key key
-    then (if nat_le size data_limit then Wants size command else Refused TooLarge (Pass (size + 2)))
+    then (if nat_le size data_limit
+    then AwaitsData size command
+    else Refused TooLarge (Pass (size + 2)))
     else Refused BadKey (Pass (size + 2))
 
 infixl 10 ◌>>=◌
 abbrev pub ◌>>=◌ : {A B : Type 0} → Option A → (A → Option B) → Option B
 o >>= f = option_and_then f o
 
--- whether `noreply` stands behind the other words, which nothing else may
+-- whether `noreply` follows the other words, where nothing else does
 abbrev pub noreply : List (List ℕ) → Option Bool
 noreply [] = Some false
 noreply (word ∷ []) = if bytes_eq word (codes "noreply") then Some true else None
 noreply (word ∷ other ∷ words) = None
 
 -- one key or more
-abbrev pub keys_said : (List (List ℕ) → Command) → List (List ℕ) → Said
-keys_said command [] = bad_line
-keys_said command (key ∷ keys) =
+abbrev pub parsed_keys : (List (List ℕ) → Command) → List (List ℕ) → ParsedLine
+parsed_keys command [] = bad_line
+parsed_keys command (key ∷ keys) =
     if is_within taken.most_keys (length (key ∷ keys))
     then (if list_all is_key (key ∷ keys) then Asks (command (key ∷ keys)) else Refused BadKey Next)
     else bad_line
 
-abbrev pub stored_said : Verb → List (List ℕ) → Option Said
-stored_said verb (key ∷ flags ∷ until ∷ bytes ∷ rest) = do
-  f ← number_below (2 ^ 32) flags
+abbrev pub parsed_stored : Verb → List (List ℕ) → Option ParsedLine
+parsed_stored verb (key ∷ flags ∷ until ∷ bytes ∷ rest) = do
+  f ← number_of flags_limit flags
   e ← expiry until
-  size ← number_below (2 ^ 64) bytes
+  size ← number_of number_limit bytes
   quiet ← noreply rest
   Some (with_data key size (λ value.
       Store verb (record { key = key; flags = f; expiry = e; value = value }) quiet))
-stored_said verb _ = None
+parsed_stored verb _ = None
 
-abbrev pub compared_said : List (List ℕ) → Option Said
-compared_said (key ∷ flags ∷ until ∷ bytes ∷ cas ∷ rest) = do
-  f ← number_below (2 ^ 32) flags
+abbrev pub parsed_compared : List (List ℕ) → Option ParsedLine
+parsed_compared (key ∷ flags ∷ until ∷ bytes ∷ cas ∷ rest) = do
+  f ← number_of flags_limit flags
   e ← expiry until
-  size ← number_below (2 ^ 64) bytes
-  unique ← number_below (2 ^ 64) cas
+  size ← number_of number_limit bytes
+  unique ← number_of number_limit cas
   quiet ← noreply rest
   Some (with_data key size (λ value.
       Cas (record { key = key; flags = f; expiry = e; value = value }) unique quiet))
-compared_said _ = None
+parsed_compared _ = None
 
-abbrev pub deleted_said : List (List ℕ) → Option Said
-deleted_said [] = None
-deleted_said (key ∷ rest) = do
+abbrev pub parsed_deleted : List (List ℕ) → Option ParsedLine
+parsed_deleted [] = None
+parsed_deleted (key ∷ rest) = do
   quiet ← noreply rest
   Some (with_key key (Delete key quiet))
 
-abbrev pub counted_said : (List ℕ → ℕ → Bool → Command) → List (List ℕ) → Option Said
-counted_said command (key ∷ amount ∷ rest) = do
-  n ← number_below (2 ^ 64) amount
+abbrev pub parsed_counted : (List ℕ → ℕ → Bool → Command) → List (List ℕ) → Option ParsedLine
+parsed_counted command (key ∷ amount ∷ rest) = do
+  n ← number_of number_limit amount
   quiet ← noreply rest
   Some (with_key key (command key n quiet))
-counted_said command _ = None
+parsed_counted command _ = None
 
-abbrev pub touched_said : List (List ℕ) → Option Said
-touched_said (key ∷ until ∷ rest) = do
+abbrev pub parsed_touched : List (List ℕ) → Option ParsedLine
+parsed_touched (key ∷ until ∷ rest) = do
   e ← expiry until
   quiet ← noreply rest
   Some (with_key key (Touch key e quiet))
-touched_said _ = None
+parsed_touched _ = None
 
-abbrev pub alone_said : Command → List (List ℕ) → Said
-alone_said command [] = Asks command
-alone_said command (word ∷ words) = bad_line
+abbrev pub parsed_alone : Command → List (List ℕ) → ParsedLine
+parsed_alone command [] = Asks command
+parsed_alone command (word ∷ words) = bad_line
 
--- the word with another behind it, or with none, is no command
-abbrev pub followed_said : List ℕ → Command → List (List ℕ) → Said
-followed_said second command (word ∷ []) =
+-- the command word followed by other words, or by none, is no command
+abbrev pub parsed_followed : List ℕ → Command → List (List ℕ) → ParsedLine
+parsed_followed second command (word ∷ []) =
     if bytes_eq word second then Asks command else Refused UnknownCommand Next
-followed_said second command _ = Refused UnknownCommand Next
+parsed_followed second command _ = Refused UnknownCommand Next
 
--- what the words behind a command word say
-abbrev pub form_said : Form → List (List ℕ) → Said
-form_said (Keys command) arguments = keys_said command arguments
-form_said (Stored verb) arguments = unwrap_or (stored_said verb arguments) bad_line
-form_said Compared arguments = unwrap_or (compared_said arguments) bad_line
-form_said Deleted arguments = unwrap_or (deleted_said arguments) bad_line
-form_said (Counted command) arguments = unwrap_or (counted_said command arguments) bad_line
-form_said Touched arguments = unwrap_or (touched_said arguments) bad_line
-form_said (Alone command) arguments = alone_said command arguments
-form_said (Followed second command) arguments = followed_said second command arguments
+-- the words that follow a command word
+abbrev pub parsed_form : Form → List (List ℕ) → ParsedLine
+parsed_form (Keys command) arguments = parsed_keys command arguments
+parsed_form (Stored verb) arguments = unwrap_or (parsed_stored verb arguments) bad_line
+parsed_form Compared arguments = unwrap_or (parsed_compared arguments) bad_line
+parsed_form Deleted arguments = unwrap_or (parsed_deleted arguments) bad_line
+parsed_form (Counted command) arguments = unwrap_or (parsed_counted command arguments) bad_line
+parsed_form Touched arguments = unwrap_or (parsed_touched arguments) bad_line
+parsed_form (Alone command) arguments = parsed_alone command arguments
+parsed_form (Followed second command) arguments = parsed_followed second command arguments
 
 -- the same, where the command word has a form
-abbrev pub known_said : Option Form → List (List ℕ) → Said
-known_said None arguments = Refused UnknownCommand Next
-known_said (Some form) arguments = form_said form arguments
+abbrev pub parsed_known : Option Form → List (List ℕ) → ParsedLine
+parsed_known None arguments = Refused UnknownCommand Next
+parsed_known (Some form) arguments = parsed_form form arguments
 
--- what the words of a line say
-abbrev pub words_said : List (List ℕ) → Said
-words_said [] = Refused UnknownCommand Next
-words_said (word ∷ arguments) = known_said (form_of word) arguments
+-- the words of a line
+abbrev pub parsed_words : List (List ℕ) → ParsedLine
+parsed_words [] = Refused UnknownCommand Next
+parsed_words (word ∷ arguments) = parsed_known (form_of word) arguments
 
--- what a line says that holds these bytes
-abbrev pub said : List ℕ → Said
-said bytes = words_said (words bytes)
+-- a line that holds these bytes
+abbrev pub parsed : List ℕ → ParsedLine
+parsed bytes = parsed_words (words bytes)

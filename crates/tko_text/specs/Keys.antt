@@ -1,6 +1,7 @@
--- The rule of keys.
+-- Which bytes are a key.
 use Rattle.std.specs.Prelude.{ℕ, ◌≤◌, ◌<◌, ◌≢◌, Bool, ◌&&◌, not, nat_le, nat_lt, ◌==◌, List, length, All}
 use Rattle.std.specs.List.{list_all}
+use Rattle.tko_text.specs.Limits.{key_limit}
 
 -- a byte of a key: no control character, no space, and not 127
 abbrev pub IsKeyByte : ℕ → Type 0
@@ -8,7 +9,7 @@ IsKeyByte b = (32 < b) × (b ≢ 127)
 
 pub record IsKey (bytes : List ℕ) : Type 0 where
   pub some : 1 ≤ length bytes
-  pub few : length bytes ≤ 250
+  pub few : length bytes ≤ key_limit
   pub each : All IsKeyByte bytes
 
 -- the same as tests
@@ -16,4 +17,6 @@ abbrev pub is_key_byte : ℕ → Bool
 is_key_byte b = nat_lt 32 b && not (b == 127)
 
 unfoldable pub is_key : List ℕ → Bool
-is_key bytes = nat_le 1 (length bytes) && (nat_le (length bytes) 250 && list_all is_key_byte bytes)
+is_key bytes =
+    nat_le 1 (length bytes)
+    && (nat_le (length bytes) key_limit && list_all is_key_byte bytes)

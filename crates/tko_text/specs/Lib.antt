@@ -1,6 +1,7 @@
 pub mod Buffers
 pub mod Commands
 pub mod Keys
+pub mod Limits
 pub mod Lines
 pub mod Numbers
 pub mod Reading
@@ -8,4 +9,3 @@ pub mod Requests
 pub mod ResponseFaults
 pub mod ResponseLines
 pub mod Responses
-pub mod Words

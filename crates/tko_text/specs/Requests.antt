@@ -1,13 +1,14 @@
 -- Requests and faults as data, and the one printed form of each.
 use Rattle.std.specs.Prelude.{ℕ, ℤ, Bool, true, false, List, [], ◌∷◌, ◌++◌, length, codes}
 use Rattle.std.specs.Fmt.{decimal, signed_decimal}
+use Rattle.std.specs.List.{join_with_byte}
 use Rattle.tko_text.specs.declared.fault.TextFault.{TextFault}
 use Rattle.tko_text.specs.declared.fault.TextFault.TheVariants.{UnknownCommand, BadLine, BadKey, BadChunk, TooLarge, LineTooLong}
 use Rattle.tko_text.specs.declared.request.Request.{Request}
 use Rattle.tko_text.specs.declared.request.Request.TheVariants as request
 use Rattle.tko_text.specs.Keys.{IsKey}
-use Rattle.tko_text.specs.Lines.{crlf}
-use Rattle.tko_text.specs.Words.{line_of}
+use Rattle.tko_bytes.specs.Lines.{crlf}
+use Rattle.tko_bytes.specs.Words.{space}
 
 -- what a storage request does with its entry
 pub data Verb : Type 0 where
@@ -41,7 +42,11 @@ verb_word Replace = codes "replace"
 verb_word Append = codes "append"
 verb_word Prepend = codes "prepend"
 
--- the word behind a request that wants no reply
+-- the line that is printed of words
+abbrev pub line_of : List (List ℕ) → List ℕ
+line_of words = join_with_byte space words ++ crlf
+
+-- the last word of a request that asks for no reply
 abbrev pub noreply_words : Bool → List (List ℕ)
 noreply_words true = codes "noreply" ∷ []
 noreply_words false = []
@@ -49,7 +54,8 @@ noreply_words false = []
 -- the words for what is stored, which end with the number of its bytes
 abbrev pub entry_words : Entry → List (List ℕ)
 entry_words entry =
-    entry.key ∷ decimal entry.flags ∷ signed_decimal entry.expiry ∷ decimal (length entry.value) ∷ []
+    entry.key ∷ decimal entry.flags ∷ signed_decimal entry.expiry
+    ∷ decimal (length entry.value) ∷ []
 
 -- the printed form: single spaces, no leading zeros, CR LF
 unfoldable pub printed : Command → List ℕ

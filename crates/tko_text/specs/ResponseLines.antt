@@ -1,11 +1,11 @@
--- Lines of responses, and what stands in them.
-use Rattle.std.specs.Prelude.{◌≡◌, ◌≢◌, ℕ, ◌<◌, ◌≤◌, Bool, true, false, ◌==◌, if◌then◌else◌, List, [], ◌∷◌, ◌++◌, length, drop, slice_index, All}
-use Rattle.std.specs.Str.Parse.{IsNumeral, digits_value}
-use Rattle.tko_text.specs.Commands.{data_limit}
-use Rattle.tko_text.specs.Lines.{HasNoEnd, content, line_feed, line_limit}
-use Rattle.tko_text.specs.Words.{behind_word, front_word, unspaced}
+-- Lines of responses: how they are cut from the bytes, and what they hold.
+use Rattle.std.specs.Prelude.{◌≡◌, ◌≢◌, ℕ, ◌<◌, ◌≤◌, List, [], ◌∷◌, ◌++◌, length, slice_index, Option, Some}
+use Rattle.tko_bytes.specs.Lines.{HasNoEnd, content, line_feed}
+use Rattle.tko_bytes.specs.Numbers.{number_of}
+use Rattle.tko_bytes.specs.Words.{behind_word, front_word, unspaced}
+use Rattle.tko_text.specs.Limits.{data_limit, line_limit}
 
--- no LF stands there
+-- no LF is among these bytes
 abbrev pub IsText : List ℕ → Type 0
 IsText bytes = HasNoEnd bytes
 
@@ -13,35 +13,36 @@ IsText bytes = HasNoEnd bytes
 abbrev pub IsData : List ℕ → Type 0
 IsData bytes = length bytes ≤ data_limit
 
--- a line before its LF, or as far as it has come: no LF, and at most 65,536 bytes, a CR counted
+-- the first word of a line, and the bytes that follow it
+pub record Split : Type 0 where
+  pub word : List ℕ
+  pub rest : List ℕ
+
+abbrev pub split_of : List ℕ → Split
+split_of line = record { word = front_word (unspaced line); rest = behind_word (unspaced line) }
+
+-- a line before its LF, or the part of one that has come: no LF, and no more bytes than a line may
+-- have, a CR counted
 pub record IsOpenLine (bytes : List ℕ) : Type 0 where
   pub text : IsText bytes
   pub few : length bytes ≤ line_limit
 
--- the bytes are one whole line, and this is what it says
-pub record IsLine (bytes said : List ℕ) : Type 0 where
+-- the bytes are one whole line, which holds a first word and what follows it
+pub record IsLine (bytes : List ℕ) (line : Split) : Type 0 where
   pub before : List ℕ
   pub whole : bytes ≡ before ++ line_feed ∷ []
   pub open_line : IsOpenLine before
-  pub says : said ≡ content before
+  pub holds : line ≡ split_of (content before)
 
--- the line is this word, one space, and the text, which is kept as it is; the word alone has the
--- empty text
-pub record IsTextLine (word line text : List ℕ) : Type 0 where
-  pub word_is : front_word (unspaced line) ≡ word
-  pub text_is : text ≡ drop 1 (behind_word (unspaced line))
+-- the word is a decimal number up to a limit
+abbrev pub IsNumber : ℕ → List ℕ → ℕ → Type 0
+IsNumber limit word n = number_of limit word ≡ Some n
 
--- the word is decimal digits of this value, which is below the limit
-pub record IsNumber (limit : ℕ) (word : List ℕ) (n : ℕ) : Type 0 where
-  pub digits : IsNumeral 10 word
-  pub value : n ≡ digits_value 10 word
-  pub fits : n < limit
+-- the bytes are a line that holds this, and the rest
+abbrev pub SplitsLine : List ℕ → Split → List ℕ → Type 0
+SplitsLine bytes line rest = (first : List ℕ) × IsLine first line × (bytes ≡ first ++ rest)
 
--- the bytes are a line that says this, and the rest
-abbrev pub SplitsLine : List ℕ → List ℕ → List ℕ → Type 0
-SplitsLine bytes said rest = (line : List ℕ) × IsLine line said × (bytes ≡ line ++ rest)
-
--- no LF stands where a line must have one
+-- no LF is where a line must have one
 pub record IsOverlong (bytes : List ℕ) : Type 0 where
-  pub text : (k : ℕ) → k < 65537 → slice_index bytes k ≢ 10
+  pub text : (k : ℕ) → k ≤ line_limit → slice_index bytes k ≢ line_feed
   pub many : line_limit < length bytes

@@ -1,5 +1,5 @@
--- What servers answer: each answer's text, which requests it answers, and what is read where.
-use Rattle.std.specs.Prelude.{◌≡◌, ℕ, ◌^◌, ◌≤◌, ◌⊎◌, List, [], ◌∷◌, ◌++◌, length, take, codes, decimal, Option, Some, None, IsSome, Result, Ok, Err}
+-- Responses of servers: the text of each answer, the requests that it answers, and what is read.
+use Rattle.std.specs.Prelude.{◌≡◌, ℕ, ◌<◌, ◌≤◌, ◌⊎◌, List, [], ◌∷◌, ◌++◌, length, take, drop, codes, decimal, Option, Some, None, IsSome, Result, Ok, Err}
 use Rattle.tko_text.specs.declared.request.Request.{Request}
 use Rattle.tko_text.specs.declared.request.Request.TheVariants as request
 use Rattle.tko_text.specs.declared.response.Response.{Response}
@@ -7,8 +7,9 @@ use Rattle.tko_text.specs.declared.response.Response.TheVariants as response
 use Rattle.tko_text.specs.declared.response.body.Value.{Value}
 use Rattle.tko_text.specs.declared.response.fault.ReadFault.{ReadFault}
 use Rattle.tko_text.specs.declared.response.fault.ReadFault.TheVariants as fault
-use Rattle.tko_text.specs.ResponseLines.{IsOpenLine, IsLine, IsTextLine, IsNumber}
-use Rattle.tko_text.specs.Words.{words}
+use Rattle.tko_text.specs.Limits.{data_limit, flags_limit, number_limit}
+use Rattle.tko_text.specs.ResponseLines.{IsOpenLine, IsLine, IsNumber, Split}
+use Rattle.tko_bytes.specs.Words.{words}
 
 -- what a request asks, as far as its answers go
 pub data Kind : Type 0 where
@@ -69,70 +70,79 @@ Suits kind (ClientError text) = Unit {0}
 Suits kind (ServerError text) = Unit {0}
 Suits _ _ = ⊥
 
--- what a line says, where the line is the whole answer
-abbrev pub Says : List ℕ → Answer → Type 0
-Says said (Values None) = words said ≡ codes "END" ∷ []
-Says said (Values (Some found)) = ⊥
-Says said Stored = words said ≡ codes "STORED" ∷ []
-Says said NotStored = words said ≡ codes "NOT_STORED" ∷ []
-Says said Exists = words said ≡ codes "EXISTS" ∷ []
-Says said Deleted = words said ≡ codes "DELETED" ∷ []
-Says said Touched = words said ≡ codes "TOUCHED" ∷ []
-Says said NotFound = words said ≡ codes "NOT_FOUND" ∷ []
-Says said (Number n) = (word : List ℕ) × (words said ≡ word ∷ []) × IsNumber (2 ^ 64) word n
-Says said (Version text) = IsTextLine (codes "VERSION") said text
-Says said Error = words said ≡ codes "ERROR" ∷ []
-Says said (ClientError text) = IsTextLine (codes "CLIENT_ERROR") said text
-Says said (ServerError text) = IsTextLine (codes "SERVER_ERROR") said text
+-- the line is this one word
+abbrev pub IsAlone : List ℕ → Split → Type 0
+IsAlone word line = (line.word ≡ word) × (words line.rest ≡ [])
 
--- the bytes are one line, which says the answer
+-- the line is this word, one space, and the text, which is kept as it is; the word alone has the
+-- empty text
+abbrev pub IsTextLine : List ℕ → Split → List ℕ → Type 0
+IsTextLine word line text = (line.word ≡ word) × (text ≡ drop 1 line.rest)
+
+-- the line is the whole answer
+abbrev pub Says : Split → Answer → Type 0
+Says line (Values None) = IsAlone (codes "END") line
+Says line (Values (Some found)) = ⊥
+Says line Stored = IsAlone (codes "STORED") line
+Says line NotStored = IsAlone (codes "NOT_STORED") line
+Says line Exists = IsAlone (codes "EXISTS") line
+Says line Deleted = IsAlone (codes "DELETED") line
+Says line Touched = IsAlone (codes "TOUCHED") line
+Says line NotFound = IsAlone (codes "NOT_FOUND") line
+Says line (Number n) = IsNumber number_limit line.word n × (words line.rest ≡ [])
+Says line (Version text) = IsTextLine (codes "VERSION") line text × (0 < length text)
+Says line Error = IsAlone (codes "ERROR") line
+Says line (ClientError text) = IsTextLine (codes "CLIENT_ERROR") line text
+Says line (ServerError text) = IsTextLine (codes "SERVER_ERROR") line text
+
+-- the bytes are one line, which is the whole answer
 pub record IsAnswerLine (bytes : List ℕ) (answer : Answer) : Type 0 where
-  pub said : List ℕ
-  pub is_line : IsLine bytes said
-  pub says : Says said answer
+  pub line : Split
+  pub is_line : IsLine bytes line
+  pub says : Says line answer
 
--- the words behind the size of a value are its cas number, where it has one
+-- the words that follow the size of a value are its cas number, where it has one
 abbrev pub IsCas : List (List ℕ) → Option ℕ → Type 0
 IsCas found None = found ≡ []
-IsCas found (Some n) = (word : List ℕ) × (found ≡ word ∷ []) × IsNumber (2 ^ 64) word n
+IsCas found (Some n) = (word : List ℕ) × (found ≡ word ∷ []) × IsNumber number_limit word n
 
 -- the first line of a value of so many bytes
-pub record IsHead (said key : List ℕ) (flags size : ℕ) (cas : Option ℕ) : Type 0 where
+pub record IsHead (line : Split) (key : List ℕ) (flags size : ℕ) (cas : Option ℕ) : Type 0 where
   pub flags_word : List ℕ
   pub size_word : List ℕ
   pub cas_words : List (List ℕ)
-  pub words_are : words said ≡ codes "VALUE" ∷ key ∷ flags_word ∷ size_word ∷ cas_words
-  pub flags_are : IsNumber (2 ^ 32) flags_word flags
-  pub size_is : IsNumber (2 ^ 64) size_word size
-  pub small : size ≤ 1048576
+  pub word_is : line.word ≡ codes "VALUE"
+  pub words_are : words line.rest ≡ key ∷ flags_word ∷ size_word ∷ cas_words
+  pub flags_are : IsNumber flags_limit flags_word flags
+  pub size_is : IsNumber data_limit size_word size
   pub cas_is : IsCas cas_words cas
 
--- data and the CR LF behind it
+-- data and its CR LF
 abbrev pub block : List ℕ → List ℕ
 block bytes = bytes ++ codes "\r\n"
 
--- what stands behind a value's first line: its data, and the line `END`
-pub record IsBody (said body : List ℕ) (found : Found) : Type 0 where
+-- what follows a value's first line: its data, and the line `END`
+pub record IsBody (line : Split) (body : List ℕ) (found : Found) : Type 0 where
   pub last : List ℕ
-  pub is_head : IsHead said found.key found.flags (length found.bytes) found.cas
+  pub is_head : IsHead line found.key found.flags (length found.bytes) found.cas
   pub whole : body ≡ block found.bytes ++ last
   pub is_end : IsAnswerLine last (Values None)
 
 -- the bytes are one value
 pub record IsValue (bytes : List ℕ) (found : Found) : Type 0 where
   pub head : List ℕ
-  pub said : List ℕ
+  pub line : Split
   pub body : List ℕ
   pub whole : bytes ≡ head ++ body
-  pub is_line : IsLine head said
-  pub is_body : IsBody said body found
+  pub is_line : IsLine head line
+  pub is_body : IsBody line body found
 
 -- the bytes, from their first to their last, are this answer
 abbrev pub Spells : List ℕ → Answer → Type 0
 Spells bytes (Values (Some found)) = IsValue bytes found
 Spells bytes answer = IsAnswerLine bytes answer
 
--- not all of so many bytes of data, or not yet the CR LF behind them
+-- not all of so many bytes of data, or not yet the CR LF that follows them
 abbrev pub IsCutData : ℕ → List ℕ → Type 0
 IsCutData size bytes =
     (length bytes ≤ size)
@@ -143,23 +153,23 @@ abbrev pub IsCutEnd : ℕ → List ℕ → Type 0
 IsCutEnd size bytes =
     (found last : List ℕ) × (length found ≡ size) × (bytes ≡ block found ++ last) × IsOpenLine last
 
--- a value was asked for, its first line has come, and not all that stands behind it
-pub record IsCutBody (kind : Kind) (said body : List ℕ) : Type 0 where
+-- a value was asked for, its first line has come, and not all that follows it
+pub record IsCutBody (kind : Kind) (line : Split) (body : List ℕ) : Type 0 where
   pub key : List ℕ
   pub flags : ℕ
   pub size : ℕ
   pub cas : Option ℕ
-  pub is_head : IsHead said key flags size cas
+  pub is_head : IsHead line key flags size cas
   pub asked : Asks kind key cas
   pub cut : IsCutData size body ⊎ IsCutEnd size body
 
 pub record IsCutValue (kind : Kind) (bytes : List ℕ) : Type 0 where
   pub head : List ℕ
-  pub said : List ℕ
+  pub line : Split
   pub body : List ℕ
   pub whole : bytes ≡ head ++ body
-  pub is_line : IsLine head said
-  pub is_cut : IsCutBody kind said body
+  pub is_line : IsLine head line
+  pub is_cut : IsCutBody kind line body
 
 -- the bytes are a line that has no end yet, or a value that isn't whole
 abbrev pub Begins : Kind → List ℕ → Type 0
@@ -222,7 +232,7 @@ abbrev pub BeginningHasNone : Type 0
 BeginningHasNone =
     (request : Request) (bytes : List ℕ) → IsBeginning request bytes → NoResponse request bytes
 
--- a word behind a space
+-- a space and the word
 abbrev pub cas_text : Option ℕ → List ℕ
 cas_text None = []
 cas_text (Some n) = codes " " ++ decimal n

@@ -1,16 +1,20 @@
-//! Bytes that came and belong to no item yet.
+//! Bytes that have come and belong to no item yet.
 ghost use Rattle.std.specs.Prelude.{◌≡◌, ◌≤◌, ◌++◌, [], length, take, drop, OnOk, OnErr};
 ghost use Rattle.memchr.specs.Find.{IsFirstByte, is_byte};
-ghost use Rattle.tko_text.specs.Lines.{line_feed};
+ghost use Rattle.tko_bytes.specs.Lines.{line_feed};
 
 use memchr::memchr;
 use std::alloc::{AllocError, Global};
 use std::marker::Model;
+use tko_bytes::clear;
+
+/// The greatest capacity that an empty queue keeps.
+const KEPT_CAPACITY: usize = 65_536;
 
 /// A queue of bytes that is searched for LF, each byte once. Contracts see the bytes in the queue.
 #[derive(Debug, Drop)]
 pub(crate) struct Buffer {
-    /// The bytes, behind those that were taken since they last moved.
+    /// Bytes that were consumed since the last compaction, and the queue.
     bytes: Vec<u8>,
     /// Where the queue begins.
     start: usize,
@@ -79,8 +83,8 @@ impl Buffer {
         &self.bytes[self.start..self.start + len]
     }
 
-    /// Takes the first so many bytes away.
-    pub(crate) fn pass(&mut self, len: usize)
+    /// Removes the first so many bytes.
+    pub(crate) fn consume(&mut self, len: usize)
         requires { len ≤ length self.old }
         ensures { self.new ≡ drop len self.old }
     {
@@ -88,11 +92,16 @@ impl Buffer {
         self.searched = self.searched.max(self.start);
     }
 
-    /// Gives up the room of what was taken away.
-    pub(crate) fn settle(&mut self)
+    /// Gives up the room of the consumed bytes. Where no others are left, a capacity above
+    /// `KEPT_CAPACITY` is released.
+    pub(crate) fn compact(&mut self)
         ensures { self.new ≡ self.old }
     {
-        self.bytes.drain(..self.start);
+        if self.start == self.bytes.len() {
+            clear(&mut self.bytes, KEPT_CAPACITY);
+        } else if self.start > 0 {
+            self.bytes.drain(..self.start);
+        }
         self.searched -= self.start;
         self.start = 0;
     }

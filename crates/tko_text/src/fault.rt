@@ -7,13 +7,13 @@ ghost use Rattle.tko_text.specs.Requests.{fault_text};
 pub enum TextFault {
     /// No word, or a first word that is no command.
     UnknownCommand,
-    /// A wrong number of words, or a word that isn't what its place wants.
+    /// A wrong number of words, or a word that isn't what its place asks for.
     BadLine,
     /// A key outside the rule of keys.
     BadKey,
     /// Data that isn't followed by CR LF.
     BadChunk,
-    /// More data than is taken.
+    /// More data than may be stored.
     TooLarge,
     /// A line that goes on past its limit; nothing more is read.
     LineTooLong,

@@ -1,4 +1,4 @@
-//! What a reader tells.
+//! What a reader returns.
 
 use crate::{Request, TextFault};
 

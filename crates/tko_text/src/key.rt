@@ -5,7 +5,8 @@ use crate::NoMemory;
 use std::alloc::Global;
 use std::marker::Model;
 
-/// 1 to 250 bytes, none of them a control character, a space or 127. Contracts see the list of the bytes.
+/// 1 to 250 bytes, none of them a control character, a space or 127. Contracts see the list of the
+/// bytes.
 #[derive(Debug, Drop)]
 pub struct Key {
     bytes: Vec<u8>,
@@ -35,6 +36,14 @@ impl Key {
         }
         let bytes = Vec::from_slice(alloc, bytes)?;
         Ok(Some(Key { bytes }))
+    }
+
+    /// The same key once more.
+    pub fn copy(&self, alloc: Global) -> Result<Key, NoMemory>
+        ensures { IfOk result (λ key. key ≡ self.now) }
+    {
+        let bytes = Vec::from_slice(alloc, self.bytes.as_slice())?;
+        Ok(Key { bytes })
     }
 
     pub fn as_bytes(&self) -> &[u8]

@@ -1,13 +1,13 @@
 //! Laws of the grammar. Each is the contract of a function that does nothing.
-ghost use Rattle.tko_text.specs.Reading.{FeedingKeeps, OneReading, PrintedIsRead};
+ghost use Rattle.tko_text.specs.Reading.{FeedingKeeps, OneReading, ReadAgain};
 
-/// However the input is cut into pieces, the same items are told.
+/// However the input is cut into pieces, the same items are read.
 pub fn any_cutting()
     ensures feeding { FeedingKeeps }
     ensures one { OneReading }
 {}
 
 /// What `Request::write` prints is read as that request, whatever follows it.
-pub fn printed_is_read()
-    ensures { PrintedIsRead }
+pub fn read_again()
+    ensures { ReadAgain }
 {}

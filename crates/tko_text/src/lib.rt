@@ -1,7 +1,7 @@
 //! The text protocol: requests as bytes in any pieces, and responses as bytes.
 //!
 //! - `Key`: what a value is stored under.
-//! - `Request`: what a client asks; `Item`: a request or a `TextFault`, as a `Reader` tells them.
+//! - `Request`: what a client asks; `Item`: a request or a `TextFault`, as a `Reader` reads them.
 //! - `Response`: what a server answers to a request.
 #![tactic(auto)]
 
@@ -11,20 +11,18 @@ mod item;
 mod key;
 mod laws;
 mod line;
-mod memory;
 mod reader;
 mod request;
 mod response;
-mod words;
 
 pub use fault::TextFault;
 pub use item::Item;
 pub use key::Key;
-pub use laws::{any_cutting, printed_is_read};
-pub use memory::NoMemory;
+pub use laws::{any_cutting, read_again};
 pub use reader::{FeedFault, Reader};
 pub use request::Request;
 pub use response::{Data, ReadFault, Response, Text, Value, one_response};
+pub use tko_bytes::NoMemory;
 
 #[cfg(test)]
 mod tests;

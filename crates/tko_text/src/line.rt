@@ -1,32 +1,22 @@
-//! What a line says.
-ghost use Rattle.std.specs.Prelude.{◌≡◌, [], ◌∷◌, IfOk};
-ghost use Rattle.tko_text.specs.Commands.{Next, keys_said, said, words_said};
-ghost use Rattle.tko_text.specs.Lines.{content};
+//! Request lines.
+ghost use Rattle.std.specs.Prelude.{◌≡◌, ◌≢◌, [], ◌∷◌, IfOk};
+ghost use Rattle.tko_text.specs.Commands.{Next, parsed_keys, parsed, parsed_words};
+ghost use Rattle.tko_bytes.specs.Lines.{content};
 ghost use Rattle.tko_text.specs.Reading.{Completes};
 ghost use Rattle.tko_text.specs.Requests.{Get};
-ghost use Rattle.tko_text.specs.Words.{words};
+ghost use Rattle.tko_bytes.specs.Words.{words};
 
-use crate::words::split_word;
 use crate::{Item, Key, NoMemory, Request, TextFault};
 use std::alloc::Global;
+use tko_bytes::split_word;
 
 /// How many bytes a line may have before its LF, a CR counted.
 pub(crate) const LINE_LIMIT: usize = 65_536;
 
-/// The bytes of a line without the CR at their end.
-#[tactic(auto, using(crate::proofs::LineLemmas::content_cr, crate::proofs::LineLemmas::content_other))]
-pub(crate) fn content_of(line: &[u8]) -> &[u8]
-    ensures { result.now ≡ content line.now }
-{
-    match line {
-        [front @ .., b'\r'] => front,
-        _ => line,
-    }
-}
-
 /// The item of a line that holds these bytes.
 pub(crate) fn read_line(alloc: Global, line: &[u8]) -> Result<Item, NoMemory>
-    ensures { IfOk result (λ item. Completes (said line.now) [] item Next) }
+    ensures item { IfOk result (λ item. Completes (parsed line.now) [] item Next) }
+    ensures short { IfOk result (λ item. item ≢ Item.Fault TextFault.LineTooLong) }
 {
     match split_word(line) {
         Some((word, rest)) => read_command(alloc, word, rest),
@@ -34,10 +24,11 @@ pub(crate) fn read_line(alloc: Global, line: &[u8]) -> Result<Item, NoMemory>
     }
 }
 
-/// The item of a command word with these bytes behind it.
+/// The item of a command word that these bytes follow.
 fn read_command(alloc: Global, word: &[u8], rest: &[u8]) -> Result<Item, NoMemory>
-    ensures { IfOk result (λ item.
-        Completes (words_said (word.now ∷ words rest.now)) [] item Next) }
+    ensures item { IfOk result (λ item.
+        Completes (parsed_words (word.now ∷ words rest.now)) [] item Next) }
+    ensures short { IfOk result (λ item. item ≢ Item.Fault TextFault.LineTooLong) }
 {
     if word == b"get".as_slice() {
         read_get(alloc, rest)
@@ -46,9 +37,10 @@ fn read_command(alloc: Global, word: &[u8], rest: &[u8]) -> Result<Item, NoMemor
     }
 }
 
-/// The item of a `get` with these bytes behind it.
+/// The item of a `get` that these bytes follow.
 fn read_get(alloc: Global, rest: &[u8]) -> Result<Item, NoMemory>
-    ensures { IfOk result (λ item. Completes (keys_said Get (words rest.now)) [] item Next) }
+    ensures item { IfOk result (λ item. Completes (parsed_keys Get (words rest.now)) [] item Next) }
+    ensures short { IfOk result (λ item. item ≢ Item.Fault TextFault.LineTooLong) }
 {
     let Some((key, rest)) = split_word(rest) else {
         return Ok(Item::Fault(TextFault::BadLine));
@@ -61,7 +53,8 @@ fn read_get(alloc: Global, rest: &[u8]) -> Result<Item, NoMemory>
 
 /// The item of a `get` of one key.
 fn get_of(alloc: Global, key: &[u8]) -> Result<Item, NoMemory>
-    ensures { IfOk result (λ item. Completes (keys_said Get (key.now ∷ [])) [] item Next) }
+    ensures item { IfOk result (λ item. Completes (parsed_keys Get (key.now ∷ [])) [] item Next) }
+    ensures short { IfOk result (λ item. item ≢ Item.Fault TextFault.LineTooLong) }
 {
     match Key::of(alloc, key)? {
         Some(key) => Ok(Item::Request(Request::Get { key })),

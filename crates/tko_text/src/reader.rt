@@ -1,14 +1,15 @@
-//! Items out of bytes that come in any pieces.
-ghost use Rattle.std.specs.Prelude.{◌≡◌, ◌↔◌, length, IfOk, IfNone, IfSome, IsErrOf, OnOk, OnErr};
+//! Reads items from bytes that come in any pieces.
+ghost use Rattle.std.specs.Prelude.{◌≡◌, ◌≢◌, ◌↔◌, length, IfOk, IfNone, IfSome, IsErrOf, OnOk, OnErr};
 
 use crate::buffer::Buffer;
-use crate::line::{LINE_LIMIT, content_of, read_line};
+use crate::line::{LINE_LIMIT, read_line};
 use crate::{Item, NoMemory, TextFault};
 use std::alloc::{AllocError, Global};
 use std::marker::Model;
 use thiserror::Error;
+use tko_bytes::content;
 
-/// Why a piece isn't taken.
+/// Why a piece was not taken.
 #[derive(Clone, Copy, Debug, PartialEq, Eq, Error)]
 pub enum FeedFault {
     #[error("memory")]
@@ -29,7 +30,7 @@ impl From<AllocError> for FeedFault {
     }
 }
 
-/// Reads requests, in pieces as they come. Contracts see where its reading stands.
+/// Reads requests and faults from the pieces of an input. Contracts see the state of reading.
 #[derive(Debug, Drop)]
 pub struct Reader {
     alloc: Global,
@@ -47,7 +48,7 @@ impl Model for Reader {
 }
 
 impl Reader {
-    ghost use Rattle.tko_text.specs.Reading.{start, fed, Tells, IsOpen, Next, Never};
+    ghost use Rattle.tko_text.specs.Reading.{start, fed, Emits, NeedsMore, Next, Never};
     ghost use Rattle.tko_text.specs.Lines.{IsEndedAt, IsBeyond};
 
     /// A reader that has read nothing.
@@ -74,12 +75,16 @@ impl Reader {
         Ok(())
     }
 
-    /// The next item of what came so far, or `None` where it needs more.
+    /// The next item of the bytes so far, or `None` where it needs more. After `LineTooLong` it is
+    /// always `Ok(None)`, and `feed` fails with `Failed`.
     pub fn next(&mut self) -> Result<Option<Item>, NoMemory>
-        ensures item { IfOk result (λ found. IfSome found (λ item. Tells self.old item self.new)) }
+        ensures item { IfOk result (λ found. IfSome found (λ item. Emits self.old item self.new)) }
+        ensures too_long { IfOk result (λ found. IfSome found (λ item.
+            item ≡ Item.Fault TextFault.LineTooLong → self.new.after ≡ Never)) }
         ensures none { IfOk result (λ found. IfNone found
-            (IsOpen self.old × (self.new ≡ self.old))) }
+            (NeedsMore self.old × (self.new ≡ self.old))) }
         ensures err { OnErr result (self.new ≡ self.old) }
+        ensures never { OnErr result (self.old.after ≢ Never) }
     {
         if self.failed {
             return Ok(None);
@@ -89,7 +94,7 @@ impl Reader {
             Some(_) => Ok(Some(self.fail())),
             None if self.buffer.len() > LINE_LIMIT => Ok(Some(self.fail())),
             None => {
-                self.buffer.settle();
+                self.buffer.compact();
                 Ok(None)
             }
         }
@@ -99,28 +104,31 @@ impl Reader {
     fn read(&mut self, len: usize) -> Result<Item, NoMemory>
         requires next { self.old.after ≡ Next }
         requires line { IsEndedAt self.old.unread len }
-        ensures ok { IfOk result (λ item. Tells self.old item self.new) }
+        ensures ok { IfOk result (λ item. Emits self.old item self.new) }
+        ensures short { IfOk result (λ item. item ≢ Item.Fault TextFault.LineTooLong) }
         ensures err { OnErr result (self.new ≡ self.old) }
     {
-        let line = content_of(self.buffer.front(len));
+        let line = content(self.buffer.front(len));
         let item = read_line(self.alloc, line)?;
-        self.buffer.pass(len + 1);
+        self.buffer.consume(len + 1);
         Ok(item)
     }
 
-    /// The fault of a line past its limit, behind which nothing is read.
+    /// The fault of a line past its limit, after which nothing is read.
     fn fail(&mut self) -> Item
         requires next { self.old.after ≡ Next }
         requires line { IsBeyond self.old.unread }
-        ensures { Tells self.old result self.new }
+        ensures item { Emits self.old result self.new }
+        ensures after { self.new.after ≡ Never }
     {
         let len = self.buffer.len();
-        self.buffer.pass(len);
+        self.buffer.consume(len);
+        self.buffer.compact();
         self.failed = true;
         Item::Fault(TextFault::LineTooLong)
     }
 
-    /// How many bytes came of an item that isn't whole.
+    /// How many bytes have come of an item that isn't whole.
     pub fn unfinished(&self) -> usize
         ensures { result ≡ length self.now.unread }
     {

@@ -1,10 +1,10 @@
 //! What a client asks.
-ghost use Rattle.std.specs.Prelude.{◌≡◌, ◌++◌, length, take, IfOk, OnOk, OnErr};
-ghost use Rattle.tko_text.specs.Lines.{crlf};
+ghost use Rattle.std.specs.Prelude.{◌≡◌, ◌++◌, IfOk, OnOk, OnErr};
 ghost use Rattle.tko_text.specs.Requests.{request_text};
 
 use crate::{Key, NoMemory};
 use std::alloc::Global;
+use tko_bytes::append;
 
 /// A request of the protocol.
 #[derive(Debug, Drop)]
@@ -30,31 +30,7 @@ impl Request {
         ensures err { OnErr result (out.new.items ≡ out.old.items) }
     {
         match self {
-            Request::Get { key } => append_line(out, b"get ", key.as_bytes()),
+            Request::Get { key } => append(out, &[b"get ", key.as_bytes(), b"\r\n"]),
         }
     }
-}
-
-/// Puts a line of a word with its space and a key at the end of `out`.
-fn append_line(out: &mut Vec<u8>, word: &[u8], key: &[u8]) -> Result<(), NoMemory>
-    ensures ok { OnOk result (out.new.items ≡ out.old.items ++ (word.now ++ key.now ++ crlf)) }
-    ensures err { OnErr result (out.new.items ≡ out.old.items) }
-{
-    let before = out.len();
-    let appended = append_parts(out, word, key);
-    if appended.is_err() {
-        out.truncate(before);
-    }
-    appended
-}
-
-/// The same, but that a part of it may be there at an `Err`.
-fn append_parts(out: &mut Vec<u8>, word: &[u8], key: &[u8]) -> Result<(), NoMemory>
-    ensures ok { OnOk result (out.new.items ≡ out.old.items ++ (word.now ++ key.now ++ crlf)) }
-    ensures err { OnErr result (take (length out.old.items) out.new.items ≡ out.old.items) }
-{
-    out.extend_from_slice(word)?;
-    out.extend_from_slice(key)?;
-    out.extend_from_slice(b"\r\n")?;
-    Ok(())
 }

@@ -21,7 +21,7 @@ pub enum Response {
 impl Response {
     /// The answer to the request at the front of the bytes, and how many bytes it takes.
     /// More may follow it.
-    /// Want of memory may take the place of each answer.
+    /// It may instead fail with `Memory`, whatever the bytes are.
     pub fn read(
         alloc: Global,
         request: &Request,
@@ -38,7 +38,7 @@ impl Response {
         ensures ok { OnOk result (out.new.items ≡ out.old.items ++ response_text self.now) }
         ensures err { OnErr result (out.new.items ≡ out.old.items) }
     {
-        writer::append(self, out)
+        writer::append_response(self, out)
     }
 
     /// The written form.
@@ -55,7 +55,6 @@ mod body;
 mod fault;
 mod laws;
 mod line;
-mod number;
 mod reader;
 mod writer;
 

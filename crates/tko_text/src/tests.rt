@@ -2,7 +2,7 @@ use super::*;
 use std::alloc::Global;
 use std::test::Fail;
 
-/// What is told of an item: the printed request, or the reply to the fault.
+/// The printed request, or the reply to the fault.
 fn text_of(alloc: Global, item: &Item) -> Result<Vec<u8>, NoMemory> {
     match item {
         Item::Request(request) => request.write(alloc),
@@ -10,26 +10,26 @@ fn text_of(alloc: Global, item: &Item) -> Result<Vec<u8>, NoMemory> {
     }
 }
 
-/// Adds what a reader tells until it needs more.
-fn tell(alloc: Global, reader: &mut Reader, told: &mut Vec<u8>) -> Result<(), NoMemory> {
+/// Appends the text of each item until the reader needs more.
+fn append_items(alloc: Global, reader: &mut Reader, text: &mut Vec<u8>) -> Result<(), NoMemory> {
     for _ in 0..u64::MAX {
         let Some(item) = reader.next()? else {
             break;
         };
-        told.extend_from_slice(text_of(alloc, &item)?.as_slice())?;
+        text.extend_from_slice(text_of(alloc, &item)?.as_slice())?;
     }
     Ok(())
 }
 
-/// What is told of an input in pieces of so many bytes, and how many bytes are unfinished.
+/// The items' text of an input in pieces of so many bytes, and how many bytes are unfinished.
 fn read(alloc: Global, input: &[u8], step: usize) -> Result<(Vec<u8>, usize), Fail> {
-    let mut told = Vec::new(alloc);
+    let mut text = Vec::new(alloc);
     let mut reader = Reader::new(alloc);
     for piece in input.chunks(step.max(1)) {
         reader.feed(piece)?;
-        tell(alloc, &mut reader, &mut told)?;
+        append_items(alloc, &mut reader, &mut text)?;
     }
-    Ok((told, reader.unfinished()))
+    Ok((text, reader.unfinished()))
 }
 
 #[test]
@@ -50,8 +50,8 @@ fn each_line_is_one_item(rt: HostRuntime) -> Result<(), Fail> {
     ];
     for (input, wanted, unfinished) in rows {
         for step in [1, 3, 64] {
-            let (told, left) = read(rt.alloc(), input.as_bytes(), step)?;
-            assert_eq!(rt; told.as_slice(), wanted.as_bytes());
+            let (text, left) = read(rt.alloc(), input.as_bytes(), step)?;
+            assert_eq!(rt; text.as_slice(), wanted.as_bytes());
             assert_eq!(rt; left, unfinished);
         }
     }
@@ -76,15 +76,15 @@ fn limits_of_keys_and_lines(rt: HostRuntime) -> Result<(), Fail> {
     ];
     for (word, count, wanted) in rows {
         let line = long_line(rt.alloc(), word.as_bytes(), count)?;
-        let (told, left) = read(rt.alloc(), &line, 70000)?;
-        assert!(rt; told.as_slice().starts_with(wanted.as_bytes()));
+        let (text, left) = read(rt.alloc(), &line, 70000)?;
+        assert!(rt; text.as_slice().starts_with(wanted.as_bytes()));
         assert_eq!(rt; left, 0);
     }
     Ok(())
 }
 
 #[test]
-fn nothing_is_read_behind_a_line_too_long(rt: HostRuntime) -> Result<(), Fail> {
+fn nothing_is_read_after_a_line_too_long(rt: HostRuntime) -> Result<(), Fail> {
     let mut reader = Reader::new(rt.alloc());
     reader.feed(vec![in rt.alloc(); b'x'; 65536]?.as_slice())?;
     assert!(rt; reader.next()?.is_none());

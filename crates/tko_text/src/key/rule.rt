@@ -3,11 +3,11 @@ ghost use Rattle.std.specs.Prelude.{◌↔◌, IsTrue};
 ghost use Rattle.tko_text.specs.Keys.{IsKey};
 
 /// The longest key, in bytes.
-const MAX_KEY: usize = 250;
+const KEY_LIMIT: usize = 250;
 
 /// Whether these bytes are a key.
 pub(crate) fn is_key(bytes: &[u8]) -> bool
     ensures { IsTrue result ↔ IsKey bytes.now }
 {
-    (1..=MAX_KEY).contains(&bytes.len()) && bytes.iter().all(|b| *b > b' ' && *b != 127)
+    (1..=KEY_LIMIT).contains(&bytes.len()) && bytes.iter().all(|b| *b > b' ' && *b != 127)
 }

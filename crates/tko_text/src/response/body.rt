@@ -7,7 +7,7 @@ use memchr::memchr;
 use std::marker::Model;
 
 /// The most bytes that are stored under one key.
-pub(crate) const MAX_DATA: usize = 1_048_576;
+pub(crate) const DATA_LIMIT: usize = 1_048_576;
 
 /// What is stored under a key.
 #[derive(Debug, Drop)]
@@ -46,7 +46,7 @@ impl Data {
     pub fn fits(bytes: &[u8]) -> bool
         ensures { IsTrue result ↔ IsData bytes.now }
     {
-        bytes.len() <= MAX_DATA
+        bytes.len() <= DATA_LIMIT
     }
 
     pub fn as_bytes(&self) -> &[u8]

@@ -1,9 +1,9 @@
 use Rattle.std.proofs.Common.{◌∙◌, arith}
 use Rattle.std.proofs.lemmas.List.{drop_all}
-use Rattle.tko_text.proofs.ReadingLemmas.{Tells-failed}
+use Rattle.tko_text.proofs.ReadingLemmas.{Emits-failed}
 use Rattle.tko_text.proofs.reader.Reader.fail.Goals as goal
 
-pub returns : goal.returns
-returns c =
-    let none = c.pass.ensures ∙ drop_all c.len-len.result c.self.inside.buffer (omega arith) in
-    Tells-failed c.args.self.now c.pass.new.self c.requires.next none c.requires.line
+pub returns-clause-item : goal.returns-clause-item
+returns-clause-item c =
+    let none = c.compact.ensures ∙ c.consume.ensures ∙ drop_all c.len-len.result c.self.inside.buffer (omega arith) in
+    Emits-failed c.args.self.now c.compact.new.self c.requires.next none c.requires.line

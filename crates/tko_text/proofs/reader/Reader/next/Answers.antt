@@ -1,13 +1,13 @@
 use Rattle.std.proofs.Common.{◌≡◌, ap, sym, ◌∙◌, refl, arith, cond, subst, length, None}
 use Rattle.memchr.specs.Find.{IsFirstByte, is_byte}
-use Rattle.tko_text.specs.Lines.{line_feed}
+use Rattle.tko_bytes.specs.Lines.{line_feed}
 use Rattle.tko_text.specs.Reading.{Reading, Next, Never}
-use Rattle.tko_text.proofs.ReadingLemmas.{IsOpen-failed, IsOpen-waiting, IsEndedAt-found, IsBeyond-late, IsBeyond-none}
+use Rattle.tko_text.proofs.ReadingLemmas.{NeedsMore-failed, NeedsMore-waiting, IsEndedAt-found, IsBeyond-late, IsBeyond-none}
 use Rattle.tko_text.proofs.reader.Reader.next.Goals as goal
 
 pub returns-then-self-clause-none : goal.returns-then-self-clause-none
 returns-then-self-clause-none c = (
-  IsOpen-failed c.args.self.now
+  NeedsMore-failed c.args.self.now
       (ap (λ (r : Reading). r.after) (sym c.self.view_is) ∙ ap (λ b. cond b Never Next) c.if-self.true),
   refl,
 )
@@ -34,9 +34,9 @@ returns-in-None-2-clause-none c =
     let after = ap (λ (r : Reading). r.after) (sym c.self.view_is) ∙ ap (λ b. cond b Never Next) c.if-self.false in
     let unread = ap (λ (r : Reading). r.unread) c.self.view_is in
     let none = rw c.in-None-2.is at c.line_end.ensures.found in (
-      IsOpen-waiting c.args.self.now after
+      NeedsMore-waiting c.args.self.now after
           (subst (λ bytes. IsFirstByte (is_byte line_feed) bytes None) unread none)
           (omega (arith, ap length unread, ap length c.line_end.ensures.kept)),
       ap (λ bytes. record { after = cond c.self.inside.failed Never Next; unread = bytes })
-          (c.settle.ensures ∙ c.line_end.ensures.kept) ∙ c.self.view_is,
+          (c.compact.ensures ∙ c.line_end.ensures.kept) ∙ c.self.view_is,
     )
