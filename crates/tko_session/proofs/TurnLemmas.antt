@@ -15,7 +15,7 @@ use Rattle.tko_text.specs.Requests.{fault_text}
 use Rattle.tko_route.specs.Links.{LinksItem}
 use Rattle.tko_session.specs.declared.parts.Parts.{Parts}
 use Rattle.tko_session.specs.Told.{Told}
-use Rattle.tko_text.specs.Reading.{Reading, Gives, Tells}
+use Rattle.tko_text.specs.Reading.{Reading, Gives, Emits}
 use Rattle.tko_route.specs.Trail.{sends_in}
 use Rattle.tko_session.specs.Turns.{Turn, IsTurn, reply_text}
 use Rattle.tko_session.specs.Standing.{Standing, Turned, Answered, Replied, EndsTooLong, sent_by, capped, is_request, items_of, text_of, trails_of, requests_in, sends_to, line_too_long}
@@ -98,7 +98,7 @@ ends_later {from} {mid} {items} gives ends = record {
       subst (λ told. Gives from told ends.left) (sym (append_assoc items ends.items (line_too_long ∷ []))) all;
 }
 
-pub ends_here : (from to : Reading) (fault : TextFault) → Tells from (item.Fault fault) to → fault ≡ LineTooLong → EndsTooLong from
+pub ends_here : (from to : Reading) (fault : TextFault) → Emits from (item.Fault fault) to → fault ≡ LineTooLong → EndsTooLong from
 ends_here from to fault tells e = record {
   items = [];
   left = to;
@@ -108,7 +108,7 @@ ends_here from to fault tells e = record {
 module _ {H L T : Type 0} {steps : H → HealthItem → H → Type 0} {exchanges : L → LinksItem → L → Type 0} {sent : L → ℕ → ℕ} {tells : T → Told → T → Type 0} where
   -- a fault is a turn that changes nothing but the outbox
   pub answered_fault : (old mid new : Standing) (world : Parts H L T) (fault : TextFault)
-      → Tells old.reading (item.Fault fault) mid.reading → mid ≡ record old { reading = mid.reading }
+      → Emits old.reading (item.Fault fault) mid.reading → mid ≡ record old { reading = mid.reading }
       → new ≡ record mid { outbox = mid.outbox ++ fault_text fault } → fault ≢ LineTooLong
       → Answered (IsTurn steps exchanges sent tells) (sent_by sent) old world new world
   answered_fault old mid new world fault told same e goes_on = record {
@@ -127,7 +127,7 @@ module _ {H L T : Type 0} {steps : H → HealthItem → H → Type 0} {exchanges
 
   -- a request that was replied to is a turn
   pub answered_request : (old mid new : Standing) (before after : Parts H L T) (request : Request)
-      → Tells old.reading (item.Request request) mid.reading → mid ≡ record old { reading = mid.reading }
+      → Emits old.reading (item.Request request) mid.reading → mid ≡ record old { reading = mid.reading }
       → Replied steps exchanges sent tells mid before request new after
       → Answered (IsTurn steps exchanges sent tells) (sent_by sent) old before new after
   answered_request old mid new before after request told same replied = record {

@@ -1,7 +1,7 @@
 -- What a whole session did.
 use Rattle.std.specs.Prelude.{◌≡◌, ◌≢◌, ℕ, ◌+◌, List, [], All, length}
 use Rattle.tko_model.specs.Records.{Gains}
-use Rattle.tko_text.specs.Reading.{Reading, Reads, IsOpen, start, fed}
+use Rattle.tko_text.specs.Reading.{Reading, Reads, NeedsMore, start, fed}
 use Rattle.tko_session.specs.declared.session.Report.{Report}
 use Rattle.tko_session.specs.Turns.{Turn}
 use Rattle.tko_session.specs.Standing.{Standing, Turned, EndsTooLong, fresh, fed_standing, capped, items_of, text_of, trails_of, requests_in, sends_to, line_too_long}
@@ -32,7 +32,7 @@ module _ {I O W : Type 0} (gives : I → List ℕ → I → Type 0) (takes : O �
     pub turns : List Turn
     pub input : gives reader bytes reader'
     pub turned : Turned step sent (fed_standing fresh bytes) parts turns standing parts'
-    pub open_item : IsOpen standing.reading
+    pub open_item : NeedsMore standing.reading
     pub output : takes writer (text_of turns) writer'
     pub outbox : standing.outbox ≡ []
 
@@ -50,6 +50,6 @@ pub record Passed {O W : Type 0} (takes : O → List ℕ → O → Type 0)
     (new : Standing) (writer' : O) (after : W) : Type 0 where
   pub turns : List Turn
   pub turned : Turned step sent old before turns new after
-  pub open_item : IsOpen new.reading
+  pub open_item : NeedsMore new.reading
   pub output : takes writer (text_of turns) writer'
   pub outbox : new.outbox ≡ []

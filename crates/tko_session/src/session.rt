@@ -2,7 +2,7 @@
 ghost use Rattle.std.specs.Prelude.{◌≡◌, ◌≢◌, ◌++◌, [], Err, OnOk, IfOk, IfSome, IfNone, IsErrOf, length};
 ghost use Rattle.std.specs.Bool.{OnFalse};
 ghost use Rattle.std.specs.Option.{option_copied};
-ghost use Rattle.tko_text.specs.Reading.{Tells, IsOpen, fed};
+ghost use Rattle.tko_text.specs.Reading.{Emits, NeedsMore, fed};
 ghost use Rattle.tko_text.specs.Requests.{fault_text};
 ghost use Rattle.tko_session.specs.Turns.{IsTurn, text_of_answer};
 ghost use Rattle.tko_session.specs.Standing.{Answered, EndsTooLong, Reaches, Replied, fed_standing, fresh, sent_by};
@@ -95,7 +95,7 @@ impl Session {
         ensures ok { OnOk result (Answered
             (IsTurn H.steps L.exchanges L.sent T.tells) (sent_by L.sent)
             (fed_standing self.old piece.now) parts.old self.new parts.new) }
-        ensures open { OnOk result (IsOpen self.new.reading) }
+        ensures open { OnOk result (NeedsMore self.new.reading) }
         ensures too_long { IsErrOf result PieceFault.LineTooLong
             → EndsTooLong (fed self.old.reading piece.now) }
         ensures reach { Reaches H.servers L.servers parts.new }
@@ -121,7 +121,7 @@ impl Session {
         ensures ok { OnOk result (Answered
             (IsTurn H.steps L.exchanges L.sent T.tells) (sent_by L.sent)
             self.old parts.old self.new parts.new) }
-        ensures open { OnOk result (IsOpen self.new.reading) }
+        ensures open { OnOk result (NeedsMore self.new.reading) }
         ensures too_long { IsErrOf result PieceFault.LineTooLong → EndsTooLong self.old.reading }
         ensures reach { Reaches H.servers L.servers parts.new }
     {
@@ -144,7 +144,7 @@ impl Session {
         ensures ok { IfOk result (λ _. Answered
             (IsTurn H.steps L.exchanges L.sent T.tells) (sent_by L.sent)
             self.old parts.old self.new parts.new) }
-        ensures none { IfOk result (λ some. OnFalse some (IsOpen self.new.reading)) }
+        ensures none { IfOk result (λ some. OnFalse some (NeedsMore self.new.reading)) }
         ensures too_long { IsErrOf result PieceFault.LineTooLong → EndsTooLong self.old.reading }
         ensures reach { Reaches H.servers L.servers parts.new }
     {
@@ -163,9 +163,9 @@ impl Session {
 
     fn next(&mut self) -> Result<Option<Item>, NoMemory>
         ensures item { IfOk result (λ found. IfSome found
-            (λ item. Tells self.old.reading item self.new.reading)) }
+            (λ item. Emits self.old.reading item self.new.reading)) }
         ensures none { IfOk result (λ found. IfNone found
-            (IsOpen self.old.reading × (self.new ≡ self.old))) }
+            (NeedsMore self.old.reading × (self.new ≡ self.old))) }
         ensures others { self.new ≡ record self.old { reading = self.new.reading } }
     {
         self.reader.next()
