@@ -3,7 +3,7 @@
 use std::alloc::{AllocError, AllocFailed};
 use thiserror::Error;
 use tko_model::SettingsFault;
-use tko_runs::{PlayFault, RunFault, ScheduleFault};
+use tko_runs::{RunFault, ScheduleFault};
 use tko_session::SessionFault;
 
 /// Why a command ended with the status 1. Its text is the line that says so, without the line's end.
@@ -83,16 +83,14 @@ impl From<ScheduleFault> for Fault {
     }
 }
 
-impl From<PlayFault> for Fault {
+impl From<NoMemory> for Fault {
     ghost use Rattle.std.specs.Prelude.{◌≡◌};
     ghost use Rattle.tko_cli.specs.declared.fault.Fault.TheVariants.{Memory};
 
     ghost from_gives = { λ _ fault. fault ≡ Memory };
 
-    fn from(cause: PlayFault) -> Fault {
-        match cause {
-            PlayFault::Memory => Fault::Memory,
-        }
+    fn from(_: NoMemory) -> Fault {
+        Fault::Memory
     }
 }
 

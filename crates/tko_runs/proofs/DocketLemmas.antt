@@ -131,7 +131,7 @@ Stands-followed w old mid thread at found left answer is come did =
     rw (did.leads.is_place, did.leads.leaves) (ap (λ servers. set servers server now) is.servers) in
     let number : did.sight.at ≡ own.at = did.numbered ∙ ap (λ n. n + 1) is.steps in
     let parts = AreCalls-stepped old.settings old.register w.past old.calls mid.calls did.sight answer own is.calls did.grows is.threads come.0 come.1 refl
-    (λ other kept. IsSight-shown old.settings old.servers.items call.number call.op call.server server now did.sight other own did.shows number kept.number kept.op kept.server is.servers after) in
+    (λ other kept. IsSight-shown old.settings old.servers.items call server now did.sight other own did.shows number kept.number kept.op kept.server is.servers after) in
     record {
       settings = rw did.settings is.settings;
       roll = rw did.register (ap (λ roll. roll_after roll event) is.roll);

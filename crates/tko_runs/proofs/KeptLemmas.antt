@@ -13,7 +13,7 @@ use Rattle.tko_runs.specs.declared.event.Event.TheVariants.{Begin}
 use Rattle.tko_runs.specs.declared.judging.OwnCall.{OwnCall}
 use Rattle.tko_runs.specs.declared.judging.Sight.{Sight}
 use Rattle.tko_runs.specs.Claims.{HasCall, IsIdle, Roll, answered, roll_after, standing}
-use Rattle.tko_runs.specs.Dockets.{AreCalls, AreKept, HasBegun, HasGrown, HasStepped, IsLatest, Shows, latest_place}
+use Rattle.tko_runs.specs.Dockets.{AreCalls, AreKept, HasBegun, HasGrown, HasStepped, IsLatest, Shows, latest_place, transition_of}
 use Rattle.tko_runs.specs.Sights.{AreSights, IsKept, IsSight}
 use Rattle.tko_steps.specs.declared.thread.ThreadState.{ThreadState}
 use Rattle.tko_steps.specs.declared.thread.ThreadState.TheVariants.{NotEnrolled, Idle, InCall}
@@ -54,16 +54,16 @@ AreSights-and_step s call own (step ∷ steps) (sight ∷ sights) are =
     (IsSight-and_step s call own step sight are.0, AreSights-and_step s call own steps sights are.1)
 
 -- what is shown of a call is its sight
-pub IsSight-shown : (s : Settings) (servers : List ServerState) (number : ℕ) (op : Op) (on server : ℕ) (left : ServerState)
-    (sight : Sight) (call : Call) (own : OwnStep) → Shows s servers number op on server left sight
-    → sight.at ≡ own.at → number ≡ call.number → op ≡ call.op → on ≡ call.server → servers ≡ own.step.before
-    → set servers server left ≡ own.step.after → IsSight s call own sight
-IsSight-shown s servers number op on server left sight call own shows at numbered asks on_server before after =
-    let one : Transition = transition_on (tracker_in s servers) number op on in
+pub IsSight-shown : (s : Settings) (servers : List ServerState) (kept : OwnCall) (server : ℕ) (left : ServerState)
+    (sight : Sight) (call : Call) (own : OwnStep) → Shows s servers kept server left sight
+    → sight.at ≡ own.at → kept.number ≡ call.number → kept.op ≡ call.op → kept.server ≡ call.server
+    → servers ≡ own.step.before → set servers server left ≡ own.step.after → IsSight s call own sight
+IsSight-shown s servers kept server left sight call own shows at numbered asks on_server before after =
+    let one : Transition = transition_of s servers kept in
     let other : Transition = transition_on (tracker_in s own.step.before) call.number call.op call.server in
     let same : one ≡ other = rw (numbered, asks, on_server, before) refl in
     let replies : one.reply ≡ other.reply = ap (λ (t : Transition). t.reply) same in
-    let changes : changed servers on one.change ≡ changed own.step.before call.server other.change =
+    let changes : changed servers kept.server one.change ≡ changed own.step.before call.server other.change =
     rw (same, on_server, before) refl in
     record {
       number = at;
@@ -74,8 +74,8 @@ IsSight-shown s servers number op on server left sight call own shows at numbere
       effect = λ reply. (
         λ e.
             let p = (shows.effect reply).0 e in
-            record { reply = sym replies ∙ p.0; change = sym changes ∙ (p.1 ∙ after) },
-        λ effect. (shows.effect reply).1 (replies ∙ effect.reply, changes ∙ (effect.change ∙ sym after)),
+            record { reply = sym replies ∙ p.reply; change = sym changes ∙ (p.change ∙ after) },
+        λ effect. (shows.effect reply).1 (record { reply = replies ∙ effect.reply; change = changes ∙ (effect.change ∙ sym after) }),
       );
     }
 

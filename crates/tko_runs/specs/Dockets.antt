@@ -4,6 +4,7 @@ use Rattle.tko_model.specs.declared.mark.Op.{Op}
 use Rattle.tko_model.specs.declared.mark.Reply.{Reply}
 use Rattle.tko_model.specs.declared.settings.Settings.{Settings}
 use Rattle.tko_model.specs.declared.state.ServerState.{ServerState}
+use Rattle.tko_model.specs.declared.transition.Transition.{Transition}
 use Rattle.tko_model.specs.Ranges.{IsWithinRanges}
 use Rattle.tko_model.specs.Tracker.{IsFit, changed, server_at, transition_on}
 use Rattle.tko_runs.specs.declared.calls.Calls.{Calls}
@@ -101,15 +102,33 @@ pub record AreCalls (s : Settings) (roll : Roll) (past : List Moment) (own : Cal
 
 -- What a step shows.
 
--- where these servers stand, a step that leaves this of a server shows that of a call of this
--- thread: whether it leaves all as it was, and the reply if it leaves what the sequential tracker
--- leaves
-pub record Shows (s : Settings) (servers : List ServerState) (number : ℕ) (op : Op) (on server : ℕ) (left : ServerState) (sight : Sight) : Type 0 where
+-- what the sequential tracker answers and changes for a call, in the state of these servers
+abbrev pub transition_of : Settings → List ServerState → OwnCall → Transition
+transition_of s servers call =
+    transition_on (tracker_in s servers) call.number call.op call.server
+
+-- the tracker gives this reply there, and its change leaves these servers
+pub record Gives
+    (s : Settings)
+    (servers : List ServerState)
+    (call : OwnCall)
+    (given : Reply)
+    (new : List ServerState) : Type 0 where
+  pub reply : (transition_of s servers call).reply ≡ given
+  pub change : changed servers call.server (transition_of s servers call).change ≡ new
+
+-- this is what a step shows that finds these servers and leaves one of them so: whether it changes
+-- nothing, and the tracker's reply if it makes the tracker's change
+pub record Shows
+    (s : Settings)
+    (servers : List ServerState)
+    (call : OwnCall)
+    (server : ℕ)
+    (left : ServerState)
+    (sight : Sight) : Type 0 where
   pub quiet : (sight.is_quiet ≡ true) ↔ (slice_set servers server left ≡ servers)
-  pub effect : (reply : Reply) →
-      (sight.effect ≡ Some reply)
-      ↔ (((transition_on (tracker_in s servers) number op on).reply ≡ reply)
-      × (changed servers on (transition_on (tracker_in s servers) number op on).change ≡ slice_set servers server left))
+  pub effect : (given : Reply) →
+      (sight.effect ≡ Some given) ↔ Gives s servers call given (slice_set servers server left)
 
 -- Words.
 
@@ -173,7 +192,7 @@ pub record HasFollowed
   pub sight : Sight
   pub numbered : sight.at ≡ old.steps + 1
   pub grows : HasStepped old.calls thread sight answer new.calls
-  pub shows : Shows old.settings old.servers.items grows.call.number grows.call.op grows.call.server server now sight
+  pub shows : Shows old.settings old.servers.items grows.call server now sight
   pub settings : new.settings ≡ old.settings
   pub register : new.register ≡ old.register
   pub servers : new.servers.items ≡ slice_set old.servers.items server now

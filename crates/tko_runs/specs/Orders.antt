@@ -37,14 +37,18 @@ abbrev pub with_change : ServerState → Option Mark → ServerState
 with_change found None = found
 with_change found (Some mark) = record { mark = mark; stamp = found.stamp + 1 }
 
+-- a server's word after an operation of a thread, for this number of soft marks
+abbrev pub word_after : Settings → ℕ → ℕ → Op → ServerState → ServerState
+word_after s softs thread op found =
+    with_change found (transition s (has_room s softs) thread op found.mark found.stamp).change
+
 -- some operation of some thread leaves this of a server's word, for some number of soft marks
 pub record CanBecome (s : Settings) (found left : ServerState) : Type 0 where
   pub thread : ℕ
   pub op : Op
   pub softs : ℕ
   pub is_thread : thread < s.threads
-  pub leaves : left
-      ≡ with_change found (transition s (has_room s softs) thread op found.mark found.stamp).change
+  pub leaves : left ≡ word_after s softs thread op found
 
 -- a step of this kind can leave this of a word, whoever takes it: the word alone decides
 abbrev pub CanLeave : Settings → Kind → Word → Word → Type 0

@@ -1,10 +1,10 @@
-//! What a step of a whole call can leave of a server's word, whoever takes it.
+//! The words of a server that a step can leave, whoever takes it.
 ghost use Rattle.std.specs.Prelude.{◌≡◌, ◌+◌, ◌<◌, ◌^◌, ◌↔◌, true, unwrap_or};
 ghost use Rattle.std.specs.Option.{option_or};
 ghost use Rattle.tko_model.specs.declared.mark.Op.{Op};
 ghost use Rattle.tko_model.specs.Ranges.{IsWithinRanges};
-ghost use Rattle.tko_model.specs.Tracker.{IsFit, has_room, transition};
-ghost use Rattle.tko_runs.specs.Orders.{CanBecome, with_change};
+ghost use Rattle.tko_model.specs.Tracker.{IsFit};
+ghost use Rattle.tko_runs.specs.Orders.{CanBecome, with_change, word_after};
 ghost use Rattle.tko_steps.specs.Core.{owner_of};
 
 use tko_model::{Mark, Op, ServerState, Settings, Transition};
@@ -36,15 +36,13 @@ fn owner_of(mark: Mark) -> Option<u32>
     }
 }
 
-/// Whether an operation of this thread leaves that, where one more soft mark is allowed if any is.
+/// Whether some operation of this thread leaves that word, while no server is marked soft.
 fn is_left_by(settings: &Settings, thread: u32, found: ServerState, left: ServerState) -> bool
     requires settings { IsWithinRanges settings.now }
     requires fit { IsFit settings.now found.mark found.stamp }
     ensures can { result ≡ true → CanBecome settings.now found left }
-    ensures all { (op : Op) → thread < settings.now.threads
-        → left ≡ with_change found
-        (transition settings.now (has_room settings.now 0) thread op found.mark found.stamp).change
-        → result ≡ true }
+    ensures all { (op : Op) → thread < settings.now.threads →
+        left ≡ word_after settings.now 0 thread op found → result ≡ true }
     ensures fit { result ≡ true → IsFit settings.now left.mark left.stamp }
 {
     thread < settings.threads
@@ -58,15 +56,14 @@ fn is_left_by(settings: &Settings, thread: u32, found: ServerState, left: Server
 fn becomes(settings: &Settings, thread: u32, op: Op, found: ServerState, left: ServerState) -> bool
     requires settings { IsWithinRanges settings.now }
     requires fit { IsFit settings.now found.mark found.stamp }
-    ensures value { (result ≡ true) ↔ (left ≡ with_change found
-        (transition settings.now (has_room settings.now 0) thread op found.mark found.stamp).change) }
+    ensures value { (result ≡ true) ↔ (left ≡ word_after settings.now 0 thread op found) }
     ensures fit { result ≡ true → IsFit settings.now left.mark left.stamp }
 {
     let transition = Transition::of(settings, settings.has_room(0), thread, op, found);
     left == with_change(found, transition.change)
 }
 
-/// A server's word once it got this mark, if one.
+/// A server's word after it got this mark, if any.
 pub(crate) fn with_change(found: ServerState, change: Option<Mark>) -> ServerState
     requires { found.stamp + 1 < 2 ^ 64 }
     ensures { result ≡ with_change found change }

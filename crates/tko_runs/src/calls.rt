@@ -3,7 +3,8 @@ ghost use Rattle.std.specs.Prelude.{◌≡◌, ◌<◌, length, get_or, OnOk, If
 ghost use Rattle.tko_runs.specs.Dockets.{AreOpened, HasBegun, HasGrown, HasStepped};
 
 use crate::judging::{OwnCall, Sight};
-use std::alloc::{AllocError, Global};
+use std::alloc::Global;
+use tko_bytes::NoMemory;
 use tko_model::{Op, Reply};
 
 /// The calls up to some event, in the order of their begins.
@@ -16,7 +17,7 @@ pub(crate) struct Calls {
 
 impl Calls {
     /// So many threads, none of which has begun a call.
-    pub fn open(alloc: Global, threads: usize) -> Result<Calls, AllocError>
+    pub fn open(alloc: Global, threads: usize) -> Result<Calls, NoMemory>
         ensures { IfOk result (AreOpened threads) }
     {
         Ok(Calls {
@@ -33,7 +34,7 @@ impl Calls {
         number: u32,
         op: Op,
         server: usize,
-    ) -> Result<(), AllocError>
+    ) -> Result<(), NoMemory>
         requires { thread < length self.old.latest.items }
         ensures { OnOk result (HasBegun self.old thread number op server self.new) }
     {
@@ -65,7 +66,7 @@ impl Calls {
         thread: usize,
         sight: Sight,
         answer: Option<Reply>,
-    ) -> Result<(), AllocError>
+    ) -> Result<(), NoMemory>
         requires thread { thread < length self.old.latest.items }
         requires latest { get_or self.old.latest.items thread 0 < length self.old.all.items }
         ensures { OnOk result (HasStepped self.old thread sight answer self.new) }
@@ -77,7 +78,7 @@ impl Calls {
 }
 
 /// Gives a call one more step, and this answer.
-fn grow(call: &mut OwnCall, sight: Sight, answer: Option<Reply>) -> Result<(), AllocError>
+fn grow(call: &mut OwnCall, sight: Sight, answer: Option<Reply>) -> Result<(), NoMemory>
     ensures { OnOk result (HasGrown call.old sight answer call.new) }
 {
     call.answer = answer;

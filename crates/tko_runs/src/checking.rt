@@ -5,8 +5,9 @@ ghost use Rattle.tko_runs.specs.Orders.{IsLegalRun, IsOrderOf, TellsRunFault};
 
 use crate::docket::Docket;
 use crate::{Order, Run};
-use std::alloc::{AllocError, AllocFailed, Global};
+use std::alloc::Global;
 use thiserror::Error;
+use tko_bytes::NoMemory;
 
 /// Why a run is refused. Steps are judged before calls.
 #[derive(Clone, Copy, Debug, PartialEq, Eq, Error)]
@@ -22,24 +23,13 @@ pub enum RunFault {
     Memory,
 }
 
-impl From<AllocError> for RunFault {
+impl From<NoMemory> for RunFault {
     ghost use Rattle.std.specs.Prelude.{◌≡◌};
     ghost use Rattle.tko_runs.specs.declared.checking.RunFault.TheVariants as fault;
 
     ghost from_gives = { λ _ e. e ≡ fault.Memory };
 
-    fn from(_: AllocError) -> RunFault {
-        RunFault::Memory
-    }
-}
-
-impl<T: Drop> From<AllocFailed<T>> for RunFault {
-    ghost use Rattle.std.specs.Prelude.{◌≡◌};
-    ghost use Rattle.tko_runs.specs.declared.checking.RunFault.TheVariants as fault;
-
-    ghost from_gives = { λ _ e. e ≡ fault.Memory };
-
-    fn from(_: AllocFailed<T>) -> RunFault {
+    fn from(_: NoMemory) -> RunFault {
         RunFault::Memory
     }
 }

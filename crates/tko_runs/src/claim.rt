@@ -4,8 +4,9 @@ ghost use Rattle.tko_runs.specs.Claims.{TellsClaimFault};
 
 use crate::register::Register;
 use crate::{Event, Run};
-use std::alloc::{AllocError, AllocFailed, Global};
+use std::alloc::Global;
 use thiserror::Error;
+use tko_bytes::NoMemory;
 use tko_model::{Settings, SettingsFault};
 
 /// Why a claim is no run. The settings are judged first.
@@ -22,24 +23,13 @@ pub enum ClaimFault {
     Memory,
 }
 
-impl From<AllocError> for ClaimFault {
+impl From<NoMemory> for ClaimFault {
     ghost use Rattle.std.specs.Prelude.{◌≡◌};
     ghost use Rattle.tko_runs.specs.declared.claim.ClaimFault.TheVariants as fault;
 
     ghost from_gives = { λ _ e. e ≡ fault.Memory };
 
-    fn from(_: AllocError) -> ClaimFault {
-        ClaimFault::Memory
-    }
-}
-
-impl<T: Drop> From<AllocFailed<T>> for ClaimFault {
-    ghost use Rattle.std.specs.Prelude.{◌≡◌};
-    ghost use Rattle.tko_runs.specs.declared.claim.ClaimFault.TheVariants as fault;
-
-    ghost from_gives = { λ _ e. e ≡ fault.Memory };
-
-    fn from(_: AllocFailed<T>) -> ClaimFault {
+    fn from(_: NoMemory) -> ClaimFault {
         ClaimFault::Memory
     }
 }

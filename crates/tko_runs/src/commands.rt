@@ -1,12 +1,12 @@
 //! The lines of a schedule after its header.
-ghost use Rattle.std.specs.Prelude.{◌≡◌, ◌+◌, ◌<◌, ◌≤◌, ◌⊎◌, Ok, Err, Some, None, length, IfOk, IfErr};
+ghost use Rattle.std.specs.Prelude.{◌≡◌, ◌+◌, ◌<◌, ◌≤◌, ◌⊎◌, ◌++◌, [], ◌∷◌, Ok, Err, Some, None, length, IfOk, IfErr, OnOk};
 ghost use Rattle.tko_runs.specs.Limits.{header_lines, max_commands};
 ghost use Rattle.tko_bytes.specs.Lines.{lines_of};
 ghost use Rattle.tko_runs.specs.Schedules.{command_line, commands_of};
 
 use crate::{Command, ScheduleFault};
 use std::alloc::Global;
-use tko_bytes::first_line;
+use tko_bytes::{NoMemory, first_line};
 
 /// The most lines after the header.
 const MAX_COMMANDS: usize = 1_000;
@@ -26,10 +26,17 @@ pub(crate) fn read_commands(alloc: Global, text: &[u8]) -> Result<Vec<Command>, 
     while !rest.is_empty() {
         let (line, behind) = first_line(rest);
         let command = command_at(commands.len(), line)?;
-        commands.push(command)?;
+        keep(&mut commands, command)?;
         rest = behind;
     }
     Ok(commands)
+}
+
+fn keep(commands: &mut Vec<Command>, command: Command) -> Result<(), NoMemory>
+    ensures { OnOk result (commands.new.items ≡ commands.old.items ++ command ∷ []) }
+{
+    commands.push(command)?;
+    Ok(())
 }
 
 /// The command of the line at this place after the header.

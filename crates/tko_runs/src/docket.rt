@@ -10,7 +10,8 @@ use crate::judging::{OwnCall, place_of};
 use crate::register::Register;
 use crate::sighting::{is_same, sight};
 use crate::{Event, Order, RunFault};
-use std::alloc::{AllocError, Global};
+use std::alloc::Global;
+use tko_bytes::NoMemory;
 use tko_model::{Reply, ServerState, Settings, opened_servers};
 use tko_steps::{Kind, Place, Word};
 
@@ -26,7 +27,7 @@ pub(crate) struct Docket {
 }
 
 impl Docket {
-    pub fn open(alloc: Global, settings: &Settings) -> Result<Docket, AllocError>
+    pub fn open(alloc: Global, settings: &Settings) -> Result<Docket, NoMemory>
         requires { IsWithinRanges settings.now }
         ensures { IfOk result (IsOpened settings.now) }
     {
@@ -122,14 +123,14 @@ fn judge(alloc: Global, calls: &[OwnCall]) -> Result<Order, RunFault>
     ensures ok { IfOk result (AreJudged calls.now) }
     ensures err { IfErr result (TellsIllegal calls.now) }
 {
-    let mut places = Vec::new(alloc);
+    let mut order = Order::new(alloc);
     for call in calls {
         let Some(placed) = place_of(call) else {
-            return Err(RunFault::Call(places.len() + 1));
+            return Err(RunFault::Call(order.places().len() + 1));
         };
-        places.push(placed)?;
+        order.push(placed)?;
     }
-    Ok(Order::new(places))
+    Ok(order)
 }
 
 /// The server of a step and the word that it leaves, if it finds the server's word and leaves a

@@ -1,7 +1,7 @@
 //! Why a text is no schedule.
 
-use std::alloc::{AllocError, AllocFailed};
 use thiserror::Error;
+use tko_bytes::NoMemory;
 use tko_model::SettingsFault;
 
 /// Why a text is no schedule.
@@ -16,24 +16,13 @@ pub enum ScheduleFault {
     Memory,
 }
 
-impl From<AllocError> for ScheduleFault {
+impl From<NoMemory> for ScheduleFault {
     ghost use Rattle.std.specs.Prelude.{◌≡◌};
     ghost use Rattle.tko_runs.specs.declared.fault.ScheduleFault.TheVariants as fault;
 
     ghost from_gives = { λ _ e. e ≡ fault.Memory };
 
-    fn from(_: AllocError) -> ScheduleFault {
-        ScheduleFault::Memory
-    }
-}
-
-impl<T: Drop> From<AllocFailed<T>> for ScheduleFault {
-    ghost use Rattle.std.specs.Prelude.{◌≡◌};
-    ghost use Rattle.tko_runs.specs.declared.fault.ScheduleFault.TheVariants as fault;
-
-    ghost from_gives = { λ _ e. e ≡ fault.Memory };
-
-    fn from(_: AllocFailed<T>) -> ScheduleFault {
+    fn from(_: NoMemory) -> ScheduleFault {
         ScheduleFault::Memory
     }
 }

@@ -38,7 +38,7 @@ pub use command::Command;
 pub use event::{Event, Remark};
 pub use fault::ScheduleFault;
 pub use order::{Order, Placed};
-pub use playing::{PlayFault, play};
+pub use playing::play;
 pub use run::Run;
 pub use schedule::Schedule;
 

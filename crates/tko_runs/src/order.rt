@@ -1,8 +1,10 @@
 //! Where each call of a run takes effect.
-ghost use Rattle.std.specs.Prelude.{◌≡◌};
+ghost use Rattle.std.specs.Prelude.{◌≡◌, ◌++◌, [], ◌∷◌, OnOk};
 ghost use Rattle.tko_runs.specs.Orders.{number_at};
 
+use std::alloc::Global;
 use std::marker::Model;
+use tko_bytes::NoMemory;
 
 /// Where a call takes effect.
 #[derive(Clone, Copy, Debug, PartialEq, Eq)]
@@ -32,10 +34,20 @@ impl Model for Order {
 }
 
 impl Order {
-    pub(crate) fn new(places: Vec<Placed>) -> Order
-        ensures { result ≡ places.items }
+    pub(crate) fn new(alloc: Global) -> Order
+        ensures { result ≡ [] }
     {
-        Order { places }
+        Order {
+            places: Vec::new(alloc),
+        }
+    }
+
+    /// Adds where the next call takes effect.
+    pub(crate) fn push(&mut self, placed: Placed) -> Result<(), NoMemory>
+        ensures { OnOk result (self.new ≡ self.old ++ placed ∷ []) }
+    {
+        self.places.push(placed)?;
+        Ok(())
     }
 
     /// The number of the step at which a call takes effect. Calls are numbered from 1, in the order

@@ -7,9 +7,10 @@ ghost use Rattle.tko_steps.specs.Runs.{Begin, Step};
 
 use crate::command::MAX_STEPS;
 use crate::run::Noted;
-use crate::{Command, Event, PlayFault, Remark, Run};
-use std::alloc::{AllocError, Global};
+use crate::{Command, Event, Remark, Run};
+use std::alloc::Global;
 use std::marker::Model;
+use tko_bytes::NoMemory;
 use tko_model::{Op, OpenFault, Settings};
 use tko_steps::{Core, Stepped};
 
@@ -36,14 +37,14 @@ impl Model for Player {
 
 impl Player {
     /// All threads enrol, in the order of their places.
-    pub fn open(alloc: Global, settings: Settings) -> Result<Player, PlayFault>
+    pub fn open(alloc: Global, settings: Settings) -> Result<Player, NoMemory>
         requires { IsWithinRanges settings }
         ensures { IfOk result (λ player. player ≡ enrolled settings) }
     {
         let core = match Core::open(alloc, settings) {
             Ok(core) => core,
             Err(OpenFault::Settings(_)) => unreachable!(),
-            Err(OpenFault::Memory) => return Err(PlayFault::Memory),
+            Err(OpenFault::Memory) => return Err(NoMemory),
         };
         let mut player = Player {
             core,
@@ -57,7 +58,7 @@ impl Player {
     }
 
     /// Does one line of a schedule.
-    pub fn follow(&mut self, command: &Command) -> Result<(), AllocError>
+    pub fn follow(&mut self, command: &Command) -> Result<(), NoMemory>
         ensures { OnOk result (self.new ≡ after_command self.old command.now) }
     {
         match *command {
@@ -68,7 +69,7 @@ impl Player {
     }
 
     /// Begins a call, or notes that the begin was refused.
-    fn begin(&mut self, thread: usize, op: Op, server: usize) -> Result<(), AllocError>
+    fn begin(&mut self, thread: usize, op: Op, server: usize) -> Result<(), NoMemory>
         ensures { OnOk result (self.new ≡ after_turn self.old (Begin thread op server)) }
     {
         match self.core.begin(thread, op, server) {
@@ -87,7 +88,7 @@ impl Player {
 
     /// So many steps of a thread. Once a step does nothing, neither does any later one, and one
     /// note records them all.
-    fn steps(&mut self, thread: usize, steps: u64) -> Result<(), AllocError>
+    fn steps(&mut self, thread: usize, steps: u64) -> Result<(), NoMemory>
         ensures { OnOk result (self.new ≡ after_all self.old (replicate steps (Step thread))) }
     {
         for done in 0..steps {
@@ -117,7 +118,7 @@ impl Player {
     }
 
     /// Steps of a thread until its call is answered. No call takes more than `MAX_STEPS`.
-    fn run(&mut self, thread: usize) -> Result<(), AllocError>
+    fn run(&mut self, thread: usize) -> Result<(), NoMemory>
         ensures { OnOk result (self.new ≡ after_command self.old (Command.Run thread)) }
     {
         for _ in 0..MAX_STEPS {
@@ -129,7 +130,7 @@ impl Player {
         Ok(())
     }
 
-    fn tell(&mut self, event: Event) -> Result<(), AllocError>
+    fn tell(&mut self, event: Event) -> Result<(), NoMemory>
         ensures { OnOk result (self.new ≡ with_event self.old event) }
     {
         self.events.push(event)?;
@@ -137,7 +138,7 @@ impl Player {
     }
 
     /// Notes a remark so many times after the events so far.
-    fn note(&mut self, remark: Remark, times: u64) -> Result<(), AllocError>
+    fn note(&mut self, remark: Remark, times: u64) -> Result<(), NoMemory>
         ensures { OnOk result (self.new ≡ with_notes self.old remark times) }
     {
         let noted = Noted {

@@ -9,6 +9,7 @@ use crate::closing::{append_order, append_servers, append_softs, servers_left};
 use crate::run::Noted;
 use crate::{Event, Order, Remark, Run};
 use std::alloc::{AllocError, Global};
+use tko_bytes::NoMemory;
 use tko_model::{Op, Reply, append_number, append_reply, op_word};
 use tko_steps::{BeginFault, Kind, Place};
 
@@ -16,7 +17,7 @@ impl Run {
     /// The text of the run: a line for each event and each remark, then where each call takes
     /// effect by this order, the servers as the run leaves them, the number of soft marks, and
     /// `ok`.
-    pub fn print(&self, alloc: Global, order: &Order) -> Result<Vec<u8>, AllocError>
+    pub fn print(&self, alloc: Global, order: &Order) -> Result<Vec<u8>, NoMemory>
         ensures { IfOk result (λ text. text.items ≡ run_text self.now order.now) }
     {
         let events = self.events();

@@ -4,8 +4,9 @@ ghost use Rattle.tko_runs.specs.Claims.{CanCome, CountsUp, HasCall, IsEnrolment,
 ghost use Rattle.tko_steps.specs.Core.{number_of};
 
 use crate::Event;
-use std::alloc::{AllocError, Global};
+use std::alloc::Global;
 use std::marker::Model;
+use tko_bytes::NoMemory;
 use tko_model::{Op, Reply, Settings};
 use tko_steps::{Kind, Place, ThreadState, Word};
 
@@ -25,7 +26,7 @@ impl Model for Register {
 }
 
 impl Register {
-    pub fn open(alloc: Global, settings: &Settings) -> Result<Register, AllocError>
+    pub fn open(alloc: Global, settings: &Settings) -> Result<Register, NoMemory>
         ensures { IfOk result (λ register. register ≡ opened_roll settings.now) }
     {
         let threads = vec![in alloc; ThreadState::NotEnrolled; settings.threads as usize]?;

@@ -15,7 +15,7 @@ pub loop-rest-preserved : goal.loop-rest-preserved
 loop-rest-preserved c =
     let len : c.len.result ≡ length c.loop-rest.commands.items = search rules in
     let so_far = rw c.first_line.ensures.lines at c.loop-rest.invariant in
-    rw c.in_ok-push.ensures.items
+    rw c.in_ok-keep.ensures
     (has_read-more _ _ _ _ _ so_far (rw len at c.in_ok-command.ensures.few) c.in_ok-command.ensures.ok)
 
 pub returns-clause-ok : goal.returns-clause-ok

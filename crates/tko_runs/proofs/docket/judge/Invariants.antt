@@ -4,6 +4,6 @@ use Rattle.tko_runs.proofs.docket.judge.Given as goal
 
 abbrev pub invariant-loop-call : goal.invariant-loop-call
 invariant-loop-call l = record {
-  judged : AreJudged (take l.call-index l.calls) l.places.items;
-  count : length l.places.items ≡ l.call-index;
+  judged : AreJudged (take l.call-index l.calls) l.order;
+  count : length l.order ≡ l.call-index;
 }

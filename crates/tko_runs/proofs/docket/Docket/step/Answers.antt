@@ -35,7 +35,7 @@ returns-clause-ok c =
     let last : c.last.result.now ≡ grows.call =
     get_or_read d.calls.all.items _ _ there c.last.ensures grows.call ∙ sym grows.is in
     let P : OwnCall → Type 0 = λ call.
-    Shows d.settings d.servers.items call.number call.op call.server c.in-Some.server c.in-Some.left c.sight-sight.result in
+    Shows d.settings d.servers.items call c.in-Some.server c.in-Some.left c.sight-sight.result in
     let L : List ServerState → Type 0 = λ servers.
     LeadsTo d.settings servers c.args.place c.args.found c.args.left c.in-Some.server c.in-Some.left in
     record {
