@@ -169,7 +169,7 @@ IsCore-after_whole core thread number op server is inside stands =
     let idle = IsCore-with_thread core thread (InCall number op server) (Idle number) is inside stands refl (λ n. refl) tt in
     IsCore-after (with_thread core thread (Idle number)) number op server idle bounds.0 bounds.2
 
-count_by-replicate : {X : Type 0} (p : X → Bool) (n : ℕ) (x : X) → p x ≡ false → count_by p (replicate n x) ≡ 0
+pub count_by-replicate : {X : Type 0} (p : X → Bool) (n : ℕ) (x : X) → p x ≡ false → count_by p (replicate n x) ≡ 0
 count_by-replicate p zero x fails = refl
 count_by-replicate p (suc n) x fails =
     let first : bit (p x) ≡ 0 = ap bit fails in
@@ -181,7 +181,7 @@ get_or-replicate_same (suc n) zero x = refl
 get_or-replicate_same (suc n) (suc i) x = get_or-replicate_same n i x
 
 -- a server as a tracker opens names no thread
-owner-replicate : (n : ℕ) (stamp server number : ℕ)
+pub owner-replicate : (n : ℕ) (stamp server number : ℕ)
     → IsOwner (replicate n (record { mark = Up 0; stamp = stamp })) number server → ⊥
 owner-replicate zero stamp server number e = cc
 owner-replicate (suc n) stamp zero number e = cc

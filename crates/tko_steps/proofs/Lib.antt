@@ -1,6 +1,10 @@
 pub mod AloneLemmas
 pub mod CallLemmas
 pub mod CoreLemmas
+pub mod FineCoreLemmas
+pub mod FineTableLemmas
+pub mod FineThreadLemmas
+pub mod FineWordsLemmas
 pub mod LegalLemmas
 pub mod RunLemmas
 pub mod ThreadLemmas

@@ -9,10 +9,11 @@
 //! - `every_run`: every interleaving is linearizable; the linearization point of a call is one of
 //!   its own steps. `one_thread_alone`: the runs in which one thread takes all steps of calls.
 //!
-//! The core is coarse: a whole call is one step.
+//! The core is coarse: a whole call is one step. Module `fine` has the core of single atomic steps.
 #![tactic(auto)]
 
 mod coarse;
+pub mod fine;
 mod law;
 mod step;
 mod thread;

@@ -39,6 +39,13 @@ health_word mark stamp = stamp * body_size + body_of mark
 abbrev pub soft_word : ℕ → ℕ → ℕ
 soft_word firm held = firm + 2 ^ 32 * held
 
+-- the counts that a soft word holds
+unfoldable pub firm_in : ℕ → ℕ
+firm_in word = word % 2 ^ 32
+
+unfoldable pub held_in : ℕ → ℕ
+held_in word = word / 2 ^ 32
+
 -- a mark that some settings in range allow
 abbrev pub IsMark : Mark → Type 0
 IsMark (Up count) = count < most_failures

@@ -1,0 +1,65 @@
+//! What a step tells.
+
+use crate::fine::Slots;
+use tko_model::{Reply, ServerState};
+
+/// What a step does.
+#[derive(Clone, Copy, Debug, PartialEq, Eq)]
+pub enum Kind {
+    /// It loads a word.
+    Look,
+    /// It exchanges an unmarked health word for an unmarked one.
+    Count,
+    /// It exchanges an unmarked health word for a marked one.
+    Mark,
+    /// It exchanges the health word that its own thread marked.
+    Own,
+    /// It exchanges the soft word for one with one more slot held.
+    Reserve,
+    /// It turns a held slot into a settled mark, or a settled mark into a held slot.
+    Shift,
+    /// It gives a held slot back.
+    Give,
+    /// It draws the thread's number.
+    Enrol,
+}
+
+/// Which word a step is on.
+#[derive(Clone, Copy, Debug, PartialEq, Eq)]
+pub enum Place {
+    Server(usize),
+    Soft,
+    Enrolment,
+}
+
+/// What such a word holds.
+#[derive(Clone, Copy, Debug, PartialEq, Eq)]
+pub enum Word {
+    /// A server's mark and stamp.
+    Server(ServerState),
+    /// The two counts of soft marks.
+    Soft(Slots),
+    /// How many threads are enrolled.
+    Enrolled(u32),
+}
+
+/// What one turn of a thread did.
+#[derive(Clone, Copy, Debug, PartialEq, Eq)]
+pub enum Stepped {
+    /// There is no such thread.
+    NoThread,
+    /// The thread is enrolled and has no call, so nothing changed.
+    Idle,
+    Did {
+        kind: Kind,
+        place: Place,
+        /// The word that the step found.
+        found: Word,
+        /// The word that it left.
+        left: Word,
+        /// Whether the step wrote what it meant to.
+        won: bool,
+        /// The reply, where the step ends its call.
+        answer: Option<Reply>,
+    },
+}

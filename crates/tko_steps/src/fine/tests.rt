@@ -1,0 +1,270 @@
+//! Runs worked out by hand, step by step.
+
+use crate::fine::{Core, Kind, Place, Slots, Stepped, Word};
+use std::alloc::Global;
+use std::test::Fail;
+use tko_model::{Mark, Op, OpenFault, Reply, ServerState, Settings};
+
+/// A line of a run: a call that begins, or a step with the word that it leaves.
+#[derive(Clone, Copy)]
+enum Line {
+    Begin(usize, Op, usize),
+    Step(usize, Kind, Place, Word, bool, Option<Reply>),
+}
+
+/// A step on a server's word.
+fn on(thread: usize, kind: Kind, server: usize, mark: Mark, stamp: u64) -> Line {
+    let word = Word::Server(ServerState { mark, stamp });
+    Line::Step(thread, kind, Place::Server(server), word, true, None)
+}
+
+/// A step on the soft word.
+fn soft(thread: usize, kind: Kind, firm: u32, held: u32) -> Line {
+    let word = Word::Soft(Slots { firm, held });
+    Line::Step(thread, kind, Place::Soft, word, true, None)
+}
+
+/// The same step, which is lost.
+fn lost(line: Line) -> Line {
+    match line {
+        Line::Step(thread, kind, place, word, _, answer) => {
+            Line::Step(thread, kind, place, word, false, answer)
+        }
+        Line::Begin(..) => line,
+    }
+}
+
+/// The same step, which ends its call.
+fn ends(line: Line, reply: Reply) -> Line {
+    match line {
+        Line::Step(thread, kind, place, word, won, _) => {
+            Line::Step(thread, kind, place, word, won, Some(reply))
+        }
+        Line::Begin(..) => line,
+    }
+}
+
+fn is_told(told: Stepped, line: Line) -> bool {
+    let Stepped::Did {
+        kind,
+        place,
+        left,
+        won,
+        answer,
+        ..
+    } = told
+    else {
+        return false;
+    };
+    match line {
+        Line::Step(_, wanted, at, word, wins, reply) => {
+            kind == wanted && place == at && left == word && won == wins && answer == reply
+        }
+        Line::Begin(..) => false,
+    }
+}
+
+/// The first line that the core does not do.
+fn first_difference(core: &mut Core, lines: &[Line]) -> Option<usize> {
+    for (at, line) in lines.iter().enumerate() {
+        let same = match *line {
+            Line::Begin(thread, op, server) => core.begin(thread, op, server).is_ok(),
+            Line::Step(thread, ..) => is_told(core.step(thread), *line),
+        };
+        if !same {
+            return Some(at);
+        }
+    }
+    None
+}
+
+/// A core whose threads are enrolled in the order of their places.
+fn enrolled(
+    alloc: Global,
+    servers: u32,
+    threads: u32,
+    failures: u32,
+    limit: u32,
+    tries: u32,
+    opening_stamp: u64,
+) -> Result<Core, OpenFault> {
+    let settings = Settings {
+        servers,
+        threads,
+        failures,
+        limit,
+        tries,
+        opening_stamp,
+    };
+    let mut core = Core::open(alloc, settings)?;
+    for thread in 0..threads as usize {
+        let _ = core.step(thread);
+    }
+    Ok(core)
+}
+
+#[test]
+fn second_soft_mark_is_full(rt: HostRuntime) -> Result<(), Fail> {
+    let mut core = enrolled(rt.alloc(), 2, 2, 1, 1, 3, 0)?;
+    let lines = [
+        Line::Begin(0, Op::SoftFailure, 0),
+        on(0, Kind::Look, 0, Mark::Up(0), 0),
+        soft(0, Kind::Look, 0, 0),
+        soft(0, Kind::Reserve, 0, 1),
+        on(0, Kind::Mark, 0, Mark::Soft(0), 1),
+        ends(soft(0, Kind::Shift, 1, 0), Reply::TookSoft),
+        Line::Begin(1, Op::SoftFailure, 1),
+        on(1, Kind::Look, 1, Mark::Up(0), 0),
+        soft(1, Kind::Look, 1, 0),
+        ends(on(1, Kind::Look, 1, Mark::Up(0), 0), Reply::Full),
+    ];
+    assert_eq!(rt; first_difference(&mut core, &lines), None);
+    Ok(())
+}
+
+#[test]
+fn contended_at_one_try(rt: HostRuntime) -> Result<(), Fail> {
+    let mut core = enrolled(rt.alloc(), 2, 2, 1, 1, 1, 0)?;
+    let lines = [
+        Line::Begin(0, Op::SoftFailure, 0),
+        on(0, Kind::Look, 0, Mark::Up(0), 0),
+        soft(0, Kind::Look, 0, 0),
+        soft(0, Kind::Reserve, 0, 1),
+        on(0, Kind::Mark, 0, Mark::Soft(0), 1),
+        ends(soft(0, Kind::Shift, 1, 0), Reply::TookSoft),
+        Line::Begin(0, Op::Success, 0),
+        on(0, Kind::Look, 0, Mark::Soft(0), 1),
+        soft(0, Kind::Shift, 0, 1),
+        Line::Begin(1, Op::SoftFailure, 1),
+        on(1, Kind::Look, 1, Mark::Up(0), 0),
+        ends(soft(1, Kind::Look, 0, 1), Reply::Contended),
+        on(0, Kind::Own, 0, Mark::Up(0), 2),
+        ends(soft(0, Kind::Give, 0, 0), Reply::Unmarked(Mark::Soft(0))),
+    ];
+    assert_eq!(rt; first_difference(&mut core, &lines), None);
+    Ok(())
+}
+
+#[test]
+fn full_after_changed_word(rt: HostRuntime) -> Result<(), Fail> {
+    let mut core = enrolled(rt.alloc(), 2, 3, 2, 1, 8, 0)?;
+    let lines = [
+        Line::Begin(2, Op::SoftFailure, 1),
+        on(2, Kind::Look, 1, Mark::Up(0), 0),
+        ends(on(2, Kind::Count, 1, Mark::Up(1), 1), Reply::Counted(1)),
+        Line::Begin(2, Op::SoftFailure, 1),
+        on(2, Kind::Look, 1, Mark::Up(1), 1),
+        soft(2, Kind::Look, 0, 0),
+        soft(2, Kind::Reserve, 0, 1),
+        on(2, Kind::Mark, 1, Mark::Soft(2), 2),
+        ends(soft(2, Kind::Shift, 1, 0), Reply::TookSoft),
+        Line::Begin(0, Op::SoftFailure, 0),
+        on(0, Kind::Look, 0, Mark::Up(0), 0),
+        ends(on(0, Kind::Count, 0, Mark::Up(1), 1), Reply::Counted(1)),
+        Line::Begin(0, Op::SoftFailure, 0),
+        on(0, Kind::Look, 0, Mark::Up(1), 1),
+        soft(0, Kind::Look, 1, 0),
+        Line::Begin(1, Op::Success, 0),
+        on(1, Kind::Look, 0, Mark::Up(1), 1),
+        ends(on(1, Kind::Count, 0, Mark::Up(0), 2), Reply::Reset(1)),
+        Line::Begin(1, Op::SoftFailure, 0),
+        on(1, Kind::Look, 0, Mark::Up(0), 2),
+        ends(on(1, Kind::Count, 0, Mark::Up(1), 3), Reply::Counted(1)),
+        on(0, Kind::Look, 0, Mark::Up(1), 3),
+        on(0, Kind::Look, 0, Mark::Up(1), 3),
+        soft(0, Kind::Look, 1, 0),
+        ends(on(0, Kind::Look, 0, Mark::Up(1), 3), Reply::Full),
+    ];
+    assert_eq!(rt; first_difference(&mut core, &lines), None);
+    Ok(())
+}
+
+#[test]
+fn lost_mark_gives_slot_back(rt: HostRuntime) -> Result<(), Fail> {
+    let mut core = enrolled(rt.alloc(), 1, 2, 1, 2, 8, 0)?;
+    let lines = [
+        Line::Begin(0, Op::SoftFailure, 0),
+        Line::Begin(1, Op::SoftFailure, 0),
+        on(0, Kind::Look, 0, Mark::Up(0), 0),
+        soft(0, Kind::Look, 0, 0),
+        soft(0, Kind::Reserve, 0, 1),
+        on(1, Kind::Look, 0, Mark::Up(0), 0),
+        soft(1, Kind::Look, 0, 1),
+        soft(1, Kind::Reserve, 0, 2),
+        on(0, Kind::Mark, 0, Mark::Soft(0), 1),
+        lost(on(1, Kind::Mark, 0, Mark::Soft(0), 1)),
+        ends(soft(0, Kind::Shift, 1, 1), Reply::TookSoft),
+        soft(1, Kind::Give, 1, 0),
+        ends(
+            on(1, Kind::Look, 0, Mark::Soft(0), 1),
+            Reply::Already(Mark::Soft(0)),
+        ),
+    ];
+    assert_eq!(rt; first_difference(&mut core, &lines), None);
+    Ok(())
+}
+
+#[test]
+fn soft_mark_hardens(rt: HostRuntime) -> Result<(), Fail> {
+    let mut core = enrolled(rt.alloc(), 1, 2, 1, 1, 8, 0)?;
+    let lines = [
+        Line::Begin(0, Op::SoftFailure, 0),
+        on(0, Kind::Look, 0, Mark::Up(0), 0),
+        soft(0, Kind::Look, 0, 0),
+        soft(0, Kind::Reserve, 0, 1),
+        on(0, Kind::Mark, 0, Mark::Soft(0), 1),
+        ends(soft(0, Kind::Shift, 1, 0), Reply::TookSoft),
+        Line::Begin(1, Op::HardFailure, 0),
+        ends(
+            on(1, Kind::Look, 0, Mark::Soft(0), 1),
+            Reply::Already(Mark::Soft(0)),
+        ),
+        Line::Begin(0, Op::HardFailure, 0),
+        on(0, Kind::Look, 0, Mark::Soft(0), 1),
+        soft(0, Kind::Shift, 0, 1),
+        on(0, Kind::Own, 0, Mark::Hard(0), 2),
+        ends(soft(0, Kind::Give, 0, 0), Reply::Hardened),
+    ];
+    assert_eq!(rt; first_difference(&mut core, &lines), None);
+    Ok(())
+}
+
+const WORN: u64 = 2_251_799_813_685_240;
+
+#[test]
+fn worn_stamp(rt: HostRuntime) -> Result<(), Fail> {
+    let mut core = enrolled(rt.alloc(), 1, 1, 2, 1, 8, WORN)?;
+    let look = on(0, Kind::Look, 0, Mark::Up(0), WORN);
+    let lines = [
+        Line::Begin(0, Op::SoftFailure, 0),
+        ends(look, Reply::Worn),
+        Line::Begin(0, Op::HardFailure, 0),
+        ends(look, Reply::Worn),
+        Line::Begin(0, Op::LookUp, 0),
+        ends(look, Reply::Up(0)),
+        Line::Begin(0, Op::Success, 0),
+        ends(look, Reply::Clean),
+    ];
+    assert_eq!(rt; first_difference(&mut core, &lines), None);
+    Ok(())
+}
+
+#[test]
+fn last_change_before_the_stamp_is_worn(rt: HostRuntime) -> Result<(), Fail> {
+    let mut core = enrolled(rt.alloc(), 1, 1, 2, 1, 8, WORN - 1)?;
+    let lines = [
+        Line::Begin(0, Op::HardFailure, 0),
+        on(0, Kind::Look, 0, Mark::Up(0), WORN - 1),
+        ends(on(0, Kind::Mark, 0, Mark::Hard(0), WORN), Reply::TookHard),
+        Line::Begin(0, Op::Success, 0),
+        on(0, Kind::Look, 0, Mark::Hard(0), WORN),
+        ends(
+            on(0, Kind::Own, 0, Mark::Up(0), WORN + 1),
+            Reply::Unmarked(Mark::Hard(0)),
+        ),
+        Line::Begin(0, Op::SoftFailure, 0),
+        ends(on(0, Kind::Look, 0, Mark::Up(0), WORN + 1), Reply::Worn),
+    ];
+    assert_eq!(rt; first_difference(&mut core, &lines), None);
+    Ok(())
+}
