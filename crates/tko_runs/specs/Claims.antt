@@ -165,7 +165,7 @@ abbrev pub servers_after_all : List ServerState → List Event → List ServerSt
 servers_after_all servers [] = servers
 servers_after_all servers (event ∷ events) = servers_after_all (servers_after servers event) events
 
--- the core as it stands by what the events claim
+-- the core after an event, as it claims
 abbrev pub core_after : CoreState → Event → CoreState
 core_after core event =
     let roll = roll_after (roll_of core) event in
@@ -199,7 +199,7 @@ abbrev pub world_after_all : World → List Event → World
 world_after_all w [] = w
 world_after_all w (event ∷ events) = world_after_all (world_after w event) events
 
--- what stands, and what happened, after the events of a claimed run
+-- the core and the past after the events of a claimed run
 unfoldable pub claimed : Settings → List Event → World
 claimed s events = world_after_all (start s) events
 

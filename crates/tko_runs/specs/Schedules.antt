@@ -1,4 +1,4 @@
--- Schedules: a text of lines, which say how a tracker is opened and then, line by line, what its
+-- Schedules: a text of lines, with the settings of a tracker first, and then, line by line, what its
 -- threads do.
 use Rattle.std.specs.Prelude.{◌≡◌, ℕ, ◌+◌, ◌≤◌, nat_lt, if◌then◌else◌, List, [], ◌∷◌, length, drop, min, slice_index_or, codes, find, Option, Some, None, is_none, Result, Ok, Err, ⊤}
 use Rattle.std.specs.List.{filter_map, position_or_len}
@@ -19,7 +19,7 @@ use Rattle.tko_bytes.specs.Numbers.{number_of}
 use Rattle.tko_model.specs.Texts.{op_text}
 use Rattle.tko_bytes.specs.Fields.{fields_of}
 
--- what a schedule says: the settings of the tracker, and the commands in order
+-- the meaning of a schedule: the settings of the tracker, and the commands in order
 pub record Plan : Type 0 where
   pub settings : Settings
   pub commands : List Command
@@ -55,7 +55,7 @@ begin_of (thread ∷ op ∷ server ∷ []) =
     (value_of thread)
 begin_of (thread ∷ op ∷ server ∷ other ∷ others) = None
 
--- a number of steps that one line may ask for
+-- the number of steps of one line
 abbrev pub steps_of : List ℕ → Option ℕ
 steps_of word =
     option_and_then
@@ -165,7 +165,7 @@ abbrev pub plan_in :
 plan_in (Err bad) commands = Err bad
 plan_in (Ok settings) commands = plan_behind settings commands
 
--- what a text says, or why it is no schedule; a text that is too long is fault 0
+-- the meaning of a text, or why it is no schedule; a text that is too long has bad line 0
 unfoldable pub reads : List ℕ → Result Plan ScheduleFault
 reads text =
     if nat_lt max_bytes (length text)

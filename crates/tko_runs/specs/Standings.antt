@@ -9,7 +9,7 @@ use Rattle.tko_runs.specs.Sights.{Judges}
 use Rattle.tko_steps.specs.Legal.{IsQuiet, TakesEffect}
 use Rattle.tko_steps.specs.Runs.{Call, OwnStep}
 
--- a call with this answer has this reply; one that is open may get any yet
+-- a call with this answer can have this reply; an open call can still get any
 abbrev pub MayHave : Option Reply → Reply → Type 0
 MayHave None reply = Unit {0}
 MayHave (Some answer) reply = reply ≡ answer

@@ -1,4 +1,4 @@
-//! The lines of a schedule that say what threads do.
+//! The lines of a schedule after its header: what its threads do.
 ghost use Rattle.std.specs.Prelude.{◌≡◌};
 ghost use Rattle.tko_runs.specs.Schedules.{begin_of, command_line, op_of, run_of, step_of, steps_of};
 

@@ -2,7 +2,7 @@
 ghost use Rattle.std.specs.Prelude.{◌≡◌, Ok, Err, Some, None, drop, min, IfOk, IfErr};
 ghost use Rattle.tko_model.specs.Ranges.{IsWithinRanges, first_fault};
 ghost use Rattle.tko_runs.specs.Headers.{HasHeaderLine, HasTitle, LacksHeaderLine, LacksTitle};
-ghost use Rattle.tko_runs.specs.Limits.{header_lines};
+ghost use Rattle.tko_runs.specs.Limits.{header_lines, max_field};
 ghost use Rattle.tko_bytes.specs.Lines.{lines_of};
 ghost use Rattle.tko_runs.specs.Schedules.{header, header_number};
 
@@ -86,7 +86,7 @@ impl Header {
 
 /// The number, or the largest `u32` if it is larger.
 fn narrow(number: u64) -> u32
-    ensures { result ≡ min number 4294967295 }
+    ensures { result ≡ min number max_field }
 {
     number.min(u64::from(u32::MAX)) as u32
 }

@@ -16,7 +16,7 @@ use tko_steps::every_run;
 /// line.
 pub fn play(alloc: Global, schedule: &Schedule) -> Result<Run, NoMemory>
     ensures named { IfOk result (λ run. run ≡ named_by schedule.now) }
-    // so that the law of every run speaks of it
+    // by which the law of every run covers it
     ensures turns { IfOk result (λ run.
         (turns : List Turn) × (run.events ≡ events_of (runs.run run.settings turns).past)) }
     ensures legal { IfOk result IsLegalRun }
