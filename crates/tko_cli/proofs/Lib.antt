@@ -1,3 +1,4 @@
 pub mod DryLemmas
 pub mod ReplayLemmas
+pub mod ReportLemmas
 pub mod TargetLemmas

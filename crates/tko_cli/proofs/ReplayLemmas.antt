@@ -1,29 +1,30 @@
 -- What is printed of a schedule.
-use Rattle.std.proofs.Common.{◌≡◌, ℕ, ◌<◌, ◌≤◌, Bool, true, false, cond, ltb, List, length, ◌⊎◌, inl, inr, arith, OnOk, Result, Ok, Err, refl, subst}
+use Rattle.std.proofs.Common.{◌≡◌, ℕ, ◌<◌, ◌≤◌, Bool, true, false, cond, ltb, List, length, ◌⊎◌, inl, inr, arith, Result, Ok, Err, refl, subst}
 use Rattle.std.proofs.lemmas.Bool.{ltb-false}
 use Rattle.tko_runs.specs.declared.fault.ScheduleFault.{ScheduleFault}
 use Rattle.tko_runs.specs.declared.fault.ScheduleFault.TheVariants as schedule_fault
 use Rattle.tko_runs.specs.declared.order.Placed.{Placed}
-use Rattle.tko_runs.specs.Claims.{calls_in}
-use Rattle.tko_runs.specs.Orders.{IsOrder}
+use Rattle.tko_runs.specs.Limits.{max_bytes}
+use Rattle.tko_runs.specs.Orders.{IsOrderOf}
 use Rattle.tko_runs.specs.Plays.{named_by}
 use Rattle.tko_runs.specs.Prints.{run_text}
 use Rattle.tko_runs.specs.Schedules.{Plan, reads}
 use Rattle.tko_runs.specs.Stories.{Story}
-use Rattle.tko_cli.specs.Replays.{IsReplay, Replays}
+use Rattle.tko_cli.specs.Readings.{IsText}
+use Rattle.tko_cli.specs.Replays.{IsReplay, Replays, most_read}
 
 pub is_replay : (text printed : List ℕ) (plan : Plan) (run : Story) (order : List Placed)
     → reads text ≡ Ok plan → run ≡ named_by plan
-    → IsOrder run.settings (calls_in run.settings run.events) order → printed ≡ run_text run order
+    → IsOrderOf run order → printed ≡ run_text run order
     → IsReplay text printed
 unfolding named_by
 is_replay text printed plan run order schedule named stands prints =
-    let P : Story → Type 0 = λ (story : Story). IsOrder story.settings (calls_in story.settings story.events) order in
+    let P : Story → Type 0 = λ (story : Story). IsOrderOf story order in
     record {
       plan = plan;
       order = order;
       schedule = schedule;
-      stands = subst P named stands;
+      legal = subst P named stands;
       prints = rw named at prints;
     }
 
@@ -33,32 +34,27 @@ or_too_long : (test : Bool) (plan : Plan) (read : Result Plan ScheduleFault)
 or_too_long true plan read e = cc
 or_too_long false plan read e = refl
 
-pub is_short : (text : List ℕ) (plan : Plan) → reads text ≡ Ok plan → length text ≤ 1048576
+pub is_short : (text : List ℕ) (plan : Plan) → reads text ≡ Ok plan → length text ≤ max_bytes
 unfolding reads
-is_short text plan e = ltb-false 1048576 (length text) (or_too_long (ltb 1048576 (length text)) plan _ e)
+is_short text plan e = ltb-false max_bytes (length text) (or_too_long (ltb max_bytes (length text)) plan _ e)
 
 -- input of which less than a limit was taken has ended
 ended_before : {E : Type 0} (count most : ℕ) → E ⊎ (most ≤ count) → count < most → E
 ended_before count most (inl ended) below = ended
 ended_before count most (inr reached) below = absurd (omega (arith, reached, below))
 
--- a schedule came to the end of the input, what is printed of it went out, and so it is replayed
+-- a schedule was read to the end of the input, and what is printed of it went out
 pub replays : {I O : Type 0} (gives : I → List ℕ → I → Type 0) (is_ended : I → Type 0) (takes : O → List ℕ → O → Type 0)
-    (old : I) (from : O) (new : I) (to : O) (text printed : List ℕ) → gives old text new
-    → is_ended new ⊎ (1048577 ≤ length text) → IsReplay text printed → takes from printed to
+    (old : I) (from : O) (new : I) (to : O) (text printed : List ℕ) → IsText gives is_ended most_read old new text
+    → IsReplay text printed → takes from printed to
     → Replays gives is_ended takes old from new to
-replays gives is_ended takes old from new to text printed came whole replay went =
+replays gives is_ended takes old from new to text printed read replay went =
     record {
       text = text;
       printed = printed;
-      came = came;
-      ended = ended_before (length text) 1048577 whole
+      came = read.came;
+      ended = ended_before (length text) most_read read.whole
           (let short = is_short text replay.plan replay.schedule in omega (arith, short));
       replay = replay;
       went = went;
     }
-
--- what holds where it is Ok
-pub on_ok : {T E : Type 0} {P Q : Type 0} (result : Result T E) → OnOk result P → (P → Q) → OnOk result Q
-on_ok (Ok value) holds next = next holds
-on_ok (Err error) holds next = holds

@@ -1,4 +1,4 @@
--- What a dry run begins with, what it reads and writes, and why it fails.
+-- What a dry run starts with, what it reads and writes, and why it fails.
 use Rattle.std.specs.Prelude.{◌≡◌, ◌<◌, ℕ, Bool, true, false, Some, List, [], replicate, slice_index, string_bytes}
 use Rattle.tko_model.specs.Ranges.{first_fault}
 use Rattle.tko_model.specs.Tracker.{opened}
@@ -36,79 +36,68 @@ settings_of options = record {
   opening_stamp = 0;
 }
 
--- parts as they are before the first request: a new tracker in the hands of thread 0, the scripts that the list
--- of outcomes asks for and nothing sent, no trail, and all servers as targets
+-- the words of the list of outcomes
+abbrev pub words_in : DryOptions → List (List ℕ)
+words_in options = words_of (string_bytes options.outcomes)
+
+-- parts before the first request: a new tracker, used by thread 0, the scripts that the list of
+-- outcomes asks for, nothing sent, no trail, and all servers as targets
 pub record Begins (options : DryOptions) (parts : DryParts) : Type 0 where
   pub scripts : List Script
-  pub asked : AllAsk (words_of (string_bytes options.outcomes)) scripts
+  pub asked : AllAsk (words_in options) scripts
   pub health : parts.health ≡ record { tracker = opened (settings_of options); thread = 0 }
   pub links : parts.links
       ≡ record { scripts = scripts; sends = replicate options.servers 0; requests = [] }
   pub trails : parts.trails ≡ []
   pub targets : parts.targets.items ≡ numbers_below options.servers
 
--- every word of the list is one, and this is the first setting that is outside its range
-pub record IsOutside (options : DryOptions) (setting : SettingsFault) : Type 0 where
+-- every word of the list is good, and this is the first setting that is outside its range
+pub record IsOutside (options : DryOptions) (name : SettingsFault) : Type 0 where
   pub scripts : List Script
-  pub asked : AllAsk (words_of (string_bytes options.outcomes)) scripts
-  pub first : first_fault (settings_of options) ≡ Some setting
+  pub asked : AllAsk (words_in options) scripts
+  pub first : first_fault (settings_of options) ≡ Some name
 
--- why there are no such parts: a word of the list is none, else a setting is outside its range, or memory is wanting
-abbrev pub NoParts : DryOptions → Fault → Type 0
-NoParts options (fault.Outcomes number) = first_bad (words_of (string_bytes options.outcomes)) ≡ Some number
-NoParts options (fault.Settings setting) = IsOutside options setting
-NoParts options fault.Memory = Unit {0}
-NoParts options fault.Read = ⊥
-NoParts options fault.Write = ⊥
-NoParts options fault.LineTooLong = ⊥
-NoParts options (fault.Line number) = ⊥
-NoParts options fault.Check = ⊥
+-- the number of sends to a server
+abbrev pub sends_of : ScriptedState → ℕ → ℕ
+sends_of links server = slice_index links.sends server
 
 -- a turn over these parts
 abbrev pub IsDryTurn : DryParts → Turn → DryParts → Type 0
 IsDryTurn old turn new =
-    IsTurn IsTrackerStep IsPlayed (λ links server. slice_index links.sends server) Keeps old turn new
+    IsTurn IsTrackerStep IsPlayed sends_of Keeps old turn new
 
--- the trails' lines went out where they are asked for, and else nothing
-abbrev pub TrailsGo : {O : Type 0} → (O → List ℕ → O → Type 0) → Bool → List (List Attempt) → O → O → Type 0
+-- the trails' lines went out if they are asked for, and else nothing
+abbrev pub TrailsGo : {O : Type 0} → (O → List ℕ → O → Type 0) → Bool → List (List Attempt)
+    → O → O → Type 0
 TrailsGo takes true trails from to = takes from (trails_text 1 trails) to
 TrailsGo takes false trails from to = to ≡ from
 
--- why the trails are not printed: the end failed, or memory is wanting
-abbrev pub CannotPrint : {O : Type 0} → (O → ℕ) → O → O → Fault → Type 0
-CannotPrint failures from to fault.Write = failures from < failures to
-CannotPrint failures from to fault.Memory = Unit {0}
-CannotPrint failures from to fault.Read = ⊥
-CannotPrint failures from to fault.LineTooLong = ⊥
-CannotPrint failures from to fault.Check = ⊥
-CannotPrint failures from to (fault.Line number) = ⊥
-CannotPrint failures from to (fault.Settings setting) = ⊥
-CannotPrint failures from to (fault.Outcomes number) = ⊥
-
--- a session over the parts that the options name came to the end of its input, and behind its replies went the
--- lines of the trails that it kept, if they are asked for
+-- a session over the parts that the options name came to the end of its input, and after its replies
+-- the lines of its trails went out, if they are asked for
 pub record IsDry {I O : Type 0} (gives : I → List ℕ → I → Type 0) (is_ended : I → Type 0)
-    (takes : O → List ℕ → O → Type 0) (options : DryOptions) (old : I) (from : O) (new : I) (to : O) : Type 0 where
+    (takes : O → List ℕ → O → Type 0) (options : DryOptions)
+    (old : I) (from : O) (new : I) (to : O) : Type 0 where
   pub before : DryParts
   pub after : DryParts
   pub report : Report
   pub middle : O
   pub begins : Begins options before
-  pub served : Served gives takes IsDryTurn (sent_by (λ links server. slice_index links.sends server)) is_ended
+  pub served : Served gives takes IsDryTurn (sent_by sends_of) is_ended
       old from before report new middle after
   pub trails : TrailsGo takes options.trail after.trails middle to
 
--- why a dry run fails: the options name no parts, and then nothing came and nothing went; an end failed; a line
--- that is too long came; or memory is wanting
-abbrev pub DryFails : {I O : Type 0} → (I → List ℕ → I → Type 0) → (I → ℕ) → (O → ℕ) → DryOptions → I → I → O → O
-    → Fault → Type 0
-DryFails gives read_failures write_failures options old new from to (fault.Outcomes number) =
-    NoParts options (fault.Outcomes number) × (new ≡ old) × (to ≡ from)
-DryFails gives read_failures write_failures options old new from to (fault.Settings setting) =
-    NoParts options (fault.Settings setting) × (new ≡ old) × (to ≡ from)
-DryFails gives read_failures write_failures options old new from to fault.Read = read_failures old < read_failures new
-DryFails gives read_failures write_failures options old new from to fault.Write = write_failures from < write_failures to
-DryFails gives read_failures write_failures options old new from to fault.LineTooLong = CameTooLong gives old new
-DryFails gives read_failures write_failures options old new from to fault.Memory = Unit {0}
-DryFails gives read_failures write_failures options old new from to (fault.Line number) = ⊥
-DryFails gives read_failures write_failures options old new from to fault.Check = ⊥
+module _ {I O : Type 0} (gives : I → List ℕ → I → Type 0)
+    (read_failures : I → ℕ) (write_failures : O → ℕ) where
+  -- why a dry run fails: the options name no parts, and then nothing was read or written; an end
+  -- failed; a line was too long; or memory ran out
+  abbrev pub DryFails : DryOptions → I → I → O → O → Fault → Type 0
+  DryFails options old new from to (fault.Outcomes number) =
+      (first_bad (words_in options) ≡ Some number) × (new ≡ old) × (to ≡ from)
+  DryFails options old new from to (fault.Settings name) =
+      IsOutside options name × (new ≡ old) × (to ≡ from)
+  DryFails options old new from to fault.Read = read_failures old < read_failures new
+  DryFails options old new from to fault.Write = write_failures from < write_failures to
+  DryFails options old new from to fault.LineTooLong = CameTooLong gives old new
+  DryFails options old new from to fault.Memory = Unit {0}
+  DryFails options old new from to (fault.Line number) = ⊥
+  DryFails options old new from to fault.Check = ⊥

@@ -1,7 +1,9 @@
--- Which fault of the program each cause is.
-use Rattle.std.specs.Prelude.{◌≡◌, Some}
-use Rattle.tko_model.specs.Ranges.{first_fault}
-use Rattle.tko_model.specs.declared.settings.Settings.{Settings}
+-- The line that reports each fault, and which fault of the program each cause is.
+use Rattle.std.specs.Prelude.{ℕ, List, ◌++◌, codes, decimal}
+use Rattle.tko_model.specs.declared.plain.OpenFault.{OpenFault}
+use Rattle.tko_model.specs.declared.plain.OpenFault.TheVariants as open_fault
+use Rattle.tko_model.specs.declared.settings.SettingsFault.{SettingsFault}
+use Rattle.tko_model.specs.declared.settings.SettingsFault.TheVariants as setting
 use Rattle.tko_runs.specs.declared.checking.RunFault.{RunFault}
 use Rattle.tko_runs.specs.declared.checking.RunFault.TheVariants as run_fault
 use Rattle.tko_runs.specs.declared.fault.ScheduleFault.{ScheduleFault}
@@ -10,6 +12,40 @@ use Rattle.tko_session.specs.declared.fault.SessionFault.{SessionFault}
 use Rattle.tko_session.specs.declared.fault.SessionFault.TheVariants as session_fault
 use Rattle.tko_cli.specs.declared.fault.Fault.{Fault}
 use Rattle.tko_cli.specs.declared.fault.Fault.TheVariants as fault
+use Rattle.tko_cli.specs.declared.outcomes.OutcomesFault.{OutcomesFault}
+use Rattle.tko_cli.specs.declared.outcomes.OutcomesFault.TheVariants as outcomes_fault
+use Rattle.tko_cli.specs.declared.reading.ReadFault.{ReadFault}
+use Rattle.tko_cli.specs.declared.reading.ReadFault.TheVariants as read_fault
+
+-- the word that names a setting
+abbrev pub setting_name : SettingsFault → List ℕ
+setting_name setting.Servers = codes "servers"
+setting_name setting.Threads = codes "threads"
+setting_name setting.Failures = codes "failures"
+setting_name setting.Limit = codes "limit"
+setting_name setting.Tries = codes "tries"
+setting_name setting.Stamp = codes "stamp"
+
+-- the line of a fault, without its LF
+abbrev pub fault_line : Fault → List ℕ
+fault_line fault.Read = codes "fault: read"
+fault_line fault.Write = codes "fault: write"
+fault_line fault.LineTooLong = codes "fault: line too long"
+fault_line fault.Memory = codes "fault: memory"
+fault_line (fault.Settings name) = codes "fault: settings " ++ setting_name name
+fault_line (fault.Outcomes number) = codes "fault: outcomes " ++ decimal number
+fault_line (fault.Line number) = codes "fault: schedule line " ++ decimal number
+fault_line fault.Check = codes "fault: check"
+
+-- of the list of outcomes
+abbrev pub fault_of_outcomes : OutcomesFault → Fault
+fault_of_outcomes (outcomes_fault.Word number) = fault.Outcomes number
+fault_of_outcomes outcomes_fault.Memory = fault.Memory
+
+-- of opening a tracker
+abbrev pub fault_of_opening : OpenFault → Fault
+fault_of_opening (open_fault.Settings name) = fault.Settings name
+fault_of_opening open_fault.Memory = fault.Memory
 
 -- of a session
 abbrev pub fault_of_session : SessionFault → Fault
@@ -18,10 +54,15 @@ fault_of_session (session_fault.Write count) = fault.Write
 fault_of_session session_fault.LineTooLong = fault.LineTooLong
 fault_of_session session_fault.Memory = fault.Memory
 
+-- of reading a text
+abbrev pub fault_of_reading : ReadFault → Fault
+fault_of_reading read_fault.Input = fault.Read
+fault_of_reading read_fault.Memory = fault.Memory
+
 -- of a schedule
 abbrev pub fault_of_schedule : ScheduleFault → Fault
 fault_of_schedule (schedule_fault.Line number) = fault.Line number
-fault_of_schedule (schedule_fault.Settings setting) = fault.Settings setting
+fault_of_schedule (schedule_fault.Settings name) = fault.Settings name
 fault_of_schedule schedule_fault.Memory = fault.Memory
 
 -- of the check of a run
@@ -29,14 +70,3 @@ abbrev pub fault_of_run : RunFault → Fault
 fault_of_run (run_fault.Step number) = fault.Check
 fault_of_run (run_fault.Call number) = fault.Check
 fault_of_run run_fault.Memory = fault.Memory
-
--- why there is no tracker of these settings: the first that is outside its range, or want of memory
-abbrev pub NoTracker : Settings → Fault → Type 0
-NoTracker settings (fault.Settings setting) = first_fault settings ≡ Some setting
-NoTracker settings fault.Memory = Unit {0}
-NoTracker settings fault.Read = ⊥
-NoTracker settings fault.Write = ⊥
-NoTracker settings fault.LineTooLong = ⊥
-NoTracker settings (fault.Outcomes number) = ⊥
-NoTracker settings (fault.Line number) = ⊥
-NoTracker settings fault.Check = ⊥

@@ -1,36 +1,31 @@
 -- What a replay reads and writes, and why it fails.
-use Rattle.std.specs.Prelude.{◌≡◌, ◌<◌, ℕ, List, Ok, Err}
+use Rattle.std.specs.Prelude.{◌≡◌, ◌<◌, ◌+◌, ℕ, List, Ok, Err}
 use Rattle.tko_cli.specs.declared.fault.Fault.{Fault}
 use Rattle.tko_cli.specs.declared.fault.Fault.TheVariants as fault
+use Rattle.tko_runs.specs.declared.fault.ScheduleFault.{ScheduleFault}
 use Rattle.tko_runs.specs.declared.fault.ScheduleFault.TheVariants as schedule_fault
 use Rattle.tko_runs.specs.declared.order.Placed.{Placed}
-use Rattle.tko_runs.specs.Claims.{calls_in}
-use Rattle.tko_runs.specs.Orders.{IsOrder}
+use Rattle.tko_runs.specs.Limits.{max_bytes}
+use Rattle.tko_runs.specs.Orders.{IsOrderOf}
 use Rattle.tko_runs.specs.Plays.{named_by}
 use Rattle.tko_runs.specs.Prints.{run_text}
 use Rattle.tko_runs.specs.Schedules.{Plan, reads}
+use Rattle.tko_cli.specs.Readings.{IsText}
 
--- a text is a schedule, and this is printed of the run that it names, with where each of its calls stands
+-- one byte more than a schedule may have
+abbrev pub most_read : ℕ
+most_read = max_bytes + 1
+
+-- a text is a schedule, and this is printed of the run that it names, with where each of its calls
+-- takes effect
 pub record IsReplay (text printed : List ℕ) : Type 0 where
   pub plan : Plan
   pub order : List Placed
   pub schedule : reads text ≡ Ok plan
-  pub stands : IsOrder plan.settings (calls_in plan.settings (named_by plan).events) order
+  pub legal : IsOrderOf (named_by plan) order
   pub prints : printed ≡ run_text (named_by plan) order
 
--- why nothing is printed of a text: it is no schedule, or memory is wanting; a run that is played is never
--- refused
-abbrev pub NoReplay : List ℕ → Fault → Type 0
-NoReplay text (fault.Line number) = reads text ≡ Err (schedule_fault.Line number)
-NoReplay text (fault.Settings setting) = reads text ≡ Err (schedule_fault.Settings setting)
-NoReplay text fault.Memory = Unit {0}
-NoReplay text fault.Check = ⊥
-NoReplay text fault.Read = ⊥
-NoReplay text fault.Write = ⊥
-NoReplay text fault.LineTooLong = ⊥
-NoReplay text (fault.Outcomes number) = ⊥
-
--- a schedule came, to the end of the input, and what is printed of its run went out
+-- a schedule was read, to the end of the input, and what is printed of its run went out
 pub record Replays {I O : Type 0} (gives : I → List ℕ → I → Type 0) (is_ended : I → Type 0)
     (takes : O → List ℕ → O → Type 0) (old : I) (from : O) (new : I) (to : O) : Type 0 where
   pub text : List ℕ
@@ -40,45 +35,26 @@ pub record Replays {I O : Type 0} (gives : I → List ℕ → I → Type 0) (is_
   pub replay : IsReplay text printed
   pub went : takes from printed to
 
--- a text came of which nothing is printed, for this reason
-pub record Came {I : Type 0} (gives : I → List ℕ → I → Type 0) (old new : I) (reason : Fault) : Type 0 where
+-- the text that was read, all of the input or one byte more than a schedule may have, is no schedule
+-- for this reason
+pub record IsNoSchedule {I : Type 0} (gives : I → List ℕ → I → Type 0) (is_ended : I → Type 0)
+    (old new : I) (reason : ScheduleFault) : Type 0 where
   pub text : List ℕ
-  pub came : gives old text new
-  pub none : NoReplay text reason
+  pub read : IsText gives is_ended most_read old new text
+  pub refused : reads text ≡ Err reason
 
--- why a text can't be read: the end failed, or memory is wanting
-abbrev pub CannotRead : {I : Type 0} → (I → ℕ) → I → I → Fault → Type 0
-CannotRead failures old new fault.Read = failures old < failures new
-CannotRead failures old new fault.Memory = Unit {0}
-CannotRead failures old new fault.Write = ⊥
-CannotRead failures old new fault.Check = ⊥
-CannotRead failures old new fault.LineTooLong = ⊥
-CannotRead failures old new (fault.Line number) = ⊥
-CannotRead failures old new (fault.Settings setting) = ⊥
-CannotRead failures old new (fault.Outcomes number) = ⊥
-
--- why a text can't be written: the end failed
-abbrev pub CannotWrite : {O : Type 0} → (O → ℕ) → O → O → Fault → Type 0
-CannotWrite failures old new fault.Write = failures old < failures new
-CannotWrite failures old new fault.Read = ⊥
-CannotWrite failures old new fault.Memory = ⊥
-CannotWrite failures old new fault.Check = ⊥
-CannotWrite failures old new fault.LineTooLong = ⊥
-CannotWrite failures old new (fault.Line number) = ⊥
-CannotWrite failures old new (fault.Settings setting) = ⊥
-CannotWrite failures old new (fault.Outcomes number) = ⊥
-
--- why a replay fails: what came is no schedule, an end failed, or memory is wanting; nothing went out but
--- where writing failed
-abbrev pub ReplayFails : {I O : Type 0} → (I → List ℕ → I → Type 0) → (I → ℕ) → (O → ℕ) → I → I → O → O → Fault → Type 0
-ReplayFails gives read_failures write_failures old new from to (fault.Line number) =
-    Came gives old new (fault.Line number) × (to ≡ from)
-ReplayFails gives read_failures write_failures old new from to (fault.Settings setting) =
-    Came gives old new (fault.Settings setting) × (to ≡ from)
-ReplayFails gives read_failures write_failures old new from to fault.Read =
-    (read_failures old < read_failures new) × (to ≡ from)
-ReplayFails gives read_failures write_failures old new from to fault.Write = write_failures from < write_failures to
-ReplayFails gives read_failures write_failures old new from to fault.Memory = to ≡ from
-ReplayFails gives read_failures write_failures old new from to fault.Check = ⊥
-ReplayFails gives read_failures write_failures old new from to fault.LineTooLong = ⊥
-ReplayFails gives read_failures write_failures old new from to (fault.Outcomes number) = ⊥
+module _ {I O : Type 0} (gives : I → List ℕ → I → Type 0) (is_ended : I → Type 0)
+    (read_failures : I → ℕ) (write_failures : O → ℕ) where
+  -- why a replay fails: the text is no schedule, an end failed, or memory ran out; a run that was
+  -- played is never refused, and nothing went out but where writing failed
+  abbrev pub ReplayFails : I → I → O → O → Fault → Type 0
+  ReplayFails old new from to (fault.Line number) =
+      IsNoSchedule gives is_ended old new (schedule_fault.Line number) × (to ≡ from)
+  ReplayFails old new from to (fault.Settings name) =
+      IsNoSchedule gives is_ended old new (schedule_fault.Settings name) × (to ≡ from)
+  ReplayFails old new from to fault.Read = (read_failures old < read_failures new) × (to ≡ from)
+  ReplayFails old new from to fault.Write = write_failures from < write_failures to
+  ReplayFails old new from to fault.Memory = to ≡ from
+  ReplayFails old new from to fault.Check = ⊥
+  ReplayFails old new from to fault.LineTooLong = ⊥
+  ReplayFails old new from to (fault.Outcomes number) = ⊥

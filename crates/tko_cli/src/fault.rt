@@ -1,33 +1,71 @@
-//! Why a command fails.
+//! Why a command fails, and the line that reports it.
+ghost use Rattle.std.specs.Prelude.{◌≡◌};
+ghost use Rattle.tko_cli.specs.Faults.{setting_name};
 
-use std::alloc::{AllocError, AllocFailed};
-use thiserror::Error;
-use tko_model::SettingsFault;
+use crate::outcomes::OutcomesFault;
+use crate::reading::ReadFault;
+use crate::writing::WriteFault;
+use std::alloc::AllocError;
+use std::error::Error;
+use std::fmt;
+use tko_bytes::NoMemory;
+use tko_model::{OpenFault, SettingsFault};
 use tko_runs::{RunFault, ScheduleFault};
 use tko_session::SessionFault;
 
-/// Why a command ended with the status 1. Its text is the line that says so, without the line's end.
-#[derive(Clone, Copy, Debug, PartialEq, Eq, Error)]
+/// Why a command ended with status 1. It prints as the line that reports it, without the line's end.
+#[derive(Clone, Copy, Debug, PartialEq, Eq)]
 pub enum Fault {
-    #[error("fault: read")]
     Read,
-    #[error("fault: write")]
     Write,
-    #[error("fault: line too long")]
     LineTooLong,
-    #[error("fault: memory")]
     Memory,
-    #[error("fault: settings {0}")]
     Settings(SettingsFault),
-    /// The number of the first word of `--outcomes` that is none, counted from 1.
-    #[error("fault: outcomes {0}")]
+    /// The number of the first bad word of `--outcomes`, counted from 1.
     Outcomes(usize),
-    /// The number of a schedule's first bad line, counted from 1; 0 stands for a text that is too long.
-    #[error("fault: schedule line {0}")]
+    /// The number of a schedule's first bad line, counted from 1; 0 where the text is too long.
     Line(u32),
     /// The check refuses the run that was played.
-    #[error("fault: check")]
     Check,
+}
+
+impl fmt::Display for Fault {
+    ghost use Rattle.std.specs.Prelude.{Some};
+    ghost use Rattle.tko_cli.specs.Faults.{fault_line};
+
+    ghost output = { λ fault. Some (fault_line fault) };
+
+    fn fmt<W: fmt::Write>(&self, f: &mut fmt::Formatter<W>) -> fmt::Result {
+        match self {
+            Fault::Read => f.write_str("fault: read"),
+            Fault::Write => f.write_str("fault: write"),
+            Fault::LineTooLong => f.write_str("fault: line too long"),
+            Fault::Memory => f.write_str("fault: memory"),
+            Fault::Settings(setting) => {
+                let name = setting_name(*setting);
+                write!(f, "fault: settings {name}")
+            }
+            Fault::Outcomes(number) => write!(f, "fault: outcomes {number}"),
+            Fault::Line(number) => write!(f, "fault: schedule line {number}"),
+            Fault::Check => f.write_str("fault: check"),
+        }
+    }
+}
+
+impl Error for Fault {}
+
+/// The word that names a setting.
+fn setting_name(setting: SettingsFault) -> &'static str
+    ensures { result.now ≡ setting_name setting }
+{
+    match setting {
+        SettingsFault::Servers => "servers",
+        SettingsFault::Threads => "threads",
+        SettingsFault::Failures => "failures",
+        SettingsFault::Limit => "limit",
+        SettingsFault::Tries => "tries",
+        SettingsFault::Stamp => "stamp",
+    }
 }
 
 impl From<AllocError> for Fault {
@@ -41,14 +79,31 @@ impl From<AllocError> for Fault {
     }
 }
 
-impl<T: Drop> From<AllocFailed<T>> for Fault {
+impl From<OutcomesFault> for Fault {
+    ghost use Rattle.tko_cli.specs.Faults.{fault_of_outcomes};
     ghost use Rattle.std.specs.Prelude.{◌≡◌};
-    ghost use Rattle.tko_cli.specs.declared.fault.Fault.TheVariants.{Memory};
 
-    ghost from_gives = { λ _ fault. fault ≡ Memory };
+    ghost from_gives = { λ cause fault. fault ≡ fault_of_outcomes cause };
 
-    fn from(_: AllocFailed<T>) -> Fault {
-        Fault::Memory
+    fn from(cause: OutcomesFault) -> Fault {
+        match cause {
+            OutcomesFault::Word(number) => Fault::Outcomes(number),
+            OutcomesFault::Memory => Fault::Memory,
+        }
+    }
+}
+
+impl From<OpenFault> for Fault {
+    ghost use Rattle.tko_cli.specs.Faults.{fault_of_opening};
+    ghost use Rattle.std.specs.Prelude.{◌≡◌};
+
+    ghost from_gives = { λ cause fault. fault ≡ fault_of_opening cause };
+
+    fn from(cause: OpenFault) -> Fault {
+        match cause {
+            OpenFault::Settings(setting) => Fault::Settings(setting),
+            OpenFault::Memory => Fault::Memory,
+        }
     }
 }
 
@@ -65,6 +120,31 @@ impl From<SessionFault> for Fault {
             SessionFault::LineTooLong => Fault::LineTooLong,
             SessionFault::Memory => Fault::Memory,
         }
+    }
+}
+
+impl From<ReadFault> for Fault {
+    ghost use Rattle.tko_cli.specs.Faults.{fault_of_reading};
+    ghost use Rattle.std.specs.Prelude.{◌≡◌};
+
+    ghost from_gives = { λ cause fault. fault ≡ fault_of_reading cause };
+
+    fn from(cause: ReadFault) -> Fault {
+        match cause {
+            ReadFault::Input => Fault::Read,
+            ReadFault::Memory => Fault::Memory,
+        }
+    }
+}
+
+impl From<WriteFault> for Fault {
+    ghost use Rattle.std.specs.Prelude.{◌≡◌};
+    ghost use Rattle.tko_cli.specs.declared.fault.Fault.TheVariants.{Write};
+
+    ghost from_gives = { λ _ fault. fault ≡ Write };
+
+    fn from(_: WriteFault) -> Fault {
+        Fault::Write
     }
 }
 

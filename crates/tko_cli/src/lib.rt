@@ -1,7 +1,8 @@
-//! The program behind its arguments and its standard ends: words and bytes in, bytes and a status out.
+//! The program `tkoproxy` over its arguments and its standard ends: words and bytes in, bytes and a
+//! status out.
 //!
-//! - `command`: reads the words, does what they ask, and answers the status.
-//! - `Fault`: why a command ended with the status 1; its text is the line on the third end.
+//! - `command`: reads the words, runs the command that they name, and returns the status.
+//! - `Fault`: why a command ended with status 1; it prints as the line on standard error.
 //! - The list of `--outcomes` becomes the scripts of the servers, and the trails become lines.
 #![tactic(auto)]
 
@@ -18,6 +19,8 @@ mod writing;
 pub use fault::Fault;
 pub use program::command;
 
+#[cfg(test)]
+mod fault_tests;
 #[cfg(test)]
 mod replay_tests;
 #[cfg(test)]

@@ -2,12 +2,41 @@
 ghost use Rattle.std.specs.Prelude.{◌≡◌, IfOk, IfErr, IfSome, IfNone, false};
 ghost use Rattle.tko_cli.specs.Outcomes.{AllAsk, Asks, Refuses, is_outcome, texts_of, words_of};
 
-use crate::Fault;
-use std::alloc::{AllocError, Global};
+use std::alloc::{AllocError, AllocFailed, Global};
 use tko_route::links::Script;
 
-/// What the words of a list ask, or the number of the first word that is none.
-pub(crate) fn scripts_of(alloc: Global, list: &str) -> Result<Vec<Script>, Fault>
+/// Why a list has no scripts.
+#[derive(Clone, Copy, Debug, PartialEq, Eq)]
+pub(crate) enum OutcomesFault {
+    /// The number of the first bad word, counted from 1.
+    Word(usize),
+    Memory,
+}
+
+impl From<AllocError> for OutcomesFault {
+    ghost use Rattle.std.specs.Prelude.{◌≡◌};
+    ghost use Rattle.tko_cli.specs.declared.outcomes.OutcomesFault.TheVariants.{Memory};
+
+    ghost from_gives = { λ _ fault. fault ≡ Memory };
+
+    fn from(_: AllocError) -> OutcomesFault {
+        OutcomesFault::Memory
+    }
+}
+
+impl<T: Drop> From<AllocFailed<T>> for OutcomesFault {
+    ghost use Rattle.std.specs.Prelude.{◌≡◌};
+    ghost use Rattle.tko_cli.specs.declared.outcomes.OutcomesFault.TheVariants.{Memory};
+
+    ghost from_gives = { λ _ fault. fault ≡ Memory };
+
+    fn from(_: AllocFailed<T>) -> OutcomesFault {
+        OutcomesFault::Memory
+    }
+}
+
+/// The scripts that the words of a list ask for.
+pub(crate) fn scripts_of(alloc: Global, list: &str) -> Result<Vec<Script>, OutcomesFault>
     ensures ok { IfOk result (λ scripts. AllAsk (words_of list.now) scripts.items) }
     ensures err { IfErr result (Refuses (words_of list.now)) }
 {
@@ -15,7 +44,7 @@ pub(crate) fn scripts_of(alloc: Global, list: &str) -> Result<Vec<Script>, Fault
     scripts_of_words(alloc, words.as_slice())
 }
 
-fn scripts_of_words(alloc: Global, words: &[&str]) -> Result<Vec<Script>, Fault>
+fn scripts_of_words(alloc: Global, words: &[&str]) -> Result<Vec<Script>, OutcomesFault>
     ensures ok { IfOk result (λ scripts. AllAsk (texts_of words.now) scripts.items) }
     ensures err { IfErr result (Refuses (texts_of words.now)) }
 {
@@ -23,13 +52,13 @@ fn scripts_of_words(alloc: Global, words: &[&str]) -> Result<Vec<Script>, Fault>
     for (place, word) in words.iter().enumerate() {
         match script_of(alloc, word)? {
             Some(script) => scripts.push(script)?,
-            None => return Err(Fault::Outcomes(place + 1)),
+            None => return Err(OutcomesFault::Word(place + 1)),
         }
     }
     Ok(scripts)
 }
 
-/// The words of a list, which commas part.
+/// The words of a list, separated by commas.
 fn words_of(alloc: Global, list: &str) -> Result<Vec<&str>, AllocError>
     ensures { IfOk result (λ words. texts_of words.items ≡ words_of list.now) }
 {
@@ -39,7 +68,7 @@ fn words_of(alloc: Global, list: &str) -> Result<Vec<&str>, AllocError>
     list.split(',').collect(alloc)
 }
 
-/// What a word asks, where it is one of the list's.
+/// The script that a word asks for; None where it is no word of a list.
 fn script_of(alloc: Global, word: &str) -> Result<Option<Script>, AllocError>
     ensures some { IfOk result (λ script. IfSome script (Asks word.now)) }
     ensures none { IfOk result (λ script. IfNone script (is_outcome word.now ≡ false)) }

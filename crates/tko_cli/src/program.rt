@@ -1,11 +1,12 @@
 //! From the arguments to the status.
-ghost use Rattle.std.specs.Prelude.{◌≤◌};
+ghost use Rattle.std.specs.Prelude.{◌≡◌, ◌≤◌, ◌<◌, OnOk, OnErr};
+ghost use Rattle.tko_cli.specs.Reports.{IsReported, Reports};
 
 use crate::Fault;
 use crate::dry::dry;
 use crate::options::Options;
 use crate::replay::replay;
-use crate::writing::write_text;
+use crate::writing::{WriteFault, write_text};
 use clap::Error;
 use clap::error::ErrorKind;
 use std::alloc::Global;
@@ -18,9 +19,9 @@ const FAILED: u8 = 1;
 
 const REFUSED: u8 = 2;
 
-/// Does what the words ask, of which the first is the program's name, and answers the status: 0 where
-/// it was done, 1 after a fault, 2 where the words were refused. Replies and runs go to `output`, and what went
-/// wrong to `faults`.
+/// Runs the command that the words name, of which the first is the program's name, and returns the
+/// status: 0 where it was done, 1 after a fault, 2 where the words were refused. Replies and runs go
+/// to `output`, and the line of a fault to `faults`.
 pub fn command<R: IoRuntime, I: Inlet, O: Outlet, F: Outlet>(
     rt: &R,
     alloc: Global,
@@ -29,7 +30,10 @@ pub fn command<R: IoRuntime, I: Inlet, O: Outlet, F: Outlet>(
     output: &mut O,
     faults: &mut F,
 ) -> u8
-    ensures { result ≤ 2 }
+    ensures status { result ≤ 2 }
+    ensures done { result ≡ 0 → faults.new ≡ faults.old }
+    ensures fault { result ≡ 1 → IsReported F.takes F.failures faults.old faults.new }
+    ensures refused { result ≡ 2 → (input.new ≡ input.old) × (output.new ≡ output.old) }
 {
     let done = match Options::read(alloc, words) {
         Ok(Options::Dry(options)) => dry(rt, alloc, &options, input, output),
@@ -44,14 +48,17 @@ pub fn command<R: IoRuntime, I: Inlet, O: Outlet, F: Outlet>(
     }
 }
 
-/// Says why the words were refused.
+/// Reports why the words were refused, and returns the status. A failure to report it is not
+/// reported.
 fn refuse<R: IoRuntime, F: Outlet>(rt: &R, alloc: Global, faults: &mut F, refusal: &Error) -> u8
-    ensures { result ≤ 2 }
+    ensures status { (0 < result) × (result ≤ 2) }
+    ensures fault { result ≡ 1 → IsReported F.takes F.failures faults.old faults.new }
 {
-    match show(rt, alloc, faults, refusal) {
-        Err(Fault::Memory) => fail(rt, alloc, faults, Fault::Memory),
-        _ => REFUSED,
-    }
+    let Ok(text) = format!(in alloc; "{refusal}") else {
+        return fail(rt, alloc, faults, Fault::Memory);
+    };
+    let _ = write_text(rt, faults, text.as_bytes());
+    REFUSED
 }
 
 /// Writes the text of clap.
@@ -62,16 +69,31 @@ fn show<R: IoRuntime, O: Outlet>(
     answer: &Error,
 ) -> Result<(), Fault> {
     let text = format!(in alloc; "{answer}")?;
-    write_text(rt, outlet, text.as_bytes())
+    write_text(rt, outlet, text.as_bytes())?;
+    Ok(())
 }
 
-/// Writes the line of a fault. There is nobody to tell if that fails too.
+/// Reports a fault and returns its status. A failure to report it is not reported.
 fn fail<R: IoRuntime, F: Outlet>(rt: &R, alloc: Global, faults: &mut F, fault: Fault) -> u8
-    ensures { result ≤ 2 }
+    ensures status { result ≡ 1 }
+    ensures fault { IsReported F.takes F.failures faults.old faults.new }
 {
-    let _ = match format!(in alloc; "{fault}\n") {
+    let _ = report(rt, alloc, faults, fault);
+    FAILED
+}
+
+/// Writes the line of a fault, or that memory ran out.
+fn report<R: IoRuntime, F: Outlet>(
+    rt: &R,
+    alloc: Global,
+    faults: &mut F,
+    fault: Fault,
+) -> Result<(), WriteFault>
+    ensures ok { OnOk result (Reports F.takes fault faults.old faults.new) }
+    ensures err { OnErr result (F.failures faults.old < F.failures faults.new) }
+{
+    match format!(in alloc; "{fault}\n") {
         Ok(line) => write_text(rt, faults, line.as_bytes()),
         Err(_) => write_text(rt, faults, b"fault: memory\n"),
-    };
-    FAILED
+    }
 }

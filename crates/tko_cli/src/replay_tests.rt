@@ -1,10 +1,8 @@
 //! Schedules that were worked out by hand.
 
+use crate::fault_tests::fails;
 use crate::tests::{answers, ends_with, tape};
 use std::alloc::{AllocError, Global};
-use std::net::{Net, TcpStream};
-use std::process::Abort;
-use std::sync::Wait;
 use std::test::Fail;
 use tko_session::{Stop, Taped};
 
@@ -76,7 +74,7 @@ fn nearly_worn_stamp(rt: HostRuntime) -> Result<(), Fail> {
 }
 
 #[test]
-fn what_is_refused_is_told(rt: HostRuntime) -> Result<(), Fail> {
+fn refused_begins_are_printed(rt: HostRuntime) -> Result<(), Fail> {
     let lines =
         "begin 9 soft 0\nstep 1 2\nbegin 0 look 2\nbegin 0 look 1\nbegin 0 look 1\nstep 0 2\n\
         step 2 1\nrun 1\nrun 5\nbegin 1 release 0\n";
@@ -88,24 +86,6 @@ fn what_is_refused_is_told(rt: HostRuntime) -> Result<(), Fail> {
     let schedule = format!(in rt.alloc(); "{HEADER}{lines}")?;
     answers(&rt, rt.alloc(), REPLAY, schedule.as_str(), run)?;
     Ok(())
-}
-
-/// A replay of these bytes ends with this fault and prints nothing.
-fn fails_with<R: Wait + Net<Stream = TcpStream> + Abort>(
-    rt: &R,
-    alloc: Global,
-    schedule: &[u8],
-    fault: &str,
-) -> Result<(), AllocError> {
-    let input = Taped::new(Vec::from_slice(alloc, schedule)?, 4096, Vec::new(alloc));
-    ends_with(
-        rt,
-        alloc,
-        REPLAY,
-        input,
-        tape(alloc, "", 4096)?,
-        (1, "", fault),
-    )
 }
 
 #[test]
@@ -121,7 +101,7 @@ fn malformed_schedules(rt: HostRuntime) -> Result<(), Fail> {
             "fault: schedule line 2\n",
         ),
     ] {
-        fails_with(&rt, alloc, text.as_bytes(), fault)?;
+        fails(&rt, alloc, REPLAY, text.as_bytes(), fault)?;
     }
     for (line, fault) in [
         ("step 0 0\n", "fault: schedule line 8\n"),
@@ -136,7 +116,7 @@ fn malformed_schedules(rt: HostRuntime) -> Result<(), Fail> {
         ("run 0 \n", "fault: schedule line 8\n"),
     ] {
         let text = format!(in alloc; "{HEADER}{line}")?;
-        fails_with(&rt, alloc, text.as_bytes(), fault)?;
+        fails(&rt, alloc, REPLAY, text.as_bytes(), fault)?;
     }
     Ok(())
 }
@@ -144,16 +124,54 @@ fn malformed_schedules(rt: HostRuntime) -> Result<(), Fail> {
 #[test]
 fn settings_outside_their_ranges(rt: HostRuntime) -> Result<(), Fail> {
     let alloc = rt.alloc();
-    for (limit, stamp, fault) in [
-        ("257", "0", "fault: settings limit\n"),
-        ("4294967296", "0", "fault: settings limit\n"),
-        ("256", "2251799813685241", "fault: settings stamp\n"),
-        ("256", "18446744073709551615", "fault: settings stamp\n"),
+    for (servers, threads, failures, limit, tries, stamp, fault) in [
+        ("257", "65", "0", "257", "0", "2251799813685241", "servers"),
+        ("256", "65", "0", "257", "0", "2251799813685241", "threads"),
+        (
+            "256",
+            "64",
+            "1001",
+            "257",
+            "0",
+            "2251799813685241",
+            "failures",
+        ),
+        ("256", "64", "1000", "257", "0", "2251799813685241", "limit"),
+        ("256", "64", "1000", "4294967296", "8", "0", "limit"),
+        (
+            "256",
+            "64",
+            "1000",
+            "256",
+            "1001",
+            "2251799813685241",
+            "tries",
+        ),
+        (
+            "256",
+            "64",
+            "1000",
+            "256",
+            "1000",
+            "2251799813685241",
+            "stamp",
+        ),
+        (
+            "256",
+            "64",
+            "1000",
+            "256",
+            "1000",
+            "18446744073709551615",
+            "stamp",
+        ),
     ] {
         let text = format!(in alloc;
-            "schedule 1\nservers 1\nthreads 1\nfailures 2\nlimit {limit}\ntries 8\nstamp {stamp}"
+            "schedule 1\nservers {servers}\nthreads {threads}\nfailures {failures}\n\
+            limit {limit}\ntries {tries}\nstamp {stamp}"
         )?;
-        fails_with(&rt, alloc, text.as_bytes(), fault)?;
+        let fault = format!(in alloc; "fault: settings {fault}\n")?;
+        fails(&rt, alloc, REPLAY, text.as_bytes(), fault.as_str())?;
     }
     Ok(())
 }
@@ -163,36 +181,35 @@ fn schedules_that_are_too_long(rt: HostRuntime) -> Result<(), Fail> {
     let alloc = rt.alloc();
     let lines = "run 0\n".repeat(alloc, 1_001)?;
     let text = format!(in alloc; "{HEADER}{lines}")?;
-    fails_with(&rt, alloc, text.as_bytes(), "fault: schedule line 1008\n")?;
+    fails(
+        &rt,
+        alloc,
+        REPLAY,
+        text.as_bytes(),
+        "fault: schedule line 1008\n",
+    )?;
     let long = vec![in alloc; 0u8; 1_048_577]?;
-    fails_with(&rt, alloc, &long, "fault: schedule line 0\n")?;
-    fails_with(&rt, alloc, &long[1..], "fault: schedule line 1\n")?;
-    fails_with(&rt, alloc, &[255, 254, 10], "fault: schedule line 1\n")?;
+    fails(&rt, alloc, REPLAY, &long, "fault: schedule line 0\n")?;
+    fails(&rt, alloc, REPLAY, &long[1..], "fault: schedule line 1\n")?;
+    fails(
+        &rt,
+        alloc,
+        REPLAY,
+        &[255, 254, 10],
+        "fault: schedule line 1\n",
+    )?;
     Ok(())
 }
 
 #[test]
-fn failing_ends_are_told(rt: HostRuntime) -> Result<(), Fail> {
+fn failing_ends(rt: HostRuntime) -> Result<(), Fail> {
     let alloc = rt.alloc();
     let stops = vec![in alloc; (1, Stop::Again), (2, Stop::Fault)]?;
     let input = Taped::new(Vec::from_slice(alloc, HEADER.as_bytes())?, 5, stops);
-    ends_with(
-        &rt,
-        alloc,
-        REPLAY,
-        input,
-        tape(alloc, "", 4096)?,
-        (1, "", "fault: read\n"),
-    )?;
-    let stops = vec![in alloc; (0, Stop::Fault)]?;
-    let output = Taped::new(Vec::new(alloc), 4096, stops);
-    ends_with(
-        &rt,
-        alloc,
-        REPLAY,
-        tape(alloc, HEADER, 4096)?,
-        output,
-        (1, "", "fault: write\n"),
-    )?;
+    let output = tape(alloc, "", 4096)?;
+    ends_with(&rt, alloc, REPLAY, input, output, (1, "", "fault: read\n"))?;
+    let input = tape(alloc, HEADER, 4096)?;
+    let output = Taped::new(Vec::new(alloc), 4096, vec![in alloc; (0, Stop::Fault)]?);
+    ends_with(&rt, alloc, REPLAY, input, output, (1, "", "fault: write\n"))?;
     Ok(())
 }

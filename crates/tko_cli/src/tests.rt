@@ -1,4 +1,4 @@
-//! Whole commands over ends in memory.
+//! Whole commands over ends in memory: what the tests share, and the command `dry`.
 
 use crate::command;
 use std::alloc::{AllocError, Global};
@@ -8,7 +8,9 @@ use std::sync::Wait;
 use std::test::Fail;
 use tko_session::{Stop, Taped};
 
-/// A line of words, the program's name first.
+const NO_SERVER: &str = "SERVER_ERROR no server\r\n";
+
+/// The words of a line, of which the first is the program's name.
 fn words_of(alloc: Global, line: &str) -> Result<Vec<String>, AllocError> {
     let mut words = Vec::new(alloc);
     for word in line.split(' ') {
@@ -17,14 +19,14 @@ fn words_of(alloc: Global, line: &str) -> Result<Vec<String>, AllocError> {
     Ok(words)
 }
 
-/// An end over these bytes that moves at most so many a call.
+/// An end over these bytes that moves at most so many of them in a call.
 pub fn tape(alloc: Global, bytes: &str, greatest: usize) -> Result<Taped, AllocError> {
     let bytes = Vec::from_slice(alloc, bytes.as_bytes())?;
     Ok(Taped::new(bytes, greatest.max(1), Vec::new(alloc)))
 }
 
-/// Does the command of a line over these ends, and answers its status.
-fn status_of<R: Wait + Net<Stream = TcpStream>>(
+/// Runs the command of a line over these ends, and returns its status.
+pub fn status_of<R: Wait + Net<Stream = TcpStream>>(
     rt: &R,
     alloc: Global,
     line: &str,
@@ -36,7 +38,7 @@ fn status_of<R: Wait + Net<Stream = TcpStream>>(
     Ok(command(rt, alloc, words.as_slice(), input, output, faults))
 }
 
-/// The command of a line has this status and writes these replies and faults.
+/// Asserts the status of a line's command, its replies and what it writes for a fault.
 pub fn ends_with<R: Wait + Net<Stream = TcpStream> + Abort>(
     rt: &R,
     alloc: Global,
@@ -53,7 +55,8 @@ pub fn ends_with<R: Wait + Net<Stream = TcpStream> + Abort>(
     Ok(())
 }
 
-/// The command of a line ends well and answers so, in whatever pieces bytes come and go.
+/// Asserts that the command of a line ends with status 0 and these replies, also where each read or
+/// each write moves one byte.
 pub fn answers<R: Wait + Net<Stream = TcpStream> + Abort>(
     rt: &R,
     alloc: Global,
@@ -90,7 +93,8 @@ fn marked_server_is_skipped(rt: HostRuntime) -> Result<(), Fail> {
 fn timeouts_count_up_and_reset(rt: HostRuntime) -> Result<(), Fail> {
     let line = "tkoproxy dry --failures 3 --outcomes timeout,timeout,miss --trail";
     let replies = "SERVER_ERROR no server\r\nSERVER_ERROR no server\r\nEND\r\n\
-        trail 1 0 sent timeout counted:1\ntrail 2 0 sent timeout counted:2\ntrail 3 0 sent reply reset:2\n";
+        trail 1 0 sent timeout counted:1\ntrail 2 0 sent timeout counted:2\n\
+        trail 3 0 sent reply reset:2\n";
     answers(
         &rt,
         rt.alloc(),
@@ -118,92 +122,57 @@ fn key_of_250_and_251_bytes(rt: HostRuntime) -> Result<(), Fail> {
     Ok(())
 }
 
-#[test]
-fn faults_have_status_1(rt: HostRuntime) -> Result<(), Fail> {
-    let alloc = rt.alloc();
-    for (line, fault) in [
-        ("tkoproxy dry --outcomes miss,", "fault: outcomes 2\n"),
-        (
-            "tkoproxy dry --outcomes refused,timeout,misses --servers 0",
-            "fault: outcomes 3\n",
-        ),
-        (
-            "tkoproxy dry --servers 0 --failures 0",
-            "fault: settings servers\n",
-        ),
-        ("tkoproxy dry --servers 257", "fault: settings servers\n"),
-        ("tkoproxy dry --failures 0", "fault: settings failures\n"),
-        ("tkoproxy dry --limit 257", "fault: settings limit\n"),
-        ("tkoproxy dry --tries 0", "fault: settings tries\n"),
-    ] {
-        let input = tape(alloc, "get a\r\n", 4096)?;
-        ends_with(
-            &rt,
-            alloc,
-            line,
-            input,
-            tape(alloc, "", 4096)?,
-            (1, "", fault),
-        )?;
+/// The lines of one request that tried these servers, each with the same end.
+fn trail_of(alloc: Global, servers: u32, end: &str) -> Result<String, AllocError> {
+    let mut lines = String::new(alloc);
+    for server in 0..servers {
+        write!(lines, "trail 1 {server} {end}\n")?;
     }
+    Ok(lines)
+}
+
+#[test]
+fn trail_of_256_servers(rt: HostRuntime) -> Result<(), Fail> {
+    let line = "tkoproxy dry --servers 256 --trail";
+    let lines = trail_of(rt.alloc(), 256, "sent refused took-hard")?;
+    let replies = format!(in rt.alloc(); "{NO_SERVER}{lines}")?;
+    answers(&rt, rt.alloc(), line, "get a\r\n", replies.as_str())?;
     Ok(())
 }
 
 #[test]
-fn failing_ends_are_told(rt: HostRuntime) -> Result<(), Fail> {
-    let alloc = rt.alloc();
-    let line = "tkoproxy dry --trail";
-    let again = vec![in alloc; (1, Stop::Again), (2, Stop::Fault)]?;
-    let input = Taped::new(Vec::from_slice(alloc, b"get a\r\n")?, 5, again);
-    let fault = (1, "", "fault: read\n");
-    ends_with(&rt, alloc, line, input, tape(alloc, "", 4096)?, fault)?;
-    let broken = vec![in alloc; (1, Stop::Fault)]?;
-    let output = Taped::new(Vec::new(alloc), 4096, broken);
-    let fault = (1, "SERVER_ERROR no server\r\n", "fault: write\n");
-    ends_with(
+fn one_server_and_three_failures_by_default(rt: HostRuntime) -> Result<(), Fail> {
+    let line = "tkoproxy dry --outcomes timeout,timeout,timeout --trail";
+    let input = "get a\r\n".repeat(rt.alloc(), 4)?;
+    let replies = format!(in rt.alloc();
+        "{NO_SERVER}{NO_SERVER}{NO_SERVER}{NO_SERVER}\
+        trail 1 0 sent timeout counted:1\ntrail 2 0 sent timeout counted:2\n\
+        trail 3 0 sent timeout took-soft\ntrail 4 0 skipped soft:0\n"
+    )?;
+    answers(&rt, rt.alloc(), line, input.as_str(), replies.as_str())?;
+    Ok(())
+}
+
+#[test]
+fn forty_soft_marks_by_default(rt: HostRuntime) -> Result<(), Fail> {
+    let others = ",timeout".repeat(rt.alloc(), 40)?;
+    let line = format!(in rt.alloc();
+        "tkoproxy dry --servers 41 --failures 1 --outcomes timeout{others} --trail"
+    )?;
+    let lines = trail_of(rt.alloc(), 40, "sent timeout took-soft")?;
+    let replies = format!(in rt.alloc(); "{NO_SERVER}{lines}trail 1 40 sent timeout full\n")?;
+    answers(
         &rt,
-        alloc,
-        line,
-        tape(alloc, "get a\r\n", 4096)?,
-        output,
-        fault,
+        rt.alloc(),
+        line.as_str(),
+        "get a\r\n",
+        replies.as_str(),
     )?;
     Ok(())
 }
 
-/// The words of a line are refused with a text on the third end, or explained with one on the second.
-fn says_only<R: Wait + Net<Stream = TcpStream> + Abort>(
-    rt: &R,
-    alloc: Global,
-    line: &str,
-    status: u8,
-) -> Result<(), AllocError> {
-    let mut input = tape(alloc, "get a\r\n", 4096)?;
-    let mut output = tape(alloc, "", 4096)?;
-    let mut faults = tape(alloc, "", 1)?;
-    let came = status_of(rt, alloc, line, &mut input, &mut output, &mut faults)?;
-    assert_eq!(rt; came, status, "{line}");
-    assert_eq!(rt; output.bytes().is_empty(), status == 2, "{line}");
-    assert_eq!(rt; faults.bytes().is_empty(), status == 0, "{line}");
-    Ok(())
-}
-
 #[test]
-fn refused_words_have_status_2(rt: HostRuntime) -> Result<(), Fail> {
-    let alloc = rt.alloc();
-    for (line, status) in [
-        ("tkoproxy", 2),
-        ("tkoproxy wet", 2),
-        ("tkoproxy dry --servers x", 2),
-        ("tkoproxy dry --servers 4294967296", 2),
-        ("tkoproxy dry --pools 1", 2),
-        ("tkoproxy dry a", 2),
-        ("tkoproxy replay a", 2),
-        ("tkoproxy --help", 0),
-        ("tkoproxy dry --help", 0),
-        ("tkoproxy replay --help", 0),
-    ] {
-        says_only(&rt, alloc, line, status)?;
-    }
+fn no_outcomes_and_no_trail_by_default(rt: HostRuntime) -> Result<(), Fail> {
+    answers(&rt, rt.alloc(), "tkoproxy dry", "get a\r\n", NO_SERVER)?;
     Ok(())
 }

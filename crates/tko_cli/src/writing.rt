@@ -1,24 +1,27 @@
 //! Whole texts onto an outlet.
-ghost use Rattle.std.specs.Prelude.{IfErr, OnOk};
-ghost use Rattle.tko_cli.specs.Replays.{CannotWrite};
+ghost use Rattle.std.specs.Prelude.{◌≡◌, ◌<◌, OnErr, OnOk};
 
-use crate::Fault;
 use tko_route::IoRuntime;
 use tko_session::{Outlet, write_all};
 
-/// Writes all of a text. A write that was interrupted is done again.
+/// The outlet failed.
+#[derive(Clone, Copy, Debug, PartialEq, Eq)]
+pub(crate) struct WriteFault;
+
+/// Writes all of a text. A write that was interrupted is made again.
 pub(crate) fn write_text<R: IoRuntime, O: Outlet>(
     rt: &R,
     outlet: &mut O,
     text: &[u8],
-) -> Result<(), Fault>
+) -> Result<(), WriteFault>
     ensures ok { OnOk result (O.takes outlet.old text.now outlet.new) }
-    ensures err { IfErr result (CannotWrite O.failures outlet.old outlet.new) }
+    ensures calm { OnOk result (O.failures outlet.new ≡ O.failures outlet.old) }
+    ensures err { OnErr result (O.failures outlet.old < O.failures outlet.new) }
 {
     let mut written = 0;
     if write_all(rt, outlet, text, &mut written) {
         Ok(())
     } else {
-        Err(Fault::Write)
+        Err(WriteFault)
     }
 }
