@@ -4,13 +4,14 @@ ghost use Rattle.std.specs.Prelude.{◌≡◌, ◌++◌, OnOk, IfOk};
 ghost use Rattle.tko_cli.specs.Texts.{attempt_text, end_text, outcome_text, trail_text, trails_text};
 ghost use Rattle.tko_route.specs.Trail.{server_of};
 
-use std::alloc::{AllocError, Global};
+use std::alloc::Global;
+use tko_bytes::NoMemory;
 use tko_model::{append_mark, append_number, append_reply};
 use tko_route::links::Outcome;
 use tko_route::{Attempt, Trail};
 
 /// The lines of the trails of all routed requests, which are numbered from 1.
-pub(crate) fn trail_lines(alloc: Global, trails: &[Trail]) -> Result<Vec<u8>, AllocError>
+pub(crate) fn trail_lines(alloc: Global, trails: &[Trail]) -> Result<Vec<u8>, NoMemory>
     ensures { IfOk result (λ lines. lines.items ≡ trails_text 1 trails.now) }
 {
     let mut out = Vec::new(alloc);
@@ -20,7 +21,7 @@ pub(crate) fn trail_lines(alloc: Global, trails: &[Trail]) -> Result<Vec<u8>, Al
     Ok(out)
 }
 
-fn append_trail(out: &mut Vec<u8>, number: usize, attempts: &[Attempt]) -> Result<(), AllocError>
+fn append_trail(out: &mut Vec<u8>, number: usize, attempts: &[Attempt]) -> Result<(), NoMemory>
     ensures { OnOk result (out.new.items ≡ out.old.items ++ trail_text number attempts.now) }
 {
     for attempt in attempts {
@@ -29,14 +30,14 @@ fn append_trail(out: &mut Vec<u8>, number: usize, attempts: &[Attempt]) -> Resul
     Ok(())
 }
 
-fn append_line(out: &mut Vec<u8>, number: usize, attempt: &Attempt) -> Result<(), AllocError>
+fn append_line(out: &mut Vec<u8>, number: usize, attempt: &Attempt) -> Result<(), NoMemory>
     ensures { OnOk result (out.new.items ≡ out.old.items ++ attempt_text number attempt.now) }
 {
     append_number(out, b"trail ", number as u64)?;
     append_number(out, b" ", server_of(attempt) as u64)?;
     out.extend_from_slice(b" ")?;
     append_end(out, attempt)?;
-    out.extend_from_slice(b"\n")
+    Ok(out.extend_from_slice(b"\n")?)
 }
 
 fn server_of(attempt: &Attempt) -> usize
@@ -48,7 +49,7 @@ fn server_of(attempt: &Attempt) -> usize
     }
 }
 
-fn append_end(out: &mut Vec<u8>, attempt: &Attempt) -> Result<(), AllocError>
+fn append_end(out: &mut Vec<u8>, attempt: &Attempt) -> Result<(), NoMemory>
     ensures { OnOk result (out.new.items ≡ out.old.items ++ end_text attempt.now) }
 {
     match attempt {
@@ -62,19 +63,19 @@ fn append_end(out: &mut Vec<u8>, attempt: &Attempt) -> Result<(), AllocError>
             out.extend_from_slice(b" ")?;
             append_reply(out, *reply)
         }
-        Attempt::Spent(_) => out.extend_from_slice(b"spent"),
+        Attempt::Spent(_) => Ok(out.extend_from_slice(b"spent")?),
     }
 }
 
 /// Puts the word of an outcome at the end.
-fn append_outcome(out: &mut Vec<u8>, outcome: &Outcome) -> Result<(), AllocError>
+fn append_outcome(out: &mut Vec<u8>, outcome: &Outcome) -> Result<(), NoMemory>
     ensures { OnOk result (out.new.items ≡ out.old.items ++ outcome_text outcome.now) }
 {
-    out.extend_from_slice(match outcome {
+    Ok(out.extend_from_slice(match outcome {
         Outcome::Reply(_) => b"reply",
         Outcome::Timeout => b"timeout",
         Outcome::Refused => b"refused",
         Outcome::Broken => b"broken",
         Outcome::Spent => b"spent",
-    })
+    })?)
 }

@@ -7,6 +7,7 @@ use crate::{Mark, Op, Reply, ServerState, Settings, SettingsFault, Transition};
 use std::alloc::{AllocError, Global};
 use std::marker::Model;
 use thiserror::Error;
+use tko_bytes::NoMemory;
 
 /// Why a tracker can't be opened.
 #[derive(Clone, Copy, Debug, PartialEq, Eq, Error)]
@@ -15,6 +16,17 @@ pub enum OpenFault {
     Settings(SettingsFault),
     #[error("memory")]
     Memory,
+}
+
+impl From<NoMemory> for OpenFault {
+    ghost use Rattle.std.specs.Prelude.{◌≡◌};
+    ghost use Rattle.tko_model.specs.declared.plain.OpenFault.TheVariants as fault;
+
+    ghost from_gives = { λ _ e. e ≡ fault.Memory };
+
+    fn from(_: NoMemory) -> OpenFault {
+        OpenFault::Memory
+    }
 }
 
 impl From<AllocError> for OpenFault {

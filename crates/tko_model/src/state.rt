@@ -3,7 +3,8 @@ ghost use Rattle.std.specs.Prelude.{◌≡◌, IfOk, length};
 ghost use Rattle.tko_model.specs.Tracker.{opened, softs};
 
 use crate::{Mark, Settings};
-use std::alloc::{AllocError, Global};
+use std::alloc::Global;
+use tko_bytes::NoMemory;
 
 /// The state of a server: its mark, and its stamp, which is the opening stamp plus the number of
 /// changes of the mark.
@@ -24,7 +25,7 @@ pub fn count_softs(servers: &[ServerState]) -> usize
 }
 
 /// The servers of a tracker when it opens: each is up, at the opening stamp.
-pub fn opened_servers(alloc: Global, settings: &Settings) -> Result<Vec<ServerState>, AllocError>
+pub fn opened_servers(alloc: Global, settings: &Settings) -> Result<Vec<ServerState>, NoMemory>
     ensures servers { IfOk result (λ servers. servers.items ≡ (opened settings.now).servers) }
     ensures count { IfOk result (λ servers. length servers.items ≡ settings.now.servers) }
 {
@@ -32,5 +33,5 @@ pub fn opened_servers(alloc: Global, settings: &Settings) -> Result<Vec<ServerSt
         mark: Mark::Up(0),
         stamp: settings.opening_stamp,
     };
-    vec![in alloc; server; settings.servers as usize]
+    Ok(vec![in alloc; server; settings.servers as usize]?)
 }

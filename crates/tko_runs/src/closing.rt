@@ -4,11 +4,12 @@ ghost use Rattle.tko_runs.specs.Claims.{AllCome, opened_roll};
 ghost use Rattle.tko_runs.specs.Prints.{left_by, line, order_text, placed_text, servers_text, softs_text};
 
 use crate::{Event, Placed};
-use std::alloc::{AllocError, Global};
+use std::alloc::Global;
+use tko_bytes::NoMemory;
 use tko_model::{ServerState, Settings, append_mark, append_number, count_softs, opened_servers};
 use tko_steps::{Place, Word};
 
-pub(crate) fn append_order(out: &mut Vec<u8>, places: &[Placed]) -> Result<(), AllocError>
+pub(crate) fn append_order(out: &mut Vec<u8>, places: &[Placed]) -> Result<(), NoMemory>
     ensures { OnOk result (out.new.items ≡ out.old.items ++ order_text 1 places.now) }
 {
     for (place, placed) in places.iter().enumerate() {
@@ -17,23 +18,23 @@ pub(crate) fn append_order(out: &mut Vec<u8>, places: &[Placed]) -> Result<(), A
     Ok(())
 }
 
-fn append_call(out: &mut Vec<u8>, number: usize, placed: Placed) -> Result<(), AllocError>
+fn append_call(out: &mut Vec<u8>, number: usize, placed: Placed) -> Result<(), NoMemory>
     ensures { OnOk result (out.new.items ≡ out.old.items ++ order_text number (placed ∷ [])) }
 {
     append_number(out, b"call ", number as u64)?;
     append_placed(out, placed)
 }
 
-fn append_placed(out: &mut Vec<u8>, placed: Placed) -> Result<(), AllocError>
+fn append_placed(out: &mut Vec<u8>, placed: Placed) -> Result<(), NoMemory>
     ensures { OnOk result (out.new.items ≡ out.old.items ++ line (placed_text placed)) }
 {
     match placed {
         Placed::At(number) => {
             append_number(out, b" at ", number)?;
-            out.extend_from_slice(b"\n")
+            Ok(out.extend_from_slice(b"\n")?)
         }
-        Placed::Contended => out.extend_from_slice(b" contended\n"),
-        Placed::Open => out.extend_from_slice(b" open\n"),
+        Placed::Contended => Ok(out.extend_from_slice(b" contended\n")?),
+        Placed::Open => Ok(out.extend_from_slice(b" open\n")?),
     }
 }
 
@@ -42,7 +43,7 @@ pub(crate) fn servers_left(
     alloc: Global,
     settings: &Settings,
     events: &[Event],
-) -> Result<Vec<ServerState>, AllocError>
+) -> Result<Vec<ServerState>, NoMemory>
     requires { AllCome settings.now (opened_roll settings.now) events.now }
     ensures { IfOk result (λ servers. servers.items ≡ left_by settings.now events.now) }
 {
@@ -60,7 +61,7 @@ pub(crate) fn servers_left(
     Ok(servers)
 }
 
-pub(crate) fn append_servers(out: &mut Vec<u8>, servers: &[ServerState]) -> Result<(), AllocError>
+pub(crate) fn append_servers(out: &mut Vec<u8>, servers: &[ServerState]) -> Result<(), NoMemory>
     ensures { OnOk result (out.new.items ≡ out.old.items ++ servers_text 0 servers.now) }
 {
     for (place, server) in servers.iter().enumerate() {
@@ -69,19 +70,19 @@ pub(crate) fn append_servers(out: &mut Vec<u8>, servers: &[ServerState]) -> Resu
     Ok(())
 }
 
-fn append_server(out: &mut Vec<u8>, place: usize, server: ServerState) -> Result<(), AllocError>
+fn append_server(out: &mut Vec<u8>, place: usize, server: ServerState) -> Result<(), NoMemory>
     ensures { OnOk result (out.new.items ≡ out.old.items ++ servers_text place (server ∷ [])) }
 {
     append_number(out, b"server ", place as u64)?;
     out.extend_from_slice(b" ")?;
     append_mark(out, server.mark)?;
     append_number(out, b"@", server.stamp)?;
-    out.extend_from_slice(b"\n")
+    Ok(out.extend_from_slice(b"\n")?)
 }
 
-pub(crate) fn append_softs(out: &mut Vec<u8>, servers: &[ServerState]) -> Result<(), AllocError>
+pub(crate) fn append_softs(out: &mut Vec<u8>, servers: &[ServerState]) -> Result<(), NoMemory>
     ensures { OnOk result (out.new.items ≡ out.old.items ++ softs_text servers.now) }
 {
     append_number(out, b"soft firm:", count_softs(servers) as u64)?;
-    out.extend_from_slice(b",held:0\n")
+    Ok(out.extend_from_slice(b",held:0\n")?)
 }

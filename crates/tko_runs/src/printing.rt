@@ -8,7 +8,7 @@ ghost use Rattle.tko_steps.specs.declared.step.Kind.TheVariants.{Whole};
 use crate::closing::{append_order, append_servers, append_softs, servers_left};
 use crate::run::Noted;
 use crate::{Event, Order, Remark, Run};
-use std::alloc::{AllocError, Global};
+use std::alloc::Global;
 use tko_bytes::NoMemory;
 use tko_model::{Op, Reply, append_number, append_reply, op_word};
 use tko_steps::{BeginFault, Kind, Place};
@@ -34,7 +34,7 @@ impl Run {
 
 /// The events and the remarks between them. A note's count may be zero; the events before it are
 /// then printed with those before the next note.
-fn append_told(out: &mut Vec<u8>, events: &[Event], notes: &[Noted]) -> Result<(), AllocError>
+fn append_told(out: &mut Vec<u8>, events: &[Event], notes: &[Noted]) -> Result<(), NoMemory>
     ensures { OnOk result (out.new.items ≡
         out.old.items ++ told_text 1 0 events.now (one_by_one notes.now)) }
 {
@@ -54,7 +54,7 @@ fn append_told(out: &mut Vec<u8>, events: &[Event], notes: &[Noted]) -> Result<(
     append_events(out, &mut number, rest)
 }
 
-fn append_events(out: &mut Vec<u8>, number: &mut u64, events: &[Event]) -> Result<(), AllocError>
+fn append_events(out: &mut Vec<u8>, number: &mut u64, events: &[Event]) -> Result<(), NoMemory>
     requires { number.old + length events.now < 2 ^ 64 }
     ensures text { OnOk result (out.new.items ≡
         out.old.items ++ events_text number.old events.now) }
@@ -84,13 +84,13 @@ fn steps_of(event: &Event) -> u64
     }
 }
 
-fn append_event(out: &mut Vec<u8>, number: u64, event: &Event) -> Result<(), AllocError>
+fn append_event(out: &mut Vec<u8>, number: u64, event: &Event) -> Result<(), NoMemory>
     ensures { OnOk result (out.new.items ≡ out.old.items ++ event_text number event.now) }
 {
     match *event {
         Event::Begin { thread, op, server } => {
             append_begin(out, thread, op, server)?;
-            out.extend_from_slice(b"\n")
+            Ok(out.extend_from_slice(b"\n")?)
         }
         Event::Step {
             kind: Kind::Enrol,
@@ -109,7 +109,7 @@ fn append_event(out: &mut Vec<u8>, number: u64, event: &Event) -> Result<(), All
     }
 }
 
-fn append_begin(out: &mut Vec<u8>, thread: usize, op: Op, server: usize) -> Result<(), AllocError>
+fn append_begin(out: &mut Vec<u8>, thread: usize, op: Op, server: usize) -> Result<(), NoMemory>
     ensures { OnOk result (out.new.items ≡ out.old.items ++ begin_text thread op server) }
 {
     append_number(out, b"begin ", thread as u64)?;
@@ -118,12 +118,7 @@ fn append_begin(out: &mut Vec<u8>, thread: usize, op: Op, server: usize) -> Resu
     append_number(out, b" ", server as u64)
 }
 
-fn append_step(
-    out: &mut Vec<u8>,
-    number: u64,
-    thread: usize,
-    place: Place,
-) -> Result<(), AllocError>
+fn append_step(out: &mut Vec<u8>, number: u64, thread: usize, place: Place) -> Result<(), NoMemory>
     ensures { OnOk result (out.new.items ≡
         out.old.items ++ step_text number thread Whole place None) }
 {
@@ -131,19 +126,19 @@ fn append_step(
     append_number(out, b" ", thread as u64)?;
     out.extend_from_slice(b" whole ")?;
     append_place(out, place)?;
-    out.extend_from_slice(b" done\n")
+    Ok(out.extend_from_slice(b" done\n")?)
 }
 
-fn append_place(out: &mut Vec<u8>, place: Place) -> Result<(), AllocError>
+fn append_place(out: &mut Vec<u8>, place: Place) -> Result<(), NoMemory>
     ensures { OnOk result (out.new.items ≡ out.old.items ++ place_text place) }
 {
     match place {
         Place::Server(server) => append_number(out, b"server:", server as u64),
-        Place::Enrolment => out.extend_from_slice(b"enrolment"),
+        Place::Enrolment => Ok(out.extend_from_slice(b"enrolment")?),
     }
 }
 
-fn append_answer(out: &mut Vec<u8>, thread: usize, answer: Option<Reply>) -> Result<(), AllocError>
+fn append_answer(out: &mut Vec<u8>, thread: usize, answer: Option<Reply>) -> Result<(), NoMemory>
     ensures { OnOk result (out.new.items ≡ out.old.items ++ answer_text thread answer) }
 {
     let Some(reply) = answer else {
@@ -152,12 +147,12 @@ fn append_answer(out: &mut Vec<u8>, thread: usize, answer: Option<Reply>) -> Res
     append_number(out, b"answer ", thread as u64)?;
     out.extend_from_slice(b" ")?;
     append_reply(out, reply)?;
-    out.extend_from_slice(b"\n")
+    Ok(out.extend_from_slice(b"\n")?)
 }
 
 /// A remark, so many times.
 #[tactic(auto, using(crate::proofs::PrintLemmas::repeated_more))]
-fn append_remarks(out: &mut Vec<u8>, remark: Remark, times: u64) -> Result<(), AllocError>
+fn append_remarks(out: &mut Vec<u8>, remark: Remark, times: u64) -> Result<(), NoMemory>
     ensures { OnOk result (out.new.items ≡ out.old.items ++ repeated times (remark_text remark)) }
 {
     for _ in 0..times {
@@ -166,7 +161,7 @@ fn append_remarks(out: &mut Vec<u8>, remark: Remark, times: u64) -> Result<(), A
     Ok(())
 }
 
-fn append_remark(out: &mut Vec<u8>, remark: Remark) -> Result<(), AllocError>
+fn append_remark(out: &mut Vec<u8>, remark: Remark) -> Result<(), NoMemory>
     ensures { OnOk result (out.new.items ≡ out.old.items ++ remark_text remark) }
 {
     match remark {
@@ -177,15 +172,15 @@ fn append_remark(out: &mut Vec<u8>, remark: Remark) -> Result<(), AllocError>
             fault,
         } => {
             append_begin(out, thread, op, server)?;
-            out.extend_from_slice(refusal(fault))
+            Ok(out.extend_from_slice(refusal(fault))?)
         }
         Remark::Idle { thread } => {
             append_number(out, b"- ", thread as u64)?;
-            out.extend_from_slice(b" idle\n")
+            Ok(out.extend_from_slice(b" idle\n")?)
         }
         Remark::NoThread { thread } => {
             append_number(out, b"- ", thread as u64)?;
-            out.extend_from_slice(b" no-thread\n")
+            Ok(out.extend_from_slice(b" no-thread\n")?)
         }
     }
 }
