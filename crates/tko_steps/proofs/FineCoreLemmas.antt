@@ -381,7 +381,7 @@ exchanged_core core thread call now wins loses won =
       threads = set core.threads thread (state_after call (cond won wins loses));
     }
 
-owners-written : (number : ℕ) (mark : Mark) → IsOwnOrUp number mark → (other : ℕ) → owner_of mark ≡ Some other → other ≡ number
+pub owners-written : (number : ℕ) (mark : Mark) → IsOwnOrUp number mark → (other : ℕ) → owner_of mark ≡ Some other → other ≡ number
 owners-written number (Up count) own other e = cc
 owners-written number (Soft owner) own other e = absurd own
 owners-written number (Hard owner) own other e = let same : owner ≡ other = cc in sym same ∙ own
@@ -392,7 +392,7 @@ soft-written number (Soft owner) own = absurd own
 soft-written number (Hard owner) own = refl
 
 -- what is found by a write is free for its thread, and isn't soft
-free-found : (number : ℕ) (now found : ServerState) (mark : Mark) → found.mark ≡ mark → now ≡ found → IsFoundBy number now found mark
+pub free-found : (number : ℕ) (now found : ServerState) (mark : Mark) → found.mark ≡ mark → now ≡ found → IsFoundBy number now found mark
     → IsFreeFor number now × (is_soft now.mark ≡ false)
 free-found number now found (Up count) is same by =
     let here : now.mark ≡ Up count = ap (λ (it : ServerState). it.mark) same ∙ is in
@@ -402,14 +402,14 @@ free-found number now found (Hard owner) is same by =
     let here : now.mark ≡ Hard owner = ap (λ (it : ServerState). it.mark) same ∙ is in
     (λ other owned. (let both : Some owner ≡ Some other = sym (ap owner_of here) ∙ owned in let e : owner ≡ other = cc in sym e ∙ by.0), ap is_soft here)
 
-free-fresh : (number : ℕ) (mark : Mark) → owner_of mark ≡ None → ((other : ℕ) → owner_of mark ≡ Some other → other ≡ number) × (is_soft mark ≡ false)
+pub free-fresh : (number : ℕ) (mark : Mark) → owner_of mark ≡ None → ((other : ℕ) → owner_of mark ≡ Some other → other ≡ number) × (is_soft mark ≡ false)
 free-fresh number (Up count) none = (λ other e. cc, refl)
 free-fresh number (Soft owner) none = cc
 free-fresh number (Hard owner) none = cc
 
 module _ (core : CoreState) (thread : ℕ) (call : Call) (is : IsCore core) (inside : thread < length core.threads) where
   -- what the thread of this call knows
-  knows_at : (phase : Phase) → thread_at core thread ≡ InCall call phase → IsThread core.settings (abstract_of core) (InCall call phase)
+  pub knows_at : (phase : Phase) → thread_at core thread ≡ InCall call phase → IsThread core.settings (abstract_of core) (InCall call phase)
   knows_at phase stands = subst (IsThread core.settings (abstract_of core)) stands (is.calls thread NotEnrolled inside)
 
   -- a step that leaves every health word, whose decision is that

@@ -2,8 +2,11 @@ pub mod AloneLemmas
 pub mod CallLemmas
 pub mod CoreLemmas
 pub mod FineCoreLemmas
+pub mod FineOwnLemmas
+pub mod FineRunLemmas
 pub mod FineTableLemmas
 pub mod FineThreadLemmas
+pub mod FineWiringLemmas
 pub mod FineWordsLemmas
 pub mod LegalLemmas
 pub mod RunLemmas

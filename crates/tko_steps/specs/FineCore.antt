@@ -1,5 +1,5 @@
--- The core: the words that the threads share, where each thread stands, and what a begin and a step
--- make of them.
+-- The core: the words that the threads share and the state of each thread; and the core after a
+-- begin and after a step.
 use Rattle.std.specs.Prelude.{◌≡◌, ℕ, ◌+◌, ◌-◌, ◌<◌, ◌^◌, ◌==◌, Bool, true, false, nat_lt, if◌then◌else◌, List, length, slice_index_or, slice_set, replicate, Option, Some, None}
 use Rattle.tko_model.specs.declared.mark.Mark.{Mark}
 use Rattle.tko_model.specs.declared.mark.Mark.TheVariants as mark
@@ -43,14 +43,23 @@ pub record Shared : Type 0 where
 pub record CoreState : Type 0 where
   pub settings : Settings
   pub shared : Shared
-  -- in the order of their places
+  -- by their places
   pub threads : List ThreadState
 
 -- the abstract state: the marks and stamps, and nothing else
 abbrev pub abstract_of : CoreState → List ServerState
 abstract_of core = core.shared.servers
 
--- where the thread of this place stands
+-- whether a step of this kind is one of a call
+abbrev pub is_call_step : Kind → Bool
+is_call_step kind.Enrol = false
+is_call_step _ = true
+
+-- the settings that it was opened with
+abbrev pub settings_of : CoreState → Settings
+settings_of core = core.settings
+
+-- the state of the thread of this place
 abbrev pub thread_at : CoreState → ℕ → ThreadState
 thread_at core thread = slice_index_or core.threads thread NotEnrolled
 
@@ -60,7 +69,7 @@ number_of NotEnrolled = None
 number_of (Idle number) = Some number
 number_of (InCall call phase) = Some call.number
 
--- as the words open: each server up, no slot taken, no thread enrolled
+-- opened words: each server up, no slot taken, no thread enrolled
 abbrev pub opened_words : Settings → Shared
 opened_words s =
     record { servers = (opened s).servers; slots = record { firm = 0; held = 0 }; enrolled = 0 }
@@ -69,11 +78,11 @@ abbrev pub opened_core : Settings → CoreState
 opened_core s =
     record { settings = s; shared = opened_words s; threads = replicate s.threads NotEnrolled }
 
--- the thread of this place now stands there
+-- the core with this state of the thread of this place
 abbrev pub with_thread : CoreState → ℕ → ThreadState → CoreState
 with_thread core thread state = record core { threads = slice_set core.threads thread state }
 
--- why a call can't begin, from where its thread stands and whether the server is there
+-- why a call can't begin, from the state of its thread and whether the server exists
 abbrev pub fault_at : ThreadState → Bool → Option BeginFault
 fault_at NotEnrolled is_server = Some fault.NoThread
 fault_at (InCall call phase) is_server = Some fault.Busy
@@ -94,7 +103,7 @@ unless_fault (Some fault) new old = old
 abbrev pub begun_by : ℕ → Op → ℕ → Call
 begun_by number op server = record { number = number; op = op; server = server; lost = 0 }
 
--- where an idle thread stands once its call began
+-- the state of an idle thread once its call began
 abbrev pub in_call : ThreadState → Op → ℕ → ThreadState
 in_call NotEnrolled op server = NotEnrolled
 in_call (Idle number) op server = InCall (begun_by number op server) Start
@@ -194,7 +203,7 @@ word_at shared (place.Server server) = word.Server (server_at shared.servers ser
 word_at shared place.Soft = word.Soft shared.slots
 word_at shared place.Enrolment = word.Enrolled shared.enrolled
 
--- where the thread stands after what follows its step
+-- the state of the thread once its step was decided
 abbrev pub state_after : Call → Decision → ThreadState
 state_after call (Goes lost phase) = InCall (record call { lost = lost }) phase
 state_after call (Answers reply) = Idle call.number
@@ -252,13 +261,13 @@ told_by_enrol core =
     true
     None
 
--- the core after a step of the thread at this place, which stands there
+-- the core after a step of the thread at this place, which has this state
 abbrev pub after_step_from : CoreState → ℕ → ThreadState → CoreState
 after_step_from core thread NotEnrolled = after_enrol core thread
 after_step_from core thread (Idle number) = core
 after_step_from core thread (InCall call phase) = after_act core thread call phase
 
--- what that step tells
+-- what that step reports
 abbrev pub told_from : CoreState → ThreadState → Stepped
 told_from core NotEnrolled = told_by_enrol core
 told_from core (Idle number) = stepped.Idle

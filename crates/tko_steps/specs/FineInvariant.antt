@@ -91,9 +91,11 @@ pub record IsCore (core : CoreState) : Type 0 where
   -- so many threads are enrolled, and each number below that is one thread's
   pub enrolled : count_by is_enrolled core.threads ≡ core.shared.enrolled
   pub numbers : (number : ℕ) →
-      count_by (has_number number) core.threads ≡ (if nat_lt number core.shared.enrolled then 1 else 0)
+      count_by (has_number number) core.threads
+      ≡ (if nat_lt number core.shared.enrolled then 1 else 0)
   -- marks name numbers that were drawn
-  pub owners : (server number : ℕ) → IsOwner (abstract_of core) number server → number < core.shared.enrolled
+  pub owners : (server number : ℕ) →
+      IsOwner (abstract_of core) number server → number < core.shared.enrolled
   pub calls : All (IsThread core.settings (abstract_of core)) core.threads
   -- each slot that is held is held by one call
   pub held : count_by holds core.threads ≡ core.shared.slots.held

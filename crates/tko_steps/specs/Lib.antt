@@ -2,6 +2,8 @@ pub mod Alone
 pub mod Core
 pub mod FineCore
 pub mod FineInvariant
+pub mod FineRuns
+pub mod FineSafe
 pub mod FineTable
 pub mod Legal
 pub mod Runs

@@ -1,11 +1,13 @@
 //! The core whose step is one load or one exchange on one word.
 //!
-//! - `Phase`: where a call under way stands; its `Action` is the one step that it takes next.
+//! - `Phase`: how far a call under way is; its `Action` is the one step that it takes next.
 //! - `next`: the one decision, from what that step read to the phase after it or the answer.
-//! - `Core`: the words that the threads share, packed, and where each thread stands.
+//! - `Core`: the words that the threads share, packed, and the state of each thread.
+//! - `fine_every_run`: what holds in every state of every run of this core.
 ghost use Rattle.std.specs.Prelude.{◌≡◌, ◌<◌, ◌↔◌, Some, OnOk, OnErr, IfOk, length};
 ghost use Rattle.tko_model.specs.Ranges.{first_fault};
 
+mod law;
 mod phase;
 mod step;
 mod table;
@@ -13,6 +15,7 @@ mod words;
 
 use crate::BeginFault;
 use crate::fine::words::Words;
+pub use law::fine_every_run;
 pub use phase::{Call, Phase, Slots, ThreadState};
 use std::alloc::Global;
 use std::marker::Model;
@@ -23,7 +26,7 @@ use tko_model::{Op, OpenFault, Settings, SettingsFault};
 #[cfg(test)]
 mod tests;
 
-/// The words that the threads share, and where each thread stands. Contracts see a `CoreState`.
+/// The words that the threads share, and the state of each thread. Contracts see a `CoreState`.
 #[derive(Drop)]
 pub struct Core {
     settings: Settings,

@@ -1,4 +1,4 @@
-//! Where a call under way stands.
+//! The phases of a call under way, and the state of a thread.
 
 use tko_model::{Mark, Op, Reply, ServerState};
 
@@ -21,8 +21,8 @@ pub struct Call {
     pub lost: u32,
 }
 
-/// Where a call under way stands. `found` is the server as this try's first look found it, `mark` is
-/// what the call puts in its mark's place, and `reply` what it then answers.
+/// The phase of a call under way. `found` is the server as this try's first look found it, `mark`
+/// the mark that the call is about to write there, and `reply` its answer once it has.
 #[derive(Clone, Copy)]
 pub enum Phase {
     /// It is about to look at the server.
@@ -72,7 +72,7 @@ pub enum Phase {
     },
 }
 
-/// Where a thread stands. An enrolled thread has the number that its enrolment drew.
+/// The state of a thread. An enrolled thread has the number that its enrolment drew.
 #[derive(Clone, Copy)]
 pub enum ThreadState {
     NotEnrolled,

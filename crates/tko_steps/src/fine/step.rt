@@ -1,4 +1,4 @@
-//! What a step tells.
+//! What a step does and reports.
 
 use crate::fine::Slots;
 use tko_model::{Reply, ServerState};
@@ -24,6 +24,18 @@ pub enum Kind {
     Enrol,
 }
 
+impl Kind {
+    ghost use Rattle.std.specs.Prelude.{◌≡◌};
+    ghost use Rattle.tko_steps.specs.FineCore.{is_call_step};
+
+    /// Whether a step of this kind belongs to a call. An enrolment belongs to none.
+    pub fn is_call_step(self) -> bool
+        ensures { result ≡ is_call_step self }
+    {
+        !matches!(self, Kind::Enrol)
+    }
+}
+
 /// Which word a step is on.
 #[derive(Clone, Copy, Debug, PartialEq, Eq)]
 pub enum Place {
@@ -32,7 +44,7 @@ pub enum Place {
     Enrolment,
 }
 
-/// What such a word holds.
+/// The value of such a word.
 #[derive(Clone, Copy, Debug, PartialEq, Eq)]
 pub enum Word {
     /// A server's mark and stamp.
@@ -43,7 +55,7 @@ pub enum Word {
     Enrolled(u32),
 }
 
-/// What one turn of a thread did.
+/// What a step of a thread did.
 #[derive(Clone, Copy, Debug, PartialEq, Eq)]
 pub enum Stepped {
     /// There is no such thread.
@@ -57,7 +69,7 @@ pub enum Stepped {
         found: Word,
         /// The word that it left.
         left: Word,
-        /// Whether the step wrote what it meant to.
+        /// Whether the step did what it tried: an exchange that found another word did not.
         won: bool,
         /// The reply, where the step ends its call.
         answer: Option<Reply>,

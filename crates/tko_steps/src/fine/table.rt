@@ -101,7 +101,7 @@ impl Seen {
 impl Decision {
     ghost use Rattle.tko_steps.specs.FineCore.{answer_of, state_after};
 
-    /// Where the thread of this call then stands.
+    /// The state of the thread of this call then.
     pub fn state(&self, call: &Call) -> ThreadState
         ensures { result ≡ state_after call.now self.now }
     {

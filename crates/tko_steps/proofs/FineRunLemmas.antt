@@ -1,0 +1,132 @@
+-- The law of every run of the fine core: what holds of the world is kept by each turn.
+use Rattle.std.proofs.Common.{◌≡◌, ◌↔◌, ℕ, ◌+◌, ◌<◌, ◌≤◌, Bool, true, false, cond, List, [], ◌∷◌, length, get_or, replicate, Option, Some, None, count_by, sum_by, refl, sym, ap, ◌∙◌, subst, arith}
+use Rattle.std.proofs.lemmas.List.Sums.{sum_by-le-sum_by}
+use Rattle.tko_model.specs.declared.mark.Mark.TheVariants.{Up}
+use Rattle.tko_model.specs.declared.mark.Op.{Op}
+use Rattle.tko_model.specs.declared.settings.Settings.{Settings}
+use Rattle.tko_model.specs.declared.state.ServerState.{ServerState}
+use Rattle.tko_model.specs.Ranges.{IsWithinRanges}
+use Rattle.tko_model.specs.Tracker.{server_at, softs}
+use Rattle.tko_steps.specs.declared.fine.phase.Phase.{Phase}
+use Rattle.tko_steps.specs.declared.fine.phase.Phase.TheVariants.{Start, Read, AtThreshold, Limit, Reserving, Holding, Firming, Losing, Loosening, Loosened, Emptied}
+use Rattle.tko_steps.specs.declared.fine.phase.ThreadState.{ThreadState}
+use Rattle.tko_steps.specs.declared.fine.phase.ThreadState.TheVariants.{NotEnrolled, Idle, InCall}
+use Rattle.tko_steps.specs.Core.{owner_of}
+use Rattle.tko_steps.specs.Runs.{Begin, Step, Turn}
+use Rattle.tko_steps.specs.FineCore.{CoreState, abstract_of, begun_by, number_of, opened_core, thread_at}
+use Rattle.tko_steps.specs.FineInvariant.{IsCore, holds, holds_at, is_loose, is_loose_at}
+use Rattle.tko_steps.specs.FineRuns.{InEveryRun, World, after_turns, happens, owns, start}
+use Rattle.tko_steps.specs.FineSafe.{CountsSlots, HasOneResponsible, IsResponsible, OwnsItsMarks}
+use Rattle.tko_steps.proofs.CoreLemmas.{get_or-replicate_same}
+use Rattle.tko_steps.proofs.ThreadLemmas.{bit}
+use Rattle.tko_steps.proofs.FineCoreLemmas.{IsCore-after_act, IsCore-after_begin, IsCore-after_enrol, IsCore-opened_core}
+use Rattle.tko_steps.proofs.FineOwnLemmas.{AreOwned, AreOwned-act, AreOwned-begun, AreOwned-enrolled, names, names-none, names-true, true-names}
+use Rattle.tko_steps.proofs.FineThreadLemmas.{number-inside, number-once}
+use Rattle.tko_steps.proofs.FineWiringLemmas.{begun, keeps-begin, keeps-step, stepped_from}
+
+-- what holds of the world in each run
+pub record Holds (s : Settings) (w : World) : Type 0 where
+  pub core : IsCore w.core
+  pub settings : w.core.settings ≡ s
+  pub owned : AreOwned w.past (abstract_of w.core) w.core.threads
+
+Holds-start : (s : Settings) → IsWithinRanges s → Holds s (start s)
+Holds-start s ranges =
+    record {
+      core = IsCore-opened_core s ranges;
+      settings = refl;
+      owned = λ thread server.
+          let none : number_of (thread_at (opened_core s) thread) ≡ None = ap number_of (get_or-replicate_same s.threads thread NotEnrolled) in
+          let mark = (server_at (abstract_of (opened_core s)) server).mark in
+          sym (ap (names mark) none ∙ names-none mark);
+    }
+
+Holds-begun : (s : Settings) (w : World) (thread number : ℕ) (op : Op) (server : ℕ) → Holds s w
+    → thread < length w.core.threads → thread_at w.core thread ≡ Idle number → server < length (abstract_of w.core)
+    → Holds s (begun w thread op server)
+Holds-begun s w thread number op server holds inside stands on_server =
+    let new : ThreadState = InCall (begun_by number op server) Start in
+    rw stands (record {
+      core = IsCore-after_begin w.core thread number op server holds.core inside stands on_server;
+      settings = holds.settings;
+      owned = AreOwned-begun w.core w.past thread number new inside stands refl holds.owned;
+    })
+
+Holds-stepped_from : (s : Settings) (w : World) (thread : ℕ) (state : ThreadState) → Holds s w → thread < length w.core.threads
+    → thread_at w.core thread ≡ state → Holds s (stepped_from w thread state)
+Holds-stepped_from s w thread NotEnrolled holds inside stands =
+    record {
+      core = IsCore-after_enrol w.core thread holds.core inside stands;
+      settings = holds.settings;
+      owned = AreOwned-enrolled w.core w.past thread holds.core inside stands holds.owned;
+    }
+Holds-stepped_from s w thread (Idle number) holds inside stands = holds
+Holds-stepped_from s w thread (InCall call phase) holds inside stands =
+    record {
+      core = IsCore-after_act w.core thread call holds.core inside phase stands;
+      settings = holds.settings;
+      owned = AreOwned-act w.core w.past thread call holds.core inside holds.owned phase stands;
+    }
+
+Holds-happens : (s : Settings) (w : World) (turn : Turn) → Holds s w → Holds s (happens w turn)
+Holds-happens s w (Begin thread op server) holds =
+    keeps-begin (Holds s) w thread op server holds
+    (λ number inside stands on_server. Holds-begun s w thread number op server holds inside stands on_server)
+Holds-happens s w (Step thread) holds =
+    keeps-step (Holds s) w thread holds
+    (λ inside. Holds-stepped_from s w thread (thread_at w.core thread) holds inside refl)
+
+Holds-after_turns : (s : Settings) (w : World) (turns : List Turn) → Holds s w → Holds s (after_turns w turns)
+Holds-after_turns s w [] holds = holds
+Holds-after_turns s w (turn ∷ turns) holds = Holds-after_turns s (happens w turn) turns (Holds-happens s w turn holds)
+
+pub Holds-run : InEveryRun Holds
+Holds-run s ranges turns = Holds-after_turns s (start s) turns (Holds-start s ranges)
+
+-- a loose mark holds a slot
+loose_at-le-holds : (phase : Phase) → bit (is_loose_at phase) ≤ bit (holds_at phase)
+loose_at-le-holds Start = omega arith
+loose_at-le-holds (Read found mark answer) = omega arith
+loose_at-le-holds (AtThreshold found) = omega arith
+loose_at-le-holds (Limit found) = omega arith
+loose_at-le-holds (Reserving found slots) = omega arith
+loose_at-le-holds (Holding found) = omega arith
+loose_at-le-holds Firming = omega arith
+loose_at-le-holds Losing = omega arith
+loose_at-le-holds (Loosening found mark answer) = omega arith
+loose_at-le-holds (Loosened found mark answer) = omega arith
+loose_at-le-holds (Emptied answer) = omega arith
+
+loose-le-holds : (state : ThreadState) → bit (is_loose state) ≤ bit (holds state)
+loose-le-holds NotEnrolled = omega arith
+loose-le-holds (Idle number) = omega arith
+loose-le-holds (InCall call phase) = loose_at-le-holds phase
+
+pub CountsSlots-core : (core : CoreState) → IsCore core → CountsSlots core
+CountsSlots-core core is =
+    let le = sum_by-le-sum_by (λ it. bit (is_loose it)) (λ it. bit (holds it)) core.threads loose-le-holds in
+    record {
+      settled = omega (arith, is.firm);
+      marked = omega (arith, is.firm, is.held, le);
+      limit = is.room;
+      held = sym is.held;
+      loose = is.firm;
+    }
+
+pub OwnsItsMarks-world : (w : World) → AreOwned w.past (abstract_of w.core) w.core.threads → OwnsItsMarks w
+OwnsItsMarks-world w owned thread server =
+    let mark = (server_at (abstract_of w.core) server).mark in
+    let found = number_of (thread_at w.core thread) in (
+      λ has.
+          let named = names-true mark found (sym (owned thread server) ∙ has) in
+          record { number = named.0; enrolled = named.1; marked = named.2 },
+      λ responsible. owned thread server ∙ true-names mark found responsible.number responsible.enrolled responsible.marked,
+    )
+
+pub HasOneResponsible-core : (core : CoreState) → IsCore core → HasOneResponsible core
+HasOneResponsible-core core is server one other mine theirs =
+    let same : Some mine.number ≡ Some theirs.number = sym mine.marked ∙ theirs.marked in
+    let number : theirs.number ≡ mine.number = cc in
+    let drawn : number_of (get_or core.threads other NotEnrolled) ≡ Some mine.number = theirs.enrolled ∙ ap Some number in
+    sym (number-once core.threads core.shared.enrolled one other mine.number is.numbers
+    (number-inside core.threads one mine.number mine.enrolled) (number-inside core.threads other mine.number drawn) mine.enrolled drawn)

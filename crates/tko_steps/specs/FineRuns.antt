@@ -1,0 +1,180 @@
+-- Runs of the fine core: turns of threads, one after another, from the opened core; what happened
+-- at each; and the calls of a run, each with its own steps.
+use Rattle.std.specs.Prelude.{◌≡◌, ℕ, ◌+◌, Bool, true, false, ◌==◌, ◌&&◌, if◌then◌else◌, List, [], ◌∷◌, Option, None, unwrap_or}
+use Rattle.tko_model.specs.declared.mark.Mark.{Mark}
+use Rattle.tko_model.specs.declared.mark.Mark.TheVariants as mark
+use Rattle.tko_model.specs.declared.mark.Op.{Op}
+use Rattle.tko_model.specs.declared.mark.Reply.{Reply}
+use Rattle.tko_model.specs.declared.settings.Settings.{Settings}
+use Rattle.tko_model.specs.declared.state.ServerState.{ServerState}
+use Rattle.tko_model.specs.Ranges.{IsWithinRanges}
+use Rattle.tko_steps.specs.declared.fine.step.Kind.{Kind}
+use Rattle.tko_steps.specs.declared.fine.step.Kind.TheVariants as kind
+use Rattle.tko_steps.specs.declared.fine.step.Place.{Place}
+use Rattle.tko_steps.specs.declared.fine.step.Place.TheVariants as place
+use Rattle.tko_steps.specs.declared.fine.step.Stepped.{Stepped}
+use Rattle.tko_steps.specs.declared.fine.step.Stepped.TheVariants.{NoThread, Idle, Did}
+use Rattle.tko_steps.specs.declared.fine.step.Word.{Word}
+use Rattle.tko_steps.specs.declared.fine.step.Word.TheVariants as word
+use Rattle.tko_steps.specs.Runs.{Turn, Begin, Step}
+use Rattle.tko_steps.specs.FineCore.{CoreState, abstract_of, after_begin, after_step, begin_fault, is_call_step, number_of, opened_core, thread_at, told_by_step, unless_fault}
+
+-- a step that was taken, with the abstract states before and after it
+pub record StepTaken : Type 0 where
+  pub thread : ℕ
+  pub kind : Kind
+  pub place : Place
+  pub found : Word
+  pub left : Word
+  pub won : Bool
+  pub answer : Option Reply
+  pub before : List ServerState
+  pub after : List ServerState
+
+-- what happened: a call of a thread with this number began, or a step was taken
+pub data Moment : Type 0 where
+  Began : (thread number : ℕ) (op : Op) (server : ℕ) → Moment
+  Took : StepTaken → Moment
+
+-- the core, and what happened so far, the newest first
+pub record World : Type 0 where
+  pub core : CoreState
+  pub past : List Moment
+
+-- a call that a thread begins in this core
+abbrev pub began : CoreState → ℕ → Op → ℕ → Moment
+began core thread op server =
+    Began thread (unwrap_or (number_of (thread_at core thread)) 0) op server
+
+-- the past with what a step reported, if it did anything
+abbrev pub with_told : List Moment → ℕ → List ServerState → List ServerState → Stepped → List Moment
+with_told past thread before after NoThread = past
+with_told past thread before after Idle = past
+with_told past thread before after (Did kind place found left won answer) =
+    Took
+    (record {
+      thread = thread;
+      kind = kind;
+      place = place;
+      found = found;
+      left = left;
+      won = won;
+      answer = answer;
+      before = before;
+      after = after;
+    })
+    ∷ past
+
+-- a turn; one that is refused, or of a thread that has nothing to do, changes nothing
+abbrev pub happens : World → Turn → World
+happens w (Begin thread op server) =
+    let refused = begin_fault w.core thread server in
+    record {
+      core = after_begin w.core thread op server;
+      past = unless_fault refused (began w.core thread op server ∷ w.past) w.past;
+    }
+happens w (Step thread) =
+    let new = after_step w.core thread in
+    let told = told_by_step w.core thread in
+    record {
+      core = new;
+      past = with_told w.past thread (abstract_of w.core) (abstract_of new) told;
+    }
+
+-- turns, one after another
+abbrev pub after_turns : World → List Turn → World
+after_turns w [] = w
+after_turns w (turn ∷ turns) = after_turns (happens w turn) turns
+
+abbrev pub start : Settings → World
+start s = record { core = opened_core s; past = [] }
+
+-- the run of these turns
+abbrev pub run : Settings → List Turn → World
+run s turns = after_turns (start s) turns
+
+-- what holds after every list of turns, under all settings in range
+abbrev pub InEveryRun : (Settings → World → Type 0) → Type 0
+InEveryRun P = (s : Settings) → IsWithinRanges s → (turns : List Turn) → P s (run s turns)
+
+-- whether a word is that of a marked server
+abbrev pub is_marked_state : Mark → Bool
+is_marked_state (mark.Up count) = false
+is_marked_state (mark.Soft owner) = true
+is_marked_state (mark.Hard owner) = true
+
+abbrev pub is_marked : Word → Bool
+is_marked (word.Server server) = is_marked_state server.mark
+is_marked word = false
+
+abbrev pub is_server : ℕ → Place → Bool
+is_server server (place.Server at) = at == server
+is_server server place = false
+
+-- whether a thread that did or didn't own a server owns it after a step of its own on that server's
+-- word: a mark that it won adds it, and an own step takes it away unless it leaves a mark
+abbrev pub owns_after : Kind → Bool → Word → Bool → Bool
+owns_after kind.Mark won left owned = if won then true else owned
+owns_after kind.Own won left owned = if won then is_marked left else owned
+owns_after kind won left owned = owned
+
+-- whether the thread at this place owns the server after this past
+abbrev pub owns : List Moment → ℕ → ℕ → Bool
+owns [] thread server = false
+owns (Began own number op at ∷ past) thread server = owns past thread server
+owns (Took step ∷ past) thread server =
+    if is_server server step.place && (step.thread == thread)
+    then owns_after step.kind step.won step.left (owns past thread server)
+    else owns past thread server
+
+-- a step of a call, and its number among all steps of calls, from 1
+pub record OwnStep : Type 0 where
+  pub at : ℕ
+  pub step : StepTaken
+
+-- a call: its thread, its operation, its own steps, the newest first, and its answer, if it has one
+pub record Call : Type 0 where
+  pub thread : ℕ
+  pub number : ℕ
+  pub op : Op
+  pub server : ℕ
+  pub steps : List OwnStep
+  pub answer : Option Reply
+
+-- a call without a step
+abbrev pub begun_call : ℕ → ℕ → Op → ℕ → Call
+begun_call thread number op server =
+    record { thread = thread; number = number; op = op; server = server; steps = []; answer = None }
+
+-- a step of a call counts, an enrolment does not
+abbrev pub count_of : Kind → ℕ
+count_of kind = if is_call_step kind then 1 else 0
+
+-- how many steps of calls were taken
+abbrev pub steps_in : List Moment → ℕ
+steps_in [] = 0
+steps_in (Began thread number op server ∷ past) = steps_in past
+steps_in (Took step ∷ past) = steps_in past + count_of step.kind
+
+-- a step that follows this past, with its number
+abbrev pub own_step : StepTaken → List Moment → OwnStep
+own_step step past = record { at = steps_in (Took step ∷ past); step = step }
+
+-- the call with one more step
+abbrev pub and_step : Call → OwnStep → Call
+and_step call own =
+    record call { steps = own ∷ call.steps; answer = own.step.answer }
+
+-- a step belongs to the call that its thread began last
+abbrev pub with_step : OwnStep → List Call → List Call
+with_step own [] = []
+with_step own (call ∷ calls) =
+    if call.thread == own.step.thread then and_step call own ∷ calls else call ∷ with_step own calls
+
+-- the calls of a past, the newest begin first
+abbrev pub calls_of : List Moment → List Call
+calls_of [] = []
+calls_of (Began thread number op server ∷ past) =
+    begun_call thread number op server ∷ calls_of past
+calls_of (Took step ∷ past) =
+    with_step (own_step step past) (calls_of past)

@@ -1,0 +1,18 @@
+//! The law of every run of the fine core.
+ghost use Rattle.std.specs.Prelude.{◌≡◌};
+ghost use Rattle.tko_steps.specs.FineCore.{settings_of};
+ghost use Rattle.tko_steps.specs.FineInvariant.{IsCore};
+ghost use Rattle.tko_steps.specs.FineRuns.{InEveryRun};
+ghost use Rattle.tko_steps.specs.FineSafe.{CountsSlots, HasDistinctNumbers, HasOneResponsible, OwnsItsMarks};
+
+/// Over every list of turns, from the core as it opens under settings in range: soft marks never
+/// exceed the limit, every slot that is held is held by one call, each thread owns exactly the
+/// servers whose marks name it, and no two threads are responsible for one server.
+pub fn fine_every_run()
+    ensures slots { InEveryRun (λ s w. CountsSlots w.core) }
+    ensures numbers { InEveryRun (λ s w. HasDistinctNumbers w.core) }
+    ensures owned { InEveryRun (λ s w. OwnsItsMarks w) }
+    ensures responsible { InEveryRun (λ s w. HasOneResponsible w.core) }
+    ensures settings { InEveryRun (λ s w. settings_of w.core ≡ s) }
+    ensures core { InEveryRun (λ s w. IsCore w.core) }
+{}
