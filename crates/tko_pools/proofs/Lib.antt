@@ -1,0 +1,5 @@
+mod JsonLemmas
+mod KnownLemmas
+mod NumberingLemmas
+mod ReasonLemmas
+mod SoundLemmas

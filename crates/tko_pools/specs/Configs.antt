@@ -1,0 +1,96 @@
+-- What a configuration is: the servers by their numbers, and each child's servers.
+use Rattle.std.specs.Prelude.{◌≡◌, ℕ, ◌%◌, ◌<◌, ◌≤◌, List, length, map, slice_index, All, Some, None, is_some, true}
+use Rattle.std.specs.List.{flat_map}
+use Rattle.std.specs.Str.{IsUtf8}
+use Rattle.serde_json.specs.Data.{Data}
+use Rattle.serde_json.specs.Find.{as_object}
+use Rattle.serde_json.specs.Read.{read}
+use Rattle.tko_pools.specs.Hash.{fnv1a_of}
+use Rattle.tko_pools.specs.Json.{pools_in, servers_named}
+use Rattle.tko_pools.specs.Numbering.{number_in, numbered}
+use Rattle.tko_pools.specs.declared.fault.ConfigFault.{ConfigFault}
+use Rattle.tko_pools.specs.declared.fault.ConfigFault.TheVariants as fault
+use Rattle.tko_pools.specs.Flaws.{Reports}
+use Rattle.tko_pools.specs.Reasons.{max_servers, reason_of}
+use Rattle.tko_pools.specs.Routes.{RouteRead, route_in}
+
+-- the addresses in the order of their numbers, the numbers of each child's servers, and the
+-- greatest expiry after the first target
+pub record Configuration : Type 0 where
+  pub addresses : List (List ℕ)
+  pub children : List (List ℕ)
+  pub failover_exptime : ℕ
+
+-- of each child the server that a hash chooses
+abbrev pub chosen_by : ℕ → List (List ℕ) → List ℕ
+chosen_by hash children = map (λ child. slice_index child (hash % length child)) children
+
+-- the targets of a key: of each child the server that the key's hash chooses
+abbrev pub targets_of : Configuration → List ℕ → List ℕ
+targets_of config key = chosen_by (fnv1a_of key) config.children
+
+-- each of these numbers is the number of a server
+abbrev pub AreServers : Configuration → List ℕ → Type 0
+AreServers config numbers = All (λ number. number < length config.addresses) numbers
+
+-- the addresses of these pools, in the order of their numbers
+abbrev pub addresses_of : Data → List (List ℕ) → List (List ℕ)
+addresses_of pools names = numbered (flat_map (servers_named pools) names)
+
+-- the numbers of the servers of the pool of this name
+abbrev pub child_of : List (List ℕ) → Data → List ℕ → List ℕ
+child_of addresses pools name = map (number_in addresses) (servers_named pools name)
+
+-- the configuration of these pools and this route
+abbrev pub configuration : Data → RouteRead → Configuration
+configuration pools route =
+    let addresses = addresses_of pools route.children in
+    record {
+      addresses = addresses;
+      children = map (child_of addresses pools) route.children;
+      failover_exptime = route.failover_exptime;
+    }
+
+-- a text is the JSON of this object
+pub record IsRoot (text : List ℕ) (root : Data) : Type 0 where
+  pub utf8 : IsUtf8 text
+  pub json : read text ≡ Some root
+  pub object : is_some (as_object root) ≡ true
+
+-- a text is no JSON of an object
+abbrev pub IsNoRoot : List ℕ → Type 0
+IsNoRoot text = (root : Data) → IsRoot text root → ⊥
+
+-- a text is the JSON of an object with a reason against it, which this fault reports
+pub record IsRefused (text : List ℕ) (fault : ConfigFault) : Type 0 where
+  pub root : Data
+  pub is_root : IsRoot text root
+  pub reports : Reports (reason_of root) fault
+
+-- why a text is no configuration; only memory may take the place of the first reason
+abbrev pub Refuses : List ℕ → ConfigFault → Type 0
+Refuses text fault.Json = IsNoRoot text
+Refuses text fault.Memory = Unit {0}
+Refuses text other = IsRefused text other
+
+-- each child has a server, and each number is below the number of addresses
+pub record IsSound (config : Configuration) : Type 0 where
+  pub children : All (λ child. 0 < length child) config.children
+  pub numbers :
+      All (λ child. All (λ number. number < length config.addresses) child) config.children
+  pub servers : length config.addresses ≤ max_servers
+
+-- a value has no reason against it, and means this configuration
+pub record IsMeaning (root : Data) (config : Configuration) : Type 0 where
+  pub pools : Data
+  pub route : RouteRead
+  pub sound : reason_of root ≡ None
+  pub has_pools : pools_in root ≡ Some pools
+  pub has_route : route_in root ≡ Some route
+  pub is : config ≡ configuration pools route
+
+-- a text means this configuration
+pub record Means (text : List ℕ) (config : Configuration) : Type 0 where
+  pub root : Data
+  pub is_root : IsRoot text root
+  pub meaning : IsMeaning root config

@@ -1,0 +1,70 @@
+-- Why a JSON value is no configuration. Each reason is looked for after the ones above it.
+use Rattle.std.specs.Prelude.{ℕ, ◌==◌, nat_lt, not, if◌then◌else◌, List, [], ◌∷◌, length, Option, Some, None, option_map}
+use Rattle.std.specs.List.{find, flat_map}
+use Rattle.std.specs.Option.{is_none, option_or}
+use Rattle.serde_json.specs.Data.{Data}
+use Rattle.serde_json.specs.Find.{get}
+use Rattle.tko_pools.specs.Addresses.{is_address}
+use Rattle.tko_pools.specs.Json.{Pool, pool_list, pools_in, servers_named}
+use Rattle.tko_pools.specs.Numbering.{numbered}
+use Rattle.tko_pools.specs.Routes.{RouteRead, route_in}
+
+pub data Reason : Type 0 where
+  -- there is no object of pools
+  NoPools : Reason
+  -- the pool of this name has no list of one server or more
+  EmptyPool : List ℕ → Reason
+  -- the item of a pool's list is no address; one that is no text stands as the empty text
+  BadAddress : List ℕ → Reason
+  -- there is no route, or it has another form
+  BadRoute : Reason
+  -- a child of the route names this pool, which is not there
+  NoSuchPool : List ℕ → Reason
+  TooManyServers : Reason
+
+abbrev pub max_servers : ℕ
+max_servers = 256
+
+-- the first item of a pool's list that is no address
+abbrev pub bad_address : List (List ℕ) → Option (List ℕ)
+bad_address servers = find (λ text. not (is_address text)) servers
+
+-- what is wrong with a pool
+abbrev pub pool_reason : Pool → Option Reason
+pool_reason pool =
+    if length pool.servers == 0
+    then Some (EmptyPool pool.name)
+    else option_map BadAddress (bad_address pool.servers)
+
+-- what is wrong with the first pool that is wrong
+abbrev pub pools_reason : List Pool → Option Reason
+pools_reason [] = None
+pools_reason (pool ∷ pools) = option_or (pool_reason pool) (pools_reason pools)
+
+-- the first child that names no pool
+abbrev pub unknown_child : Data → List (List ℕ) → Option (List ℕ)
+unknown_child pools children = find (λ name. is_none (get name pools)) children
+
+-- what is wrong with the children of a route
+abbrev pub children_reason : Data → List (List ℕ) → Option Reason
+children_reason pools children =
+    option_or
+    (option_map NoSuchPool (unknown_child pools children))
+    (if nat_lt max_servers (length (numbered (flat_map (servers_named pools) children)))
+    then Some TooManyServers
+    else None)
+
+-- what is wrong with a route over these pools, if there is one
+abbrev pub route_reason : Data → Option RouteRead → Option Reason
+route_reason pools None = Some BadRoute
+route_reason pools (Some route) = children_reason pools route.children
+
+-- what is wrong where there are pools, if there are any
+abbrev pub pools_and_route_reason : Data → Option Data → Option Reason
+pools_and_route_reason root None = Some NoPools
+pools_and_route_reason root (Some pools) =
+    option_or (pools_reason (pool_list pools)) (route_reason pools (route_in root))
+
+-- what is wrong with a configuration: the first reason that there is
+abbrev pub reason_of : Data → Option Reason
+reason_of root = pools_and_route_reason root (pools_in root)

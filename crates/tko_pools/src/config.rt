@@ -1,0 +1,198 @@
+//! A configuration and how it is read.
+ghost use Rattle.std.specs.Prelude.{◌≡◌, ◌<◌, [], None, All, IfOk, IfErr, OnOk, OnErr, length, map, string_bytes};
+ghost use Rattle.serde_json.specs.View.{view};
+ghost use Rattle.tko_pools.specs.Configs.{IsMeaning, IsRoot, Means, Refuses, addresses_of, child_of, chosen_by, configuration};
+ghost use Rattle.tko_pools.specs.Flaws.{Reports};
+ghost use Rattle.tko_pools.specs.Json.{pool_list};
+ghost use Rattle.tko_pools.specs.Reasons.{children_reason, pools_reason, reason_of};
+
+use crate::flaws::{Flaw, pools_flaw, unknown_child};
+use crate::json::{pools_in, servers_named};
+use crate::numbering::Addresses;
+use crate::route::Route;
+use crate::{ConfigFault, fnv1a};
+use serde_json::Value;
+use std::alloc::{AllocError, Global};
+use std::marker::Model;
+use tko_bytes::NoMemory;
+
+/// The most different addresses of all children together.
+const MAX_SERVERS: usize = 256;
+
+/// A configuration: the addresses of the servers by their numbers, and the servers of each child of
+/// the route. In contracts it is a `Configuration`.
+#[derive(Drop)]
+pub struct Config {
+    addresses: Addresses,
+    children: Vec<Vec<usize>>,
+    failover_exptime: u32,
+}
+
+impl Model for Config {
+    ghost use Rattle.std.specs.Prelude.{map};
+    ghost use Rattle.tko_pools.specs.Configs.{Configuration, IsSound};
+
+    ghost Value = { Configuration };
+
+    ghost view = { λ c. record {
+      addresses = c.addresses;
+      children = map (λ child. child.items) c.children.items;
+      failover_exptime = c.failover_exptime;
+    } };
+
+    ghost invariant = { λ c. IsSound (record {
+      addresses = c.addresses;
+      children = map (λ child. child.items) c.children.items;
+      failover_exptime = c.failover_exptime;
+    }) };
+}
+
+impl Config {
+    /// Reads a configuration's JSON text.
+    pub fn read(alloc: Global, text: &[u8]) -> Result<Config, ConfigFault>
+        ensures ok { IfOk result (λ config. Means text.now config) }
+        ensures err { IfErr result (λ fault. Refuses text.now fault) }
+    {
+        let root = root_of(alloc, text)?;
+        Config::of(alloc, &root)
+    }
+
+    /// The configuration that an object means.
+    fn of(alloc: Global, root: &Value) -> Result<Config, ConfigFault>
+        ensures ok { IfOk result (λ config. IsMeaning (view root.now) config) }
+        ensures err { IfErr result (λ fault. Reports (reason_of (view root.now)) fault) }
+    {
+        let Some(pools) = pools_in(root) else {
+            return Err(ConfigFault::NoPools);
+        };
+        if let Some(flaw) = pools_flaw(pools) {
+            return Err(ConfigFault::of(alloc, flaw));
+        }
+        match Route::of(alloc, root)? {
+            Some(route) => Config::over(alloc, pools, &route),
+            None => Err(ConfigFault::Route),
+        }
+    }
+
+    /// The configuration of a route over pools without a flaw.
+    fn over(alloc: Global, pools: &Value, route: &Route<'_>) -> Result<Config, ConfigFault>
+        requires { pools_reason (pool_list (view pools.now)) ≡ None }
+        ensures ok { IfOk result (λ config. config ≡ configuration (view pools.now) route.now) }
+        ensures sound { IfOk result (λ config.
+            children_reason (view pools.now) route.now.children ≡ None) }
+        ensures err { IfErr result (λ fault.
+            Reports (children_reason (view pools.now) route.now.children) fault) }
+    {
+        let names = route.children();
+        if let Some(name) = unknown_child(pools, names) {
+            return Err(ConfigFault::of(alloc, Flaw::NoSuchPool(name)));
+        }
+        let addresses = addresses_of(alloc, pools, names)?;
+        if addresses.len() > MAX_SERVERS {
+            return Err(ConfigFault::TooManyServers);
+        }
+        Ok(Config {
+            children: children_of(alloc, &addresses, pools, names)?,
+            addresses,
+            failover_exptime: route.failover_exptime(),
+        })
+    }
+}
+
+impl Config {
+    ghost use Rattle.tko_pools.specs.Configs.{AreServers, targets_of};
+
+    /// The targets of a key, in the order of the children.
+    pub fn targets(&self, alloc: Global, key: &[u8]) -> Result<Vec<usize>, NoMemory>
+        ensures value { IfOk result (λ targets. targets.items ≡ targets_of self.now key.now) }
+        ensures within { AreServers self.now (targets_of self.now key.now) }
+    {
+        let mut targets = Vec::new(alloc);
+        self.replace_targets(key, &mut targets)?;
+        Ok(targets)
+    }
+
+    /// Puts the targets of a key into a list, in place of what it held. At an `Err` it is empty.
+    pub fn replace_targets(&self, key: &[u8], targets: &mut Vec<usize>) -> Result<(), NoMemory>
+        ensures ok { OnOk result (targets.new.items ≡ targets_of self.now key.now) }
+        ensures within { AreServers self.now (targets_of self.now key.now) }
+        ensures err { OnErr result (targets.new.items ≡ []) }
+    {
+        targets.clear();
+        let done = push_chosen(fnv1a(key), &self.children, targets);
+        if done.is_err() {
+            targets.clear();
+        }
+        done
+    }
+
+    /// The addresses of the servers, each at its number.
+    pub fn addresses(&self) -> &[String]
+        ensures { map string_bytes result.now ≡ self.now.addresses }
+    {
+        self.addresses.texts()
+    }
+
+    /// The greatest expiry that a storage command keeps after its first target, in seconds; 0
+    /// stands for any.
+    pub fn failover_exptime(&self) -> u32
+        ensures { result ≡ self.now.failover_exptime }
+    {
+        self.failover_exptime
+    }
+}
+
+/// Puts the server of each child for this hash into an empty list.
+fn push_chosen(hash: u32, children: &[Vec<usize>], targets: &mut Vec<usize>) -> Result<(), NoMemory>
+    requires empty { targets.old.items ≡ [] }
+    requires servers { All (λ child. 0 < length child.items) children.now }
+    ensures { OnOk result
+        (targets.new.items ≡ chosen_by hash (map (λ child. child.items) children.now)) }
+{
+    for child in children {
+        targets.push(child[hash as usize % child.len()])?;
+    }
+    Ok(())
+}
+
+/// The object that a text is the JSON of.
+fn root_of(alloc: Global, text: &[u8]) -> Result<Value, ConfigFault>
+    ensures ok { IfOk result (λ root. IsRoot text.now (view root)) }
+    ensures err { IfErr result (λ fault. Refuses text.now fault) }
+{
+    match Value::from_slice(alloc, text) {
+        Ok(root) if root.is_object() => Ok(root),
+        Ok(_) => Err(ConfigFault::Json),
+        Err(error) if error.is_memory() => Err(ConfigFault::Memory),
+        Err(_) => Err(ConfigFault::Json),
+    }
+}
+
+/// The addresses of these pools.
+fn addresses_of(alloc: Global, pools: &Value, names: &[&str]) -> Result<Addresses, AllocError>
+    ensures { IfOk result (λ addresses. addresses
+        ≡ addresses_of (view pools.now) (map (λ name. name.now) names.now)) }
+{
+    let mut addresses = Addresses::new(alloc);
+    for name in names {
+        addresses.add_all(alloc, servers_named(pools, name))?;
+    }
+    Ok(addresses)
+}
+
+/// The servers of each of these pools, by their numbers.
+fn children_of(
+    alloc: Global,
+    addresses: &Addresses,
+    pools: &Value,
+    names: &[&str],
+) -> Result<Vec<Vec<usize>>, AllocError>
+    ensures { IfOk result (λ children. map (λ child. child.items) children.items
+        ≡ map (child_of addresses.now (view pools.now)) (map (λ name. name.now) names.now)) }
+{
+    let mut children = Vec::new(alloc);
+    for name in names {
+        children.push(addresses.numbers(alloc, servers_named(pools, name))?)?;
+    }
+    Ok(children)
+}
