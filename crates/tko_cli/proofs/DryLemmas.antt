@@ -7,7 +7,7 @@ use Rattle.tko_model.specs.declared.settings.SettingsFault.{SettingsFault}
 use Rattle.tko_route.specs.declared.links.scripted.Script.{Script}
 use Rattle.tko_session.specs.declared.session.Report.{Report}
 use Rattle.tko_session.specs.Served.{Served}
-use Rattle.tko_session.specs.Standing.{Reaches, sent_by}
+use Rattle.tko_session.specs.SessionState.{Reaches, sent_by}
 use Rattle.tko_cli.specs.declared.options.DryOptions.{DryOptions}
 use Rattle.tko_cli.specs.DryRuns.{Begins, DryFails, DryParts, IsDry, IsDryTurn, TrailsGo, sends_of, settings_of, words_in}
 use Rattle.tko_cli.specs.Faults.{fault_of_opening}

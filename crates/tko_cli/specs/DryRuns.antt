@@ -11,8 +11,8 @@ use Rattle.tko_route.specs.Scripted.{ScriptedState, IsPlayed}
 use Rattle.tko_session.specs.declared.parts.Parts.{Parts}
 use Rattle.tko_session.specs.declared.session.Report.{Report}
 use Rattle.tko_session.specs.Served.{CameTooLong, Served}
-use Rattle.tko_session.specs.Standing.{sent_by}
-use Rattle.tko_session.specs.Told.{Keeps}
+use Rattle.tko_session.specs.SessionState.{sent_by}
+use Rattle.tko_session.specs.TrailEvents.{Keeps}
 use Rattle.tko_session.specs.Turns.{Turn, IsTurn}
 use Rattle.tko_cli.specs.declared.fault.Fault.{Fault}
 use Rattle.tko_cli.specs.declared.fault.Fault.TheVariants as fault

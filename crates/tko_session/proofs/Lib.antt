@@ -1,4 +1,6 @@
 mod ListLemmas
+mod NeverLemmas
+mod ResultLemmas
 mod ServedLemmas
 mod TextFacts
 mod TurnLemmas

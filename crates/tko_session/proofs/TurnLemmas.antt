@@ -1,5 +1,5 @@
--- Laws of turns: none, one, these and then those, and bytes that come after them.
-use Rattle.std.proofs.Common.{◌≡◌, ◌≢◌, ℕ, ◌+◌, List, [], ◌∷◌, ◌++◌, refl, sym, ap, subst, ◌∙◌, append_assoc, append-nil, arith, All, count_by, sum_by, add-zero, cond}
+-- Laws of turns: none, one, these and then those.
+use Rattle.std.proofs.Common.{◌≡◌, ◌≢◌, ℕ, ◌+◌, ◌<◌, length, length-append, List, [], ◌∷◌, ◌++◌, refl, sym, ap, subst, ◌∙◌, append_assoc, append-nil, arith, All, count_by, sum_by, add-zero, cond}
 use Rattle.std.proofs.lemmas.Grind.{flat_map-append}
 use Rattle.std.proofs.lemmas.List.{map-append}
 use Rattle.std.proofs.lemmas.List.Sums.{sum_by-append}
@@ -9,17 +9,22 @@ use Rattle.tko_model.proofs.RecordLemmas.{gains_none, gains_one, gains_append}
 use Rattle.tko_text.specs.declared.item.Item.{Item}
 use Rattle.tko_text.specs.declared.item.Item.TheVariants as item
 use Rattle.tko_text.specs.declared.fault.TextFault.{TextFault}
-use Rattle.tko_text.specs.declared.fault.TextFault.TheVariants.{LineTooLong}
+use Rattle.tko_text.specs.declared.fault.TextFault.TheVariants as fault
 use Rattle.tko_text.specs.declared.request.Request.{Request}
 use Rattle.tko_text.specs.Requests.{fault_text}
 use Rattle.tko_route.specs.Links.{LinksItem}
 use Rattle.tko_session.specs.declared.parts.Parts.{Parts}
-use Rattle.tko_session.specs.Told.{Told}
-use Rattle.tko_text.specs.Reading.{Reading, Gives, Emits}
+use Rattle.tko_session.specs.TrailEvents.{TrailEvent}
+use Rattle.tko_text.specs.Reading.{Reading, Gives, NeedsMore, Emits}
 use Rattle.tko_route.specs.Trail.{sends_in}
 use Rattle.tko_session.specs.Turns.{Turn, IsTurn, reply_text}
-use Rattle.tko_session.specs.Standing.{Standing, Turned, Answered, Replied, EndsTooLong, sent_by, capped, is_request, items_of, text_of, trails_of, requests_in, sends_to, line_too_long}
+use Rattle.tko_session.specs.declared.session.Progress.{Progress}
+use Rattle.tko_session.specs.declared.session.Progress.TheVariants.{More, NeedsInput}
+use Rattle.tko_session.specs.declared.session.Progress.TheVariants as progress
+use Rattle.tko_session.specs.Io.{capped}
+use Rattle.tko_session.specs.SessionState.{SessionState, Turned, Answered, AnsweredPart, Replied, EndsTooLong, GoesOn, ProgressIs, BeginBelowBound, progress_after, reply_bound, sent_by, is_request, items_of, text_of, trails_of, requests_in, sends_to, line_too_long}
 use Rattle.tko_text.proofs.GivesLemmas.{Gives-none, Gives-one, Gives-append}
+use Rattle.tko_session.proofs.NeverLemmas.{ends_reading}
 
 pub items-append : (turns more : List Turn) → items_of (turns ++ more) ≡ items_of turns ++ items_of more
 items-append turns more = map-append (λ turn. turn.item) turns more
@@ -39,20 +44,86 @@ requests-append turns more =
     ap (count_by is_request) (items-append turns more) ∙ sum_by-append (λ item. cond (is_request item) 1 0) (items_of turns) (items_of more)
 
 -- counts that stop at the same number may be added one after another
-capped-more : (a b c n m : ℕ) → capped b ≡ capped (a + n) → capped c ≡ capped (b + m) → capped c ≡ capped (a + (n + m))
+pub capped-more : (a b c n m : ℕ) → capped b ≡ capped (a + n) → capped c ≡ capped (b + m) → capped c ≡ capped (a + (n + m))
 capped-more a b c n m first second = omega arith
 
+-- turns that begin below the bound, and then more that do
+begin-append : (waiting : ℕ) (turns more : List Turn) → BeginBelowBound waiting turns
+    → BeginBelowBound (waiting + length (text_of turns)) more → BeginBelowBound waiting (turns ++ more)
+begin-append waiting [] more front back = subst (λ n. BeginBelowBound n more) (add-zero waiting) back
+begin-append waiting (turn ∷ turns) more (below, front) back =
+    let sum : waiting + length (text_of (turn ∷ turns)) ≡ waiting + length turn.text + length (text_of turns) =
+    omega (arith, length-append turn.text (text_of turns)) in
+    (below, begin-append (waiting + length turn.text) turns more front (subst (λ n. BeginBelowBound n more) sum back))
+
+goes_on-append : (items more : List Item) → GoesOn items → GoesOn more → GoesOn (items ++ more)
+goes_on-append items more front back = All-append (λ item. item ≢ line_too_long) items more front back
+
+-- what the later items say of progress, all say
+pub progress-append : (progress : Progress) (items more : List Item) (reading : Reading) → GoesOn items
+    → ProgressIs progress more reading → ProgressIs progress (items ++ more) reading
+progress-append progress.More items more reading front back = goes_on-append items more front back
+progress-append progress.NeedsInput items more reading front (back, none) = (goes_on-append items more front back, none)
+progress-append progress.LineTooLong items more reading front (ends, never) = (
+  record {
+    before = items ++ ends.before;
+    parts = ap (λ xs. items ++ xs) ends.parts ∙ sym (append_assoc items ends.before (line_too_long ∷ []));
+    goes_on = goes_on-append items ends.before front ends.goes_on;
+  },
+  never,
+)
+
+-- no item, and the session may go on
+pub goes_on-none : GoesOn []
+goes_on-none = All-nil (λ item. item ≢ line_too_long)
+
+-- the progress after the reply to a fault
+fault_progress : (fault : TextFault) (from to : Reading) → Emits from (item.Fault fault) to
+    → ProgressIs (progress_after fault) (item.Fault fault ∷ []) to
+fault_progress fault.LineTooLong from to tells =
+    (record { before = []; parts = refl; goes_on = goes_on-none }, ends_reading from line_too_long to tells refl)
+fault_progress fault.UnknownCommand from to tells = All-cons _ _ [] (λ same. cc) goes_on-none
+fault_progress fault.BadLine from to tells = All-cons _ _ [] (λ same. cc) goes_on-none
+fault_progress fault.BadKey from to tells = All-cons _ _ [] (λ same. cc) goes_on-none
+fault_progress fault.BadChunk from to tells = All-cons _ _ [] (λ same. cc) goes_on-none
+fault_progress fault.TooLarge from to tells = All-cons _ _ [] (λ same. cc) goes_on-none
+
+-- progress of turns that come after others
+pub turns_progress : (progress : Progress) (turns more : List Turn) (reading : Reading) → GoesOn (items_of turns)
+    → ProgressIs progress (items_of more) reading → ProgressIs progress (items_of (turns ++ more)) reading
+turns_progress progress turns more reading front back =
+    subst (λ items. ProgressIs progress items reading) (sym (items-append turns more))
+    (progress-append progress (items_of turns) (items_of more) reading front back)
+
+-- texts of turns that come after others
+pub waiting-append : (waiting mid all : List ℕ) (turns more : List Turn) → mid ≡ waiting ++ text_of turns
+    → all ≡ mid ++ text_of more → all ≡ waiting ++ text_of (turns ++ more)
+waiting-append waiting mid all turns more front back =
+    back ∙ ap (λ text. text ++ text_of more) front ∙ append_assoc waiting (text_of turns) (text_of more)
+    ∙ ap (λ text. waiting ++ text) (sym (text-append turns more))
+
+module _ {W : Type 0} {step : W → Turn → W → Type 0} where
+  -- memory ran out before any turn
+  pub part_none : (old new : SessionState) (world : W) → new.outbox ≡ old.outbox → AnsweredPart step old world new
+  part_none old new world same = record {
+    turns = [];
+    left = old.reading;
+    reached = world;
+    gives = Gives-none old.reading;
+    gains = gains_none world;
+    outbox = same ∙ sym (append-nil old.outbox);
+  }
+
 module _ {W : Type 0} {step : W → Turn → W → Type 0} {sent : W → ℕ → ℕ} where
-  pub turned_none : (at : Standing) (world : W) → Turned step sent at world [] at world
+  pub turned_none : (at : SessionState) (world : W) → Turned step sent at world [] at world
   turned_none at world = record {
     gives = Gives-none at.reading;
     gains = gains_none world;
     sends = λ server. sym (add-zero (sent world server));
     requests = ap capped (sym (add-zero at.requests));
-    goes_on = All-nil (λ item. item ≢ line_too_long);
   }
 
-  pub turned_append : {old mid new : Standing} {before between after : W} {turns more : List Turn}
+  pub turned_append : {old mid new : SessionState} {before between after : W} {turns more : List Turn}
       → Turned step sent old before turns mid between → Turned step sent mid between more new after
       → Turned step sent old before (turns ++ more) new after
   turned_append {old} {mid} {new} {before} {between} {after} {turns} {more} front back = record {
@@ -64,82 +135,97 @@ module _ {W : Type 0} {step : W → Turn → W → Type 0} {sent : W → ℕ →
     requests =
         let more_than = capped-more old.requests mid.requests new.requests _ _ front.requests back.requests in
         more_than ∙ ap (λ n. capped (old.requests + n)) (sym (requests-append turns more));
-    goes_on =
-        let each = All-append (λ item. item ≢ line_too_long) (items_of turns) (items_of more) front.goes_on back.goes_on in
-        subst (All (λ item. item ≢ line_too_long)) (sym (items-append turns more)) each;
   }
 
-  pub answered_none : (at : Standing) (world : W) → Answered step sent at world at world
+  pub answered_none : (at : SessionState) (world : W) → Answered step sent More at world at world
   answered_none at world = record {
     turns = [];
     turned = turned_none at world;
     outbox = sym (append-nil at.outbox);
+    begin = tt;
+    progress_is = goes_on-none;
   }
 
-  pub answered_append : {old mid new : Standing} {before between after : W}
-      → Answered step sent old before mid between → Answered step sent mid between new after
-      → Answered step sent old before new after
-  answered_append {old} {mid} {new} front back = record {
+  pub answered_open : (old new : SessionState) (world : W) → NeedsMore old.reading → new ≡ old
+      → Answered step sent NeedsInput old world new world
+  answered_open old new world none same = rw same (record {
+    turns = [];
+    turned = turned_none old world;
+    outbox = sym (append-nil old.outbox);
+    begin = tt;
+    progress_is = (goes_on-none, none);
+  })
+
+  pub answered_append : {progress : Progress} {old mid new : SessionState} {before between after : W}
+      → Answered step sent More old before mid between → Answered step sent progress mid between new after
+      → Answered step sent progress old before new after
+  answered_append {progress} {old} {mid} {new} front back = record {
     turns = front.turns ++ back.turns;
     turned = turned_append front.turned back.turned;
-    outbox =
-        back.outbox ∙ ap (λ text. text ++ text_of back.turns) front.outbox
-        ∙ append_assoc old.outbox (text_of front.turns) (text_of back.turns)
-        ∙ ap (λ text. old.outbox ++ text) (sym (text-append front.turns back.turns));
+    outbox = waiting-append old.outbox mid.outbox new.outbox front.turns back.turns front.outbox back.outbox;
+    begin =
+        let len : length mid.outbox ≡ length old.outbox + length (text_of front.turns) =
+        ap length front.outbox ∙ length-append old.outbox (text_of front.turns) in
+        begin-append (length old.outbox) front.turns back.turns front.begin
+        (subst (λ n. BeginBelowBound n back.turns) len back.begin);
+    progress_is = turns_progress progress front.turns back.turns new.reading front.progress_is back.progress_is;
   }
 
--- an end that comes later is an end
-pub ends_later : {from mid : Reading} {items : List Item} → Gives from items mid → EndsTooLong mid → EndsTooLong from
-ends_later {from} {mid} {items} gives ends = record {
-  items = items ++ ends.items;
-  left = ends.left;
-  gives =
-      let all = Gives-append _ _ _ _ _ gives ends.gives in
-      subst (λ told. Gives from told ends.left) (sym (append_assoc items ends.items (line_too_long ∷ []))) all;
-}
+  pub part_after : {old mid new : SessionState} {before between : W}
+      → Answered step sent More old before mid between → AnsweredPart step mid between new
+      → AnsweredPart step old before new
+  part_after {old} {mid} {new} front back = record {
+    turns = front.turns ++ back.turns;
+    left = back.left;
+    reached = back.reached;
+    gives =
+        let gives = Gives-append _ _ _ _ _ front.turned.gives back.gives in
+        subst (λ items. Gives old.reading items back.left) (sym (items-append front.turns back.turns)) gives;
+    gains = gains_append front.turned.gains back.gains;
+    outbox = waiting-append old.outbox mid.outbox new.outbox front.turns back.turns front.outbox back.outbox;
+  }
 
-pub ends_here : (from to : Reading) (fault : TextFault) → Emits from (item.Fault fault) to → fault ≡ LineTooLong → EndsTooLong from
-ends_here from to fault tells e = record {
-  items = [];
-  left = to;
-  gives = subst (λ it. Gives from (item.Fault it ∷ []) to) e (Gives-one _ _ _ tells);
-}
-
-module _ {H L T : Type 0} {steps : H → HealthItem → H → Type 0} {exchanges : L → LinksItem → L → Type 0} {sent : L → ℕ → ℕ} {tells : T → Told → T → Type 0} where
+module _ {H L T : Type 0} {steps : H → HealthItem → H → Type 0} {exchanges : L → LinksItem → L → Type 0} {sent : L → ℕ → ℕ} {records : T → TrailEvent → T → Type 0} where
   -- a fault is a turn that changes nothing but the outbox
-  pub answered_fault : (old mid new : Standing) (world : Parts H L T) (fault : TextFault)
+  pub answered_fault : (old mid new : SessionState) (world : Parts H L T) (fault : TextFault) (progress : Progress)
       → Emits old.reading (item.Fault fault) mid.reading → mid ≡ record old { reading = mid.reading }
-      → new ≡ record mid { outbox = mid.outbox ++ fault_text fault } → fault ≢ LineTooLong
-      → Answered (IsTurn steps exchanges sent tells) (sent_by sent) old world new world
-  answered_fault old mid new world fault told same e goes_on = record {
+      → new ≡ record mid { outbox = mid.outbox ++ fault_text fault } → progress ≡ progress_after fault
+      → length old.outbox < reply_bound
+      → Answered (IsTurn steps exchanges sent records) (sent_by sent) progress old world new world
+  answered_fault old mid new world fault progress told same e is room = record {
     turns = (record { item = item.Fault fault; trails = []; text = fault_text fault }) ∷ [];
     turned = record {
       gives = subst (λ to. Gives old.reading (item.Fault fault ∷ []) to) (sym (ap (λ s. s.reading) e)) (Gives-one _ _ _ told);
       gains = gains_one (refl, refl, refl);
       sends = λ server. sym (add-zero (sent world.links server));
       requests = ap capped (ap (λ s. s.requests) e ∙ ap (λ s. s.requests) same ∙ sym (add-zero old.requests));
-      goes_on = All-cons (λ it. it ≢ line_too_long) (item.Fault fault) [] (λ same. goes_on (cc)) (All-nil (λ it. it ≢ line_too_long));
     };
     outbox =
         ap (λ s. s.outbox) e ∙ ap (λ s. s.outbox ++ fault_text fault) same
         ∙ ap (λ text. old.outbox ++ text) (sym (append-nil (fault_text fault)));
+    begin = (room, tt);
+    progress_is =
+        subst (λ p. ProgressIs p (item.Fault fault ∷ []) new.reading) (sym is)
+        (subst (λ to. ProgressIs (progress_after fault) (item.Fault fault ∷ []) to) (sym (ap (λ s. s.reading) e))
+        (fault_progress fault old.reading mid.reading told));
   }
 
   -- a request that was replied to is a turn
-  pub answered_request : (old mid new : Standing) (before after : Parts H L T) (request : Request)
+  pub answered_request : (old mid new : SessionState) (before after : Parts H L T) (request : Request)
       → Emits old.reading (item.Request request) mid.reading → mid ≡ record old { reading = mid.reading }
-      → Replied steps exchanges sent tells mid before request new after
-      → Answered (IsTurn steps exchanges sent tells) (sent_by sent) old before new after
-  answered_request old mid new before after request told same replied = record {
+      → Replied steps exchanges sent records mid before request new after → length old.outbox < reply_bound
+      → Answered (IsTurn steps exchanges sent records) (sent_by sent) More old before new after
+  answered_request old mid new before after request told same replied room = record {
     turns = (record { item = item.Request request; trails = replied.trail ∷ []; text = reply_text replied.trail }) ∷ [];
     turned = record {
       gives = subst (λ to. Gives old.reading (item.Request request ∷ []) to) (sym replied.reading) (Gives-one _ _ _ told);
       gains = gains_one (replied.trail, replied.routed, refl, refl);
       sends = λ server. omega (arith, replied.sends server);
       requests = replied.requests ∙ ap (λ s. capped (s.requests + 1)) same;
-      goes_on = All-cons (λ it. it ≢ line_too_long) (item.Request request) [] (λ same. cc) (All-nil (λ it. it ≢ line_too_long));
     };
     outbox =
         replied.outbox ∙ ap (λ s. s.outbox ++ reply_text replied.trail) same
         ∙ ap (λ text. old.outbox ++ text) (sym (append-nil (reply_text replied.trail)));
+    begin = (room, tt);
+    progress_is = All-cons (λ it. it ≢ line_too_long) (item.Request request) [] (λ same. cc) goes_on-none;
   }

@@ -1,9 +1,9 @@
--- What a session's fault is for whoever serves it.
+-- What it means for a session that its reader takes no piece.
+use Rattle.tko_text.specs.declared.reader.FeedFault.{FeedFault}
+use Rattle.tko_text.specs.declared.reader.FeedFault.TheVariants as feed
 use Rattle.tko_session.specs.declared.fault.SessionFault.{SessionFault}
 use Rattle.tko_session.specs.declared.fault.SessionFault.TheVariants as session
-use Rattle.tko_session.specs.declared.fault.PieceFault.{PieceFault}
-use Rattle.tko_session.specs.declared.fault.PieceFault.TheVariants as piece
 
-abbrev pub fault_of : PieceFault → SessionFault
-fault_of piece.LineTooLong = session.LineTooLong
-fault_of piece.Memory = session.Memory
+abbrev pub fault_of : FeedFault → SessionFault
+fault_of feed.Failed = session.LineTooLong
+fault_of feed.Memory = session.Memory

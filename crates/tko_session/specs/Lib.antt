@@ -1,7 +1,7 @@
-pub mod Ends
 pub mod Faults
+pub mod Io
 pub mod Served
-pub mod Standing
+pub mod SessionState
 pub mod Tape
-pub mod Told
+pub mod TrailEvents
 pub mod Turns

@@ -1,55 +1,114 @@
 -- What a whole session did.
-use Rattle.std.specs.Prelude.{◌≡◌, ◌≢◌, ℕ, ◌+◌, List, [], All, length}
+use Rattle.std.specs.Prelude.{◌≡◌, ℕ, ◌+◌, List, [], ◌++◌, length}
 use Rattle.tko_model.specs.Records.{Gains}
-use Rattle.tko_text.specs.Reading.{Reading, Reads, NeedsMore, start, fed}
+use Rattle.tko_text.specs.declared.item.Item.{Item}
+use Rattle.tko_text.specs.Reading.{Reading, Reads, Gives, start, fed}
+use Rattle.tko_session.specs.declared.session.Progress.{Progress}
 use Rattle.tko_session.specs.declared.session.Report.{Report}
+use Rattle.tko_session.specs.Io.{Writes, capped}
 use Rattle.tko_session.specs.Turns.{Turn}
-use Rattle.tko_session.specs.Standing.{Standing, Turned, EndsTooLong, fresh, fed_standing, capped, items_of, text_of, trails_of, requests_in, sends_to, line_too_long}
+use Rattle.tko_session.specs.SessionState.{SessionState, Turned, EndsTooLong, GoesOn, ProgressIs, fresh, fed_state, items_of, text_of, trails_of, requests_in, sends_to}
 
 module _ {I O W : Type 0} (gives : I → List ℕ → I → Type 0) (takes : O → List ℕ → O → Type 0)
     (step : W → Turn → W → Type 0) (sent : W → ℕ → ℕ) where
-  -- all that came in, each item of it and what became of it, and all that went out
-  pub record Served (is_ended : I → Type 0) (reader : I) (writer : O) (parts : W) (report : Report)
+  -- all that was read, each item of it and what became of it, and all that was written
+  pub record Transcript (reader : I) (writer : O) (parts : W)
       (reader' : I) (writer' : O) (parts' : W) : Type 0 where
     pub bytes : List ℕ
     pub turns : List Turn
     pub left : Reading
     pub input : gives reader bytes reader'
-    pub ended : is_ended reader'
     pub reads : Reads bytes (items_of turns) left
-    pub goes_on : All (λ item. item ≢ line_too_long) (items_of turns)
     pub gains : Gains step parts turns parts'
     pub sends : (server : ℕ)
         → sent parts' server ≡ sent parts server + sends_to server (trails_of turns)
     pub output : takes writer (text_of turns) writer'
-    pub requests : report.requests ≡ capped (requests_in (items_of turns))
-    pub unfinished : report.unfinished ≡ length left.unread
 
-  -- the same before the input ended: nothing waits to go out
-  pub record Serving (reader : I) (writer : O) (parts : W) (standing : Standing)
+  -- the input was read to its end, and everything in it was answered
+  pub record Served (is_ended : I → Type 0) (reader : I) (writer : O) (parts : W) (report : Report)
       (reader' : I) (writer' : O) (parts' : W) : Type 0 where
+    pub transcript : Transcript reader writer parts reader' writer' parts'
+    pub ended : is_ended reader'
+    pub goes_on : GoesOn (items_of transcript.turns)
+    pub requests : report.requests ≡ capped (requests_in (items_of transcript.turns))
+    pub unfinished : report.unfinished ≡ length transcript.left.unread
+
+  -- the reader failed, and everything that was read was answered
+  pub record StoppedByRead (reader : I) (writer : O) (parts : W)
+      (reader' : I) (writer' : O) (parts' : W) : Type 0 where
+    pub transcript : Transcript reader writer parts reader' writer' parts'
+    pub goes_on : GoesOn (items_of transcript.turns)
+
+  -- the last item that was read is a line too long, and everything was answered, that line too
+  pub record StoppedByLine (reader : I) (writer : O) (parts : W)
+      (reader' : I) (writer' : O) (parts' : W) : Type 0 where
+    pub transcript : Transcript reader writer parts reader' writer' parts'
+    pub ends : EndsTooLong (items_of transcript.turns)
+
+  -- the first items that were read were answered, and the front of their text was written; what was
+  -- done for the item behind them is not said
+  pub record StoppedEarly (reader : I) (writer : O) (parts : W) (reader' : I) (writer' : O)
+      : Type 0 where
     pub bytes : List ℕ
     pub turns : List Turn
+    pub left : Reading
+    pub reached : W
     pub input : gives reader bytes reader'
-    pub turned : Turned step sent (fed_standing fresh bytes) parts turns standing parts'
-    pub open_item : NeedsMore standing.reading
-    pub output : takes writer (text_of turns) writer'
-    pub outbox : standing.outbox ≡ []
+    pub items : Gives (fed start bytes) (items_of turns) left
+    pub gains : Gains step parts turns reached
+    pub front : List ℕ
+    pub unwritten : List ℕ
+    pub text : text_of turns ≡ front ++ unwritten
+    pub output : takes writer front writer'
 
--- the bytes that came give items whose last is a line that is too long
+  -- the writer failed after so many bytes
+  pub record StoppedByWrite (reader : I) (writer : O) (parts : W) (written : ℕ)
+      (reader' : I) (writer' : O) : Type 0 where
+    pub early : StoppedEarly reader writer parts reader' writer'
+    pub counted : written ≡ capped (length early.front)
+
+-- the items of the bytes that were read end with a line too long
 pub record CameTooLong {I : Type 0} (gives : I → List ℕ → I → Type 0)
     (reader reader' : I) : Type 0 where
   pub bytes : List ℕ
+  pub items : List Item
+  pub left : Reading
   pub input : gives reader bytes reader'
-  pub ends : EndsTooLong (fed start bytes)
+  pub reads : Reads bytes items left
+  pub ends : EndsTooLong items
 
--- turns went from the one standing to the other, and their text went out
-pub record Passed {O W : Type 0} (takes : O → List ℕ → O → Type 0)
-    (step : W → Turn → W → Type 0) (sent : W → ℕ → ℕ)
-    (old : Standing) (writer : O) (before : W)
-    (new : Standing) (writer' : O) (after : W) : Type 0 where
+-- turns went from the one state to the other, and all their text was written and counted
+pub record Delivered {O W : Type 0} (takes : O → List ℕ → O → Type 0)
+    (step : W → Turn → W → Type 0) (sent : W → ℕ → ℕ) (progress : Progress)
+    (old : SessionState) (writer : O) (written : ℕ) (before : W)
+    (new : SessionState) (writer' : O) (written' : ℕ) (after : W) : Type 0 where
   pub turns : List Turn
   pub turned : Turned step sent old before turns new after
-  pub open_item : NeedsMore new.reading
-  pub output : takes writer (text_of turns) writer'
+  pub output : Writes takes writer (text_of turns) writer' written written'
   pub outbox : new.outbox ≡ []
+  pub progress_is : ProgressIs progress (items_of turns) new.reading
+
+-- turns were made, and the front of their text was written and counted
+pub record DeliveredPart {O W : Type 0} (takes : O → List ℕ → O → Type 0)
+    (step : W → Turn → W → Type 0)
+    (old : SessionState) (writer : O) (written : ℕ) (before : W)
+    (writer' : O) (written' : ℕ) : Type 0 where
+  pub turns : List Turn
+  pub left : Reading
+  pub reached : W
+  pub gives : Gives old.reading (items_of turns) left
+  pub gains : Gains step before turns reached
+  pub front : List ℕ
+  pub unwritten : List ℕ
+  pub text : text_of turns ≡ front ++ unwritten
+  pub output : Writes takes writer front writer' written written'
+
+-- the bytes that were read from the beginning on, and the turns that answered them
+pub record ServedSoFar {I O W : Type 0} (gives : I → List ℕ → I → Type 0)
+    (takes : O → List ℕ → O → Type 0) (step : W → Turn → W → Type 0) (sent : W → ℕ → ℕ)
+    (progress : Progress) (reader : I) (writer : O) (before : W)
+    (state : SessionState) (reader' : I) (writer' : O) (written : ℕ) (after : W) : Type 0 where
+  pub bytes : List ℕ
+  pub input : gives reader bytes reader'
+  pub delivered : Delivered takes step sent progress (fed_state fresh bytes) writer 0 before
+      state writer' written after

@@ -11,7 +11,7 @@ use Rattle.tko_route.specs.declared.attempt.Attempt.{Attempt}
 use Rattle.tko_route.specs.Links.{LinksItem}
 use Rattle.tko_route.specs.Trail.{IsTrail, Attempted, answer_of}
 use Rattle.tko_session.specs.declared.parts.Parts.{Parts}
-use Rattle.tko_session.specs.Told.{Told, Asked, Tried}
+use Rattle.tko_session.specs.TrailEvents.{TrailEvent, Asked, Tried}
 
 -- an item, the trails that it took, and the text of its reply
 pub record Turn : Type 0 where
@@ -31,23 +31,23 @@ text_of_answer None = no_server
 abbrev pub reply_text : List Attempt → List ℕ
 reply_text trail = text_of_answer (answer_of trail)
 
--- the trails object was told of the request, and then of its trail
-pub record IsTold {T : Type 0} (tells : T → Told → T → Type 0)
+-- the trails object recorded the request, and then its trail
+pub record IsRecorded {T : Type 0} (records : T → TrailEvent → T → Type 0)
     (old : T) (request : Request) (trail : List Attempt) (new : T) : Type 0 where
   pub between : T
-  pub asked : tells old (Asked request) between
-  pub tried : tells between (Tried trail) new
+  pub asked : records old (Asked request) between
+  pub tried : records between (Tried trail) new
 
 module _ {H L T : Type 0} (steps : H → HealthItem → H → Type 0)
     (exchanges : L → LinksItem → L → Type 0) (sent : L → ℕ → ℕ)
-    (tells : T → Told → T → Type 0) where
+    (records : T → TrailEvent → T → Type 0) where
   -- a request took this trail over the targets
   pub record IsRouted (old : Parts H L T) (request : Request) (trail : List Attempt)
       (new : Parts H L T) : Type 0 where
     pub tried : IsTrail old.targets.items trail
     pub attempts : Gains (Attempted steps exchanges sent request)
         (old.health, old.links) trail (new.health, new.links)
-    pub told : IsTold tells old.trails request trail new.trails
+    pub recorded : IsRecorded records old.trails request trail new.trails
     pub targets : new.targets ≡ old.targets
 
   -- a fault gives its text and changes nothing; a request takes one trail, and gives the reply

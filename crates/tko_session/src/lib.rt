@@ -2,30 +2,36 @@
 //!
 //! - `Inlet` and `Outlet`: the two ends of a session; `Stop` is why a call moved no byte.
 //! - `Piped` and `Taped`: ends over std's readers and writers, and over memory.
-//! - `Parts`: what a session works on; `Trails` is told of each request and of each trail.
-//! - `Session`: one client's session between two pieces. It knows no socket.
-//! - `serve`: reads a piece, gives it to the session, and writes what the session answers; `piece_buffer`,
-//!   `read_piece` and `write_all` are how it does.
+//! - `Parts`: what a session works on; `Trails` records each request and each trail.
+//! - `Session`: one client's session between two pieces, and `Progress`, how far it answered. It
+//!   knows no socket.
+//! - `serve`: reads a piece, gives it to the session, and writes the replies; `piece_buffer`,
+//!   `read_piece` and `write_all` are its steps.
 #![tactic(auto)]
 
-mod ends;
 mod fault;
+mod io;
+mod outbox;
 mod parts;
+mod pieces;
 mod piped;
 mod serving;
 mod session;
-mod tally;
+mod stop_counts;
 mod taped;
 mod trails;
+mod writing;
 
-pub use ends::{Inlet, Outlet, Stop};
-pub use fault::{PieceFault, SessionFault};
+pub use fault::SessionFault;
+pub use io::{Inlet, Outlet, Stop};
 pub use parts::Parts;
+pub use pieces::{piece_buffer, read_piece};
 pub use piped::Piped;
-pub use serving::{piece_buffer, read_piece, serve, write_all};
-pub use session::{Report, Session};
+pub use serving::serve;
+pub use session::{Progress, Report, Session};
 pub use taped::Taped;
 pub use trails::{Kept, Trails};
+pub use writing::write_all;
 
 #[cfg(test)]
 mod tests;

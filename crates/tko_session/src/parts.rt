@@ -2,17 +2,17 @@
 ghost use Rattle.std.specs.Prelude.{◌≡◌, ◌+◌, ℕ, IfOk};
 ghost use Rattle.tko_model.specs.Records.{Gains};
 ghost use Rattle.tko_route.specs.Trail.{Attempted, IsTrail, sends_in};
-ghost use Rattle.tko_session.specs.Standing.{Reaches};
+ghost use Rattle.tko_session.specs.SessionState.{Reaches};
 
 use std::alloc::Global;
 use tko_route::links::Links;
 use tko_route::{Health, IoRuntime, RouteFault, Routed, route};
 use tko_text::Request;
 
-/// What a request's expiry is replaced by at the targets behind the first: a `get` has none.
+/// What replaces a request's expiry at the targets after the first: a `get` has none.
 const NO_EXPIRY: u32 = 0;
 
-/// The health of the servers, the links to them, who is told of trails, and the servers that are
+/// The health of the servers, the links to them, what records the trails, and the servers that are
 /// tried, in order.
 #[derive(Drop)]
 pub struct Parts<H, L, T> {

@@ -1,48 +1,57 @@
 //! One client's session between two pieces of its input.
-ghost use Rattle.std.specs.Prelude.{◌≡◌, ◌≢◌, ◌++◌, [], Err, OnOk, IfOk, IfSome, IfNone, IsErrOf, length};
-ghost use Rattle.std.specs.Bool.{OnFalse};
+ghost use Rattle.std.specs.Prelude.{◌≡◌, ◌≢◌, ◌≤◌, ◌<◌, ◌↔◌, ◌++◌, [], Ok, OnOk, OnErr, IfOk, IfSome, IfNone, IsErrOf, length};
 ghost use Rattle.std.specs.Option.{option_copied};
-ghost use Rattle.tko_text.specs.Reading.{Emits, NeedsMore, fed};
+ghost use Rattle.tko_text.specs.Reading.{Emits, NeedsMore, Never, fed};
 ghost use Rattle.tko_text.specs.Requests.{fault_text};
-ghost use Rattle.tko_session.specs.Turns.{IsTurn, text_of_answer};
-ghost use Rattle.tko_session.specs.Standing.{Answered, EndsTooLong, Reaches, Replied, fed_standing, fresh, sent_by};
+ghost use Rattle.tko_session.specs.Turns.{IsTurn};
+ghost use Rattle.tko_session.specs.SessionState.{Answered, AnsweredPart, Reaches, Replied, fed_state, fresh, progress_after, reply_bound, sent_by};
 
-use crate::{Parts, PieceFault, Trails};
+use crate::outbox::Outbox;
+use crate::{Parts, Trails};
 use std::alloc::Global;
 use std::marker::Model;
+use tko_bytes::NoMemory;
 use tko_route::links::Links;
 use tko_route::{Health, IoRuntime};
-use tko_text::{FeedFault, Item, NoMemory, Reader, Request, Response, TextFault};
-
-/// What a request without a response is answered.
-const NO_SERVER: &[u8] = b"SERVER_ERROR no server\r\n";
+use tko_text::{FeedFault, Item, Reader, Request, TextFault};
 
 /// What a session came to, at the end of its input.
 #[derive(Clone, Copy, Debug, PartialEq, Eq)]
 pub struct Report {
-    /// How many items were no faults; the greatest number stands for that and more.
+    /// How many items were no faults; the greatest number means that many or more.
     pub requests: u64,
-    /// How many bytes there are of an item that the end cut.
+    /// How many bytes came of an item that the end of input cut.
     pub unfinished: u64,
 }
 
-/// One client's session: the reader of its bytes, the replies that have not gone out yet, and the
-/// count of its requests.
+/// How far a session answered what it read.
+#[derive(Clone, Copy, Debug, PartialEq, Eq)]
+pub enum Progress {
+    /// There may be more to answer, once the replies were written.
+    More,
+    /// Everything that is decided was answered: the session needs the next piece.
+    NeedsInput,
+    /// The last item was a line too long, after which nothing is read.
+    LineTooLong,
+}
+
+/// One client's session: the reader of its bytes, the replies that wait to be written, and the
+/// number of its requests.
 #[derive(Drop)]
 pub struct Session {
     reader: Reader,
-    outbox: Vec<u8>,
+    outbox: Outbox,
     requests: u64,
 }
 
 impl Model for Session {
-    ghost use Rattle.tko_session.specs.Standing.{Standing};
+    ghost use Rattle.tko_session.specs.SessionState.{SessionState};
 
-    ghost Value = { Standing };
+    ghost Value = { SessionState };
 
     ghost view = { λ s. record {
       reading = s.reader;
-      outbox = s.outbox.items;
+      outbox = s.outbox;
       requests = s.requests;
     } };
 }
@@ -53,19 +62,19 @@ impl Session {
     {
         Session {
             reader: Reader::new(alloc),
-            outbox: Vec::new(alloc),
+            outbox: Outbox::new(alloc),
             requests: 0,
         }
     }
 
-    /// The replies that have not gone out yet.
+    /// The replies that wait to be written.
     pub fn outbox(&self) -> &[u8]
         ensures { result.now ≡ self.now.outbox }
     {
         self.outbox.as_slice()
     }
 
-    /// The replies went out.
+    /// Drops the replies, once they were written.
     pub fn clear_outbox(&mut self)
         ensures { self.new ≡ record self.old { outbox = [] } }
     {
@@ -83,51 +92,41 @@ impl Session {
         }
     }
 
-    /// Takes the next piece of the client's bytes, and answers each item that it completes.
-    pub fn take<R: IoRuntime, H: Health, L: Links, T: Trails>(
-        &mut self,
-        rt: &R,
-        alloc: Global,
-        parts: &mut Parts<H, L, T>,
-        piece: &[u8],
-    ) -> Result<(), PieceFault>
-        requires reach { Reaches H.servers L.servers parts.old }
-        ensures ok { OnOk result (Answered
-            (IsTurn H.steps L.exchanges L.sent T.tells) (sent_by L.sent)
-            (fed_standing self.old piece.now) parts.old self.new parts.new) }
-        ensures open { OnOk result (NeedsMore self.new.reading) }
-        ensures too_long { IsErrOf result PieceFault.LineTooLong
-            → EndsTooLong (fed self.old.reading piece.now) }
-        ensures reach { Reaches H.servers L.servers parts.new }
-    {
-        self.feed(piece)?;
-        self.answer_all(rt, alloc, parts)
-    }
-
-    fn feed(&mut self, piece: &[u8]) -> Result<(), FeedFault>
-        ensures { OnOk result (self.new ≡ fed_standing self.old piece.now) }
+    /// Takes the next piece of the client's bytes. After a line too long it takes none: each call
+    /// then fails with `Failed`, and none with `Memory`.
+    pub fn take(&mut self, piece: &[u8]) -> Result<(), FeedFault>
+        ensures ok { OnOk result (self.new ≡ fed_state self.old piece.now) }
+        ensures failed { IsErrOf result FeedFault.Failed ↔ (self.old.reading.after ≡ Never) }
+        ensures err { OnErr result (self.new ≡ self.old) }
     {
         self.reader.feed(piece)
     }
 
-    /// Answers each item that is decided.
-    fn answer_all<R: IoRuntime, H: Health, L: Links, T: Trails>(
+    /// Answers the items that are decided, in order, until none is left or until the replies that
+    /// wait reach their bound.
+    pub fn answer<R: IoRuntime, H: Health, L: Links, T: Trails>(
         &mut self,
         rt: &R,
         alloc: Global,
         parts: &mut Parts<H, L, T>,
-    ) -> Result<(), PieceFault>
+    ) -> Result<Progress, NoMemory>
         requires reach { Reaches H.servers L.servers parts.old }
-        ensures ok { OnOk result (Answered
-            (IsTurn H.steps L.exchanges L.sent T.tells) (sent_by L.sent)
+        ensures ok { IfOk result (λ progress. Answered
+            (IsTurn H.steps L.exchanges L.sent T.records) (sent_by L.sent) progress
             self.old parts.old self.new parts.new) }
-        ensures open { OnOk result (NeedsMore self.new.reading) }
-        ensures too_long { IsErrOf result PieceFault.LineTooLong → EndsTooLong self.old.reading }
+        ensures full { result ≡ Ok Progress.More → reply_bound ≤ length self.new.outbox }
+        ensures err { OnErr result (AnsweredPart (IsTurn H.steps L.exchanges L.sent T.records)
+            self.old parts.old self.new) }
         ensures reach { Reaches H.servers L.servers parts.new }
     {
         for _ in rt.forever() {
-            if !self.answer_next(rt, alloc, parts)? {
-                return Ok(());
+            if self.outbox.is_full() {
+                return Ok(Progress::More);
+            }
+            match self.answer_next(rt, alloc, parts)? {
+                Progress::More => {}
+                Progress::NeedsInput => return Ok(Progress::NeedsInput),
+                Progress::LineTooLong => return Ok(Progress::LineTooLong),
             }
         }
         unreachable!()
@@ -139,24 +138,21 @@ impl Session {
         rt: &R,
         alloc: Global,
         parts: &mut Parts<H, L, T>,
-    ) -> Result<bool, PieceFault>
+    ) -> Result<Progress, NoMemory>
         requires reach { Reaches H.servers L.servers parts.old }
-        ensures ok { IfOk result (λ _. Answered
-            (IsTurn H.steps L.exchanges L.sent T.tells) (sent_by L.sent)
+        requires room { length self.old.outbox < reply_bound }
+        ensures ok { IfOk result (λ progress. Answered
+            (IsTurn H.steps L.exchanges L.sent T.records) (sent_by L.sent) progress
             self.old parts.old self.new parts.new) }
-        ensures none { IfOk result (λ some. OnFalse some (NeedsMore self.new.reading)) }
-        ensures too_long { IsErrOf result PieceFault.LineTooLong → EndsTooLong self.old.reading }
+        ensures err { OnErr result (self.new.outbox ≡ self.old.outbox) }
         ensures reach { Reaches H.servers L.servers parts.new }
     {
         match self.next()? {
-            None => Ok(false),
-            Some(Item::Fault(fault)) => {
-                self.answer_fault(fault)?;
-                Ok(true)
-            }
+            None => Ok(Progress::NeedsInput),
+            Some(Item::Fault(fault)) => self.answer_fault(fault),
             Some(Item::Request(request)) => {
                 self.answer_request(rt, alloc, parts, &request)?;
-                Ok(true)
+                Ok(Progress::More)
             }
         }
     }
@@ -171,21 +167,21 @@ impl Session {
         self.reader.next()
     }
 
-    /// Answers a fault; behind a line that is too long nothing more is read.
-    fn answer_fault(&mut self, fault: TextFault) -> Result<(), PieceFault>
+    /// Answers a fault.
+    fn answer_fault(&mut self, fault: TextFault) -> Result<Progress, NoMemory>
         ensures ok { OnOk result (self.new
             ≡ record self.old { outbox = self.old.outbox ++ fault_text fault }) }
-        ensures goes_on { OnOk result (fault ≢ TextFault.LineTooLong) }
-        ensures too_long { IsErrOf result PieceFault.LineTooLong → fault ≡ TextFault.LineTooLong }
+        ensures progress { IfOk result (λ progress. progress ≡ progress_after fault) }
+        ensures err { OnErr result (self.new ≡ self.old) }
     {
-        self.outbox.extend_from_slice(fault.reply())?;
+        self.outbox.append(fault.reply())?;
         match fault {
-            TextFault::LineTooLong => Err(PieceFault::LineTooLong),
+            TextFault::LineTooLong => Ok(Progress::LineTooLong),
             TextFault::UnknownCommand
             | TextFault::BadLine
             | TextFault::BadKey
             | TextFault::BadChunk
-            | TextFault::TooLarge => Ok(()),
+            | TextFault::TooLarge => Ok(Progress::More),
         }
     }
 
@@ -196,29 +192,24 @@ impl Session {
         alloc: Global,
         parts: &mut Parts<H, L, T>,
         request: &Request,
-    ) -> Result<(), PieceFault>
+    ) -> Result<(), NoMemory>
         requires reach { Reaches H.servers L.servers parts.old }
-        ensures ok { OnOk result (Replied H.steps L.exchanges L.sent T.tells
+        ensures ok { OnOk result (Replied H.steps L.exchanges L.sent T.records
             self.old parts.old request.now self.new parts.new) }
-        ensures never_too_long { result ≢ Err PieceFault.LineTooLong }
+        ensures err { OnErr result (self.new ≡ self.old) }
         ensures reach { Reaches H.servers L.servers parts.new }
     {
         parts.trails.request(rt, request)?;
-        let routed = parts.route(rt, alloc, request)?;
-        self.add_reply(routed.response())?;
-        parts.trails.trail(rt, routed.trail)?;
+        let Ok(routed) = parts.route(rt, alloc, request) else {
+            return Err(NoMemory);
+        };
+        let waiting = self.outbox.len();
+        self.outbox.append_reply(routed.response())?;
+        if parts.trails.trail(rt, routed.trail).is_err() {
+            self.outbox.truncate(waiting);
+            return Err(NoMemory);
+        }
         self.requests = self.requests.saturating_add(1);
         Ok(())
-    }
-
-    fn add_reply(&mut self, response: Option<&Response>) -> Result<(), NoMemory>
-        ensures { OnOk result (self.new ≡ record self.old {
-          outbox = self.old.outbox ++ text_of_answer (option_copied response.entry);
-        }) }
-    {
-        match response {
-            Some(response) => response.append_to(&mut self.outbox),
-            None => Ok(self.outbox.extend_from_slice(NO_SERVER)?),
-        }
     }
 }

@@ -1,6 +1,8 @@
 //! Sessions over memory and scripted servers.
 
-use crate::{Inlet, Kept, Outlet, Parts, Piped, Report, SessionFault, Stop, Taped, serve};
+use crate::{
+    Inlet, Kept, Outlet, Parts, Piped, Progress, Report, Session, SessionFault, Stop, Taped, serve,
+};
 use std::alloc::Global;
 use std::io;
 use std::io::{ErrorKind, Read, Write};
@@ -20,7 +22,15 @@ const SETTINGS: Settings = Settings {
     opening_stamp: 0,
 };
 
+const ONCE: &[u8] = b"get a\r\n";
+
 const TWICE: &[u8] = b"get a\r\nget a\r\n";
+
+const MISS: &[u8] = b"END\r\n";
+
+const MISSES: &[u8] = b"END\r\nEND\r\n";
+
+type Scripts = Vec<Script>;
 
 /// What a session came to, how often each server was sent to, and the trails.
 #[derive(Drop)]
@@ -30,24 +40,53 @@ struct Ran {
     trails: Kept,
 }
 
-/// A session over two servers: the first send is refused, and the next two find nothing.
+/// The first send is refused, and the next two find nothing.
+fn refused_and_misses(alloc: Global) -> Result<Scripts, Fail> {
+    let mut scripts = Vec::new(alloc);
+    scripts.push(Script::Refused)?;
+    scripts.push(Script::Bytes(MISS.to_vec(alloc)?))?;
+    scripts.push(Script::Bytes(MISS.to_vec(alloc)?))?;
+    Ok(scripts)
+}
+
+/// So many responses with a value of so many bytes.
+fn values(alloc: Global, count: usize, len: usize) -> Result<Scripts, Fail> {
+    let mut scripts = Vec::new(alloc);
+    for _ in 0..count {
+        scripts.push(Script::Bytes(value_of(alloc, len)?))?;
+    }
+    Ok(scripts)
+}
+
+/// A response with a value of so many bytes.
+fn value_of(alloc: Global, len: usize) -> Result<Vec<u8>, Fail> {
+    let mut bytes = Vec::new(alloc);
+    bytes.extend_from_slice(b"VALUE a 0 ")?;
+    bytes.extend_from_slice(format!(in alloc; "{len}")?.as_bytes())?;
+    bytes.extend_from_slice(b"\r\n")?;
+    bytes.extend_from_slice(vec![in alloc; b'x'; len]?.as_slice())?;
+    bytes.extend_from_slice(b"\r\nEND\r\n")?;
+    Ok(bytes)
+}
+
+/// Two servers, both targets, with these scripts.
+fn parts_of(alloc: Global, scripts: Scripts) -> Result<Parts<PlainHealth, Scripted, Kept>, Fail> {
+    Ok(Parts {
+        health: PlainHealth::new(Plain::open(alloc, SETTINGS)?, 0),
+        links: Scripted::new(alloc, 2, scripts)?,
+        trails: Kept::new(alloc),
+        targets: vec![in alloc; 0, 1]?,
+    })
+}
+
 fn run<R: Wait + Net<Stream = TcpStream>, I: Inlet, O: Outlet>(
     rt: &R,
     alloc: Global,
     reader: &mut I,
     writer: &mut O,
+    scripts: Scripts,
 ) -> Result<Ran, Fail> {
-    let miss = b"END\r\n".as_slice();
-    let mut scripts = Vec::new(alloc);
-    scripts.push(Script::Refused)?;
-    scripts.push(Script::Bytes(miss.to_vec(alloc)?))?;
-    scripts.push(Script::Bytes(miss.to_vec(alloc)?))?;
-    let mut parts = Parts {
-        health: PlainHealth::new(Plain::open(alloc, SETTINGS)?, 0),
-        links: Scripted::new(alloc, 2, scripts)?,
-        trails: Kept::new(alloc),
-        targets: vec![in alloc; 0, 1]?,
-    };
+    let mut parts = parts_of(alloc, scripts)?;
     let result = serve(rt, alloc, reader, writer, &mut parts);
     let mut sends = Vec::new(alloc);
     for target in &parts.targets {
@@ -65,19 +104,37 @@ fn blank(alloc: Global) -> Taped {
     Taped::new(Vec::new(alloc), 4096, Vec::new(alloc))
 }
 
+/// A tape with these bytes and one stop.
+fn stopping(
+    alloc: Global,
+    bytes: &[u8],
+    greatest: usize,
+    stop: (u64, Stop),
+) -> Result<Taped, Fail> {
+    let mut stops = Vec::new(alloc);
+    stops.push(stop)?;
+    Ok(Taped::new(bytes.to_vec(alloc)?, greatest.max(1), stops))
+}
+
 #[test]
 fn marked_server_is_skipped(rt: HostRuntime) -> Result<(), Fail> {
     let alloc = rt.alloc();
     for (read, write) in [(4096, 4096), (1, 4096), (4096, 1)] {
         let mut reader = Taped::new(TWICE.to_vec(alloc)?, read, Vec::new(alloc));
         let mut writer = Taped::new(Vec::new(alloc), write, Vec::new(alloc));
-        let ran = run(&rt, alloc, &mut reader, &mut writer)?;
+        let ran = run(
+            &rt,
+            alloc,
+            &mut reader,
+            &mut writer,
+            refused_and_misses(alloc)?,
+        )?;
         let report = Report {
             requests: 2,
             unfinished: 0,
         };
         assert_eq!(rt; ran.result, Ok(report));
-        assert_eq!(rt; writer.bytes(), b"END\r\nEND\r\n".as_slice());
+        assert_eq!(rt; writer.bytes(), MISSES);
         assert_eq!(rt; ran.sends.as_slice(), [1, 2].as_slice());
         let second = ran.trails.trails().last().ok_or("no trail")?;
         assert!(rt;
@@ -91,27 +148,27 @@ fn marked_server_is_skipped(rt: HostRuntime) -> Result<(), Fail> {
 }
 
 #[test]
-fn an_end_may_stop(rt: HostRuntime) -> Result<(), Fail> {
+fn a_reader_may_stop(rt: HostRuntime) -> Result<(), Fail> {
     let alloc = rt.alloc();
     let unfinished = Report {
         requests: 1,
         unfinished: 3,
     };
     for (stop, result, text) in [
-        ((0, Stop::Again), Ok(unfinished), b"END\r\n".as_slice()),
-        ((1, Stop::Idle), Ok(unfinished), b"END\r\n".as_slice()),
+        ((0, Stop::Again), Ok(unfinished), MISS),
+        ((1, Stop::Idle), Ok(unfinished), MISS),
         ((0, Stop::Fault), Err(SessionFault::Read), b"".as_slice()),
-        (
-            (2, Stop::Fault),
-            Err(SessionFault::Read),
-            b"END\r\n".as_slice(),
-        ),
+        ((1, Stop::Fault), Err(SessionFault::Read), MISS),
     ] {
-        let mut stops = Vec::new(alloc);
-        stops.push(stop)?;
-        let mut reader = Taped::new(b"get a\r\nget".to_vec(alloc)?, 8, stops);
+        let mut reader = stopping(alloc, b"get a\r\nget", 8, stop)?;
         let mut writer = blank(alloc);
-        let ran = run(&rt, alloc, &mut reader, &mut writer)?;
+        let ran = run(
+            &rt,
+            alloc,
+            &mut reader,
+            &mut writer,
+            refused_and_misses(alloc)?,
+        )?;
         assert_eq!(rt; ran.result, result);
         assert_eq!(rt; writer.bytes(), text);
     }
@@ -119,26 +176,45 @@ fn an_end_may_stop(rt: HostRuntime) -> Result<(), Fail> {
 }
 
 #[test]
-fn a_failed_write_tells_how_much_went_out(rt: HostRuntime) -> Result<(), Fail> {
+fn a_failed_write_reports_how_much_was_written(rt: HostRuntime) -> Result<(), Fail> {
     let alloc = rt.alloc();
-    for (call, stop, result) in [
-        (0, Stop::Fault, Err(SessionFault::Write(0))),
-        (3, Stop::Fault, Err(SessionFault::Write(9))),
+    let all = Report {
+        requests: 2,
+        unfinished: 0,
+    };
+    for (stop, piece, result, text) in [
         (
-            3,
-            Stop::Again,
-            Ok(Report {
-                requests: 2,
-                unfinished: 0,
-            }),
+            (0, Stop::Fault),
+            4096,
+            Err(SessionFault::Write(0)),
+            b"".as_slice(),
         ),
+        ((1, Stop::Fault), 4096, Err(SessionFault::Write(3)), b"END"),
+        (
+            (3, Stop::Fault),
+            4096,
+            Err(SessionFault::Write(9)),
+            b"END\r\nEND\r",
+        ),
+        (
+            (3, Stop::Fault),
+            7,
+            Err(SessionFault::Write(8)),
+            b"END\r\nEND",
+        ),
+        ((3, Stop::Again), 4096, Ok(all), MISSES),
     ] {
-        let mut stops = Vec::new(alloc);
-        stops.push((call, stop))?;
-        let mut reader = Taped::new(TWICE.to_vec(alloc)?, 4096, Vec::new(alloc));
-        let mut writer = Taped::new(Vec::new(alloc), 3, stops);
-        let ran = run(&rt, alloc, &mut reader, &mut writer)?;
+        let mut reader = Taped::new(TWICE.to_vec(alloc)?, piece, Vec::new(alloc));
+        let mut writer = stopping(alloc, b"", 3, stop)?;
+        let ran = run(
+            &rt,
+            alloc,
+            &mut reader,
+            &mut writer,
+            refused_and_misses(alloc)?,
+        )?;
         assert_eq!(rt; ran.result, result);
+        assert_eq!(rt; writer.bytes(), text);
     }
     Ok(())
 }
@@ -149,7 +225,7 @@ fn a_line_too_long_is_answered_and_ends_the_session(rt: HostRuntime) -> Result<(
     let line = vec![in alloc; b'k'; 65_537]?;
     let mut reader = Taped::new(line, 4096, Vec::new(alloc));
     let mut writer = blank(alloc);
-    let ran = run(&rt, alloc, &mut reader, &mut writer)?;
+    let ran = run(&rt, alloc, &mut reader, &mut writer, Vec::new(alloc))?;
     assert_eq!(rt; ran.result, Err(SessionFault::LineTooLong));
     assert_eq!(rt;
         writer.bytes(),
@@ -159,13 +235,49 @@ fn a_line_too_long_is_answered_and_ends_the_session(rt: HostRuntime) -> Result<(
 }
 
 #[test]
+fn replies_are_written_at_the_bound(rt: HostRuntime) -> Result<(), Fail> {
+    let alloc = rt.alloc();
+    let mut parts = parts_of(alloc, values(alloc, 3, 40_000)?)?;
+    let mut session = Session::new(alloc);
+    assert!(rt; session.take(TWICE).is_ok());
+    assert!(rt; session.take(ONCE).is_ok());
+    for (progress, waiting) in [(Progress::More, 80_048), (Progress::NeedsInput, 40_024)] {
+        assert_eq!(rt; session.answer(&rt, alloc, &mut parts), Ok(progress));
+        assert_eq!(rt; session.outbox().len(), waiting);
+        session.clear_outbox();
+    }
+    Ok(())
+}
+
+#[test]
+fn the_greatest_value_is_served(rt: HostRuntime) -> Result<(), Fail> {
+    let alloc = rt.alloc();
+    let mut reader = Taped::new(TWICE.to_vec(alloc)?, 4096, Vec::new(alloc));
+    let mut writer = Taped::new(Vec::new(alloc), 65_536, Vec::new(alloc));
+    let scripts = values(alloc, 2, 1_048_576)?;
+    let ran = run(&rt, alloc, &mut reader, &mut writer, scripts)?;
+    assert!(rt; ran.result.is_ok());
+    let reply = value_of(alloc, 1_048_576)?;
+    assert_eq!(rt; writer.bytes().len() / 2, reply.len());
+    assert!(rt; writer.bytes().starts_with(reply.as_slice()));
+    assert!(rt; writer.bytes().ends_with(reply.as_slice()));
+    Ok(())
+}
+
+#[test]
 fn pipes_carry_the_same(rt: HostRuntime) -> Result<(), Fail> {
     let alloc = rt.alloc();
     let mut reader = Piped::new(TWICE);
     let mut writer = Piped::new(Vec::new(alloc));
-    let ran = run(&rt, alloc, &mut reader, &mut writer)?;
+    let ran = run(
+        &rt,
+        alloc,
+        &mut reader,
+        &mut writer,
+        refused_and_misses(alloc)?,
+    )?;
     assert!(rt; ran.result.is_ok());
-    assert_eq!(rt; writer.inner.as_slice(), b"END\r\nEND\r\n".as_slice());
+    assert_eq!(rt; writer.inner.as_slice(), MISSES);
     Ok(())
 }
 
@@ -199,7 +311,7 @@ fn stops<R: Wait + Net<Stream = TcpStream>>(
 }
 
 #[test]
-fn a_pipe_tells_why_it_stopped(rt: HostRuntime) {
+fn a_pipe_reports_why_it_stopped(rt: HostRuntime) {
     for (kind, read, write) in [
         (ErrorKind::Interrupted, Stop::Again, Stop::Again),
         (ErrorKind::WouldBlock, Stop::Idle, Stop::Fault),

@@ -1,24 +1,25 @@
-//! Who is told of each request and of each trail.
+//! What records each request and each trail.
 ghost use Rattle.std.specs.Prelude.{◌≡◌, [], IsOk, OnOk};
-ghost use Rattle.tko_session.specs.Told.{Asked, Tried};
+ghost use Rattle.tko_session.specs.TrailEvents.{Asked, Tried};
 
 use std::alloc::Global;
 use std::marker::Model;
+use tko_bytes::NoMemory;
 use tko_route::{IoRuntime, Trail};
-use tko_text::{NoMemory, Request};
+use tko_text::Request;
 
-/// Is told of each item that isn't a fault, and then of the trail of its routed request.
+/// Records each item that isn't a fault, and then the trail of its routed request.
 pub trait Trails {
-    ghost use Rattle.tko_session.specs.Told.{Told};
+    ghost use Rattle.tko_session.specs.TrailEvents.{TrailEvent};
 
-    /// From the one to the other it was told this.
-    ghost tells: { Self → Told → Self → Type 0 };
+    /// Between the two it recorded this.
+    ghost records: { Self → TrailEvent → Self → Type 0 };
 
     fn request<R: IoRuntime>(&mut self, rt: &R, request: &Request) -> Result<(), NoMemory>
-        ensures { OnOk result (tells self.old (Asked request.now) self.new) };
+        ensures { OnOk result (records self.old (Asked request.now) self.new) };
 
     fn trail<R: IoRuntime>(&mut self, rt: &R, trail: Trail) -> Result<(), NoMemory>
-        ensures { OnOk result (tells self.old (Tried trail) self.new) };
+        ensures { OnOk result (records self.old (Tried trail) self.new) };
 }
 
 /// The trails, in order.
@@ -53,13 +54,13 @@ impl Kept {
 }
 
 impl Trails for Kept {
-    ghost use Rattle.tko_session.specs.Told.{Keeps};
+    ghost use Rattle.tko_session.specs.TrailEvents.{Keeps};
 
-    ghost tells = { Keeps };
+    ghost records = { Keeps };
 
     /// Requests are not kept, so it takes no memory.
     fn request<R: IoRuntime>(&mut self, _rt: &R, _request: &Request) -> Result<(), NoMemory>
-        ensures told { OnOk result (Keeps self.old (Asked _request.now) self.new) }
+        ensures recorded { OnOk result (Keeps self.old (Asked _request.now) self.new) }
         ensures ok { IsOk result }
     {
         Ok(())

@@ -1,6 +1,6 @@
 //! The two ends of a session: where a client's bytes come from, and where the replies go.
 ghost use Rattle.std.specs.Prelude.{◌≡◌, ◌≢◌, ◌+◌, ◌<◌, ◌≤◌, Ok, Err, IfOk, length};
-ghost use Rattle.tko_session.specs.Ends.{moved, faults_in, idles_in, refusals_in};
+ghost use Rattle.tko_session.specs.Io.{moved, faults_in, idles_in, refusals_in};
 
 use tko_route::IoRuntime;
 
@@ -19,7 +19,7 @@ pub enum Stop {
 pub trait Inlet {
     ghost use Rattle.std.specs.Prelude.{ℕ, List, [], ◌++◌};
 
-    /// These bytes came between the two.
+    /// These bytes were read between the two.
     ghost gives: { Self → List ℕ → Self → Type 0 };
 
     /// It was read to its end.
@@ -28,11 +28,11 @@ pub trait Inlet {
     /// How often it failed.
     ghost failures: { Self → ℕ };
 
-    /// How often it answered Idle.
+    /// How often it returned Idle.
     ghost idles: { Self → ℕ };
 
-    /// Puts the next bytes at the front of the buffer, and answers how many. Where the buffer has
-    /// room, none is the end.
+    /// Puts the next bytes at the front of the buffer, and returns how many. Where the buffer has
+    /// room, 0 is the end of input.
     fn read<R: IoRuntime>(&mut self, rt: &R, buffer: &mut [u8]) -> Result<usize, Stop>
         ensures within { IfOk result (λ count. count ≤ length buffer.new) }
         ensures gives { gives self.old (moved result buffer.new) self.new }
@@ -40,10 +40,10 @@ pub trait Inlet {
         ensures failures { failures self.new ≡ failures self.old + faults_in result }
         ensures idles { idles self.new ≡ idles self.old + idles_in result };
 
-    /// Nothing comes between an object and itself.
+    /// No bytes are read between an object and itself.
     ghost nothing: { (x : Self) → gives x [] x };
 
-    /// What came in two parts came as a whole.
+    /// Bytes that were read in two parts were read as a whole.
     ghost goes_on: { (x y z : Self) (bytes more : List ℕ)
         → gives x bytes y → gives y more z → gives x (bytes ++ more) z };
 }
@@ -52,13 +52,13 @@ pub trait Inlet {
 pub trait Outlet {
     ghost use Rattle.std.specs.Prelude.{ℕ, List, [], ◌++◌};
 
-    /// These bytes went out between the two.
+    /// These bytes were written between the two.
     ghost takes: { Self → List ℕ → Self → Type 0 };
 
     /// How often it failed.
     ghost failures: { Self → ℕ };
 
-    /// Takes bytes from the front of the piece, and answers how many. To take none of a piece that
+    /// Takes bytes from the front of the piece, and returns how many. To take none of a piece that
     /// isn't empty is a failure too.
     fn write<R: IoRuntime>(&mut self, rt: &R, piece: &[u8]) -> Result<usize, Stop>
         ensures within { IfOk result (λ count. count ≤ length piece.now) }
@@ -66,10 +66,10 @@ pub trait Outlet {
         ensures failures { failures self.new ≡ failures self.old + refusals_in piece.now result }
         ensures never_idle { result ≢ Err Stop.Idle };
 
-    /// Nothing goes out between an object and itself.
+    /// No bytes are written between an object and itself.
     ghost nothing: { (x : Self) → takes x [] x };
 
-    /// What went out in two parts went out as a whole.
+    /// Bytes that were written in two parts were written as a whole.
     ghost goes_on: { (x y z : Self) (bytes more : List ℕ)
         → takes x bytes y → takes y more z → takes x (bytes ++ more) z };
 }

@@ -1,28 +1,28 @@
 //! How often an end failed, and how often it was idle.
 ghost use Rattle.std.specs.Prelude.{◌≡◌, ◌+◌};
-ghost use Rattle.tko_session.specs.Ends.{is_fault, is_idle};
+ghost use Rattle.tko_session.specs.Io.{is_fault, is_idle};
 
 use crate::Stop;
 use std::sync::Wait;
 
 /// The two counts of an end.
 #[derive(Drop)]
-pub(crate) struct Tally {
+pub(crate) struct StopCounts {
     failures: u64,
     idles: u64,
 }
 
-impl Tally {
-    pub(crate) fn new() -> Tally
+impl StopCounts {
+    pub(crate) fn new() -> StopCounts
         ensures { result ≡ record { failures = 0; idles = 0 } }
     {
-        Tally {
+        StopCounts {
             failures: 0,
             idles: 0,
         }
     }
 
-    /// Counts a stop, and hands it back.
+    /// Counts a stop, and returns it.
     pub(crate) fn count<R: Wait>(&mut self, rt: &R, stop: Stop) -> Stop
         ensures same { result ≡ stop }
         ensures failures { self.new.failures ≡ self.old.failures + is_fault stop }
@@ -37,8 +37,8 @@ impl Tally {
     }
 }
 
-/// Raises a count by 1. No run comes to its end: there it would wait forever.
-fn raise<R: Wait>(rt: &R, count: &mut u64)
+/// Raises a count by 1. It blocks forever at 2^64 - 1, which no run reaches.
+pub(crate) fn raise<R: Wait>(rt: &R, count: &mut u64)
     ensures { count.new ≡ count.old + 1 }
 {
     for _ in rt.forever() {

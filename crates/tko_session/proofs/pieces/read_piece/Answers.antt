@@ -1,5 +1,5 @@
 use Rattle.std.proofs.Common.{[], arith}
-use Rattle.tko_session.proofs.serving.read_piece.Goals as goal
+use Rattle.tko_session.proofs.pieces.read_piece.Goals as goal
 
 pub returns-in-Ok-clause-gives : goal.returns-in-Ok-clause-gives
 returns-in-Ok-clause-gives g c = g.met.I.Inlet.goes_on _ _ _ [] _ c.loop.invariant.0 c.in-Ok.ensures.gives
@@ -17,3 +17,6 @@ loop-preserved g c =
       g.met.I.Inlet.goes_on _ _ _ [] [] c.loop.invariant.0 c.in-Err-Idle.ensures.gives,
       omega (arith, calm, c.loop.invariant.1),
     )
+
+pub returns-in-Err-Fault-clause-none : goal.returns-in-Err-Fault-clause-none
+returns-in-Err-Fault-clause-none g c = g.met.I.Inlet.goes_on _ _ _ [] [] c.loop.invariant.0 c.in-Err-Fault.ensures.gives

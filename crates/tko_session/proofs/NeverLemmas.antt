@@ -1,0 +1,172 @@
+-- Nothing is read after a line that is too long, and after no other item.
+use Rattle.std.proofs.Common.{◌≡◌, ◌≢◌, ℕ, ◌+◌, ◌-◌, Bool, true, false, List, [], ◌∷◌, cond, length, drop, Option, Some, None, refl, sym, ap, ◌∙◌}
+use Rattle.std.specs.Prelude.{unwrap_or, nat_le, ◌==◌}
+use Rattle.std.specs.Option.{option_and_then}
+use Rattle.std.specs.List.{list_all}
+use Rattle.std.specs.Str.{bytes_eq}
+use Rattle.tko_text.specs.declared.fault.TextFault.TheVariants.{UnknownCommand, BadKey, TooLarge, LineTooLong}
+use Rattle.tko_text.specs.declared.item.Item.{Item}
+use Rattle.tko_text.specs.declared.item.Item.TheVariants as item
+use Rattle.tko_text.specs.Commands.{ParsedLine, Asks, AwaitsData, Refused, Form, Keys, Stored, Compared, Deleted, Counted, Touched, Alone, Followed, bad_line, taken, is_within, noreply, with_key, with_data, parsed_keys, parsed_form, parsed_known, parsed_words, parsed, form_of}
+use Rattle.tko_text.specs.Keys.{is_key}
+use Rattle.tko_bytes.specs.Numbers.{number_of}
+use Rattle.tko_text.specs.Limits.{data_limit, flags_limit, number_limit}
+use Rattle.tko_text.specs.Numbers.{expiry}
+use Rattle.tko_bytes.specs.Lines.{line_feed, content}
+use Rattle.tko_text.specs.Requests.{Command}
+use Rattle.tko_text.specs.Reading.{After, Next, Pass, PassLine, Never, Reading, Completes, Decides, IsWrongEnd, by_line, by_length, passed, after_wrong, start, fed, Emits, EmitsEach, Gives}
+use Rattle.tko_bytes.specs.Words.{words}
+use Rattle.tko_session.specs.SessionState.{GoesOn, line_too_long}
+use Rattle.std.proofs.lemmas.List.Elements.{All-head, All-tail}
+
+-- a fault other than a line too long, after which reading goes on
+abbrev IsOrdinary : ParsedLine → Type 0
+IsOrdinary (Asks command) = Unit {0}
+IsOrdinary (AwaitsData size command) = Unit {0}
+IsOrdinary (Refused why onward) = (why ≢ LineTooLong) × (onward ≢ Never)
+
+either : (b : Bool) (one other : ParsedLine) → IsOrdinary one → IsOrdinary other → IsOrdinary (cond b one other)
+either b one other first second = elim b as (λ v. IsOrdinary (cond v one other)) [ true ↦ first | false ↦ second ]
+
+bad_line_ordinary : IsOrdinary bad_line
+bad_line_ordinary = (λ e. cc, λ e. cc)
+
+bad_key_ordinary : IsOrdinary (Refused BadKey Next)
+bad_key_ordinary = (λ e. cc, λ e. cc)
+
+unknown_ordinary : IsOrdinary (Refused UnknownCommand Next)
+unknown_ordinary = (λ e. cc, λ e. cc)
+
+bad_data_ordinary : (n : ℕ) → IsOrdinary (Refused BadKey (Pass n))
+bad_data_ordinary n = (λ e. cc, λ e. cc)
+
+too_large_ordinary : (n : ℕ) → IsOrdinary (Refused TooLarge (Pass n))
+too_large_ordinary n = (λ e. cc, λ e. cc)
+
+and_then : {A : Type 0} (o : Option A) (f : A → Option ParsedLine) → ((a : A) → IsOrdinary (unwrap_or (f a) bad_line))
+    → IsOrdinary (unwrap_or (option_and_then f o) bad_line)
+and_then None f each = bad_line_ordinary
+and_then (Some a) f each = each a
+
+key_ordinary : (key : List ℕ) (command : Command) → IsOrdinary (with_key key command)
+key_ordinary key command = either (is_key key) (Asks command) (Refused BadKey Next) tt bad_key_ordinary
+
+data_ordinary : (key : List ℕ) (size : ℕ) (command : List ℕ → Command) → IsOrdinary (with_data key size command)
+data_ordinary key size command =
+    let large : ParsedLine = Refused TooLarge (Pass (size + 2)) in
+    let fits : ParsedLine = cond (nat_le size data_limit) (AwaitsData size command) large in
+    let fits_ordinary : IsOrdinary fits = either (nat_le size data_limit) (AwaitsData size command) large tt (too_large_ordinary (size + 2)) in
+    either (is_key key) fits (Refused BadKey (Pass (size + 2))) fits_ordinary (bad_data_ordinary (size + 2))
+
+keys_ordinary : (command : List (List ℕ) → Command) (keys : List (List ℕ)) → IsOrdinary (parsed_keys command keys)
+keys_ordinary command [] = bad_line_ordinary
+keys_ordinary command (key ∷ keys) =
+    let all = key ∷ keys in
+    let are_keys : ParsedLine = cond (list_all is_key all) (Asks (command all)) (Refused BadKey Next) in
+    let ordinary : IsOrdinary are_keys = either (list_all is_key all) (Asks (command all)) (Refused BadKey Next) tt bad_key_ordinary in
+    either (is_within taken.most_keys (length all)) are_keys bad_line ordinary bad_line_ordinary
+
+form_ordinary : (form : Form) (arguments : List (List ℕ)) → IsOrdinary (parsed_form form arguments)
+form_ordinary (Keys command) keys = keys_ordinary command keys
+form_ordinary (Stored verb) (key ∷ flags ∷ until ∷ bytes ∷ rest) =
+    and_then (number_of flags_limit flags) _ (λ f. and_then (expiry until) _ (λ e.
+    and_then (number_of number_limit bytes) _ (λ size. and_then (noreply rest) _ (λ quiet. data_ordinary key size _))))
+form_ordinary (Stored verb) _ = bad_line_ordinary
+form_ordinary Compared (key ∷ flags ∷ until ∷ bytes ∷ cas ∷ rest) =
+    and_then (number_of flags_limit flags) _ (λ f. and_then (expiry until) _ (λ e.
+    and_then (number_of number_limit bytes) _ (λ size. and_then (number_of number_limit cas) _ (λ unique.
+    and_then (noreply rest) _ (λ quiet. data_ordinary key size _)))))
+form_ordinary Compared _ = bad_line_ordinary
+form_ordinary Deleted [] = bad_line_ordinary
+form_ordinary Deleted (key ∷ rest) = and_then (noreply rest) _ (λ quiet. key_ordinary key _)
+form_ordinary (Counted command) (key ∷ amount ∷ rest) =
+    and_then (number_of number_limit amount) _ (λ n. and_then (noreply rest) _ (λ quiet. key_ordinary key _))
+form_ordinary (Counted command) _ = bad_line_ordinary
+form_ordinary Touched (key ∷ until ∷ rest) =
+    and_then (expiry until) _ (λ e. and_then (noreply rest) _ (λ quiet. key_ordinary key _))
+form_ordinary Touched _ = bad_line_ordinary
+form_ordinary (Alone command) [] = tt
+form_ordinary (Alone command) (word ∷ words) = bad_line_ordinary
+form_ordinary (Followed second command) (word ∷ []) =
+    either (bytes_eq word second) (Asks command) (Refused UnknownCommand Next) tt unknown_ordinary
+form_ordinary (Followed second command) _ = unknown_ordinary
+
+known_ordinary : (form : Option Form) (arguments : List (List ℕ)) → IsOrdinary (parsed_known form arguments)
+known_ordinary None arguments = unknown_ordinary
+known_ordinary (Some form) arguments = form_ordinary form arguments
+
+words_ordinary : (words : List (List ℕ)) → IsOrdinary (parsed_words words)
+words_ordinary [] = unknown_ordinary
+words_ordinary (word ∷ arguments) = known_ordinary (form_of word) arguments
+
+wrong_end_goes_on : (end : List ℕ) (after : After) → IsWrongEnd end after → after ≢ Never
+wrong_end_goes_on (b ∷ []) after (wrong, is) = λ never.
+    let P : Bool → Type 0 = λ v. cond v Next PassLine ≡ Never → ⊥ in
+    let each : P (b == line_feed) = elim (b == line_feed) as P [ true ↦ λ e. cc | false ↦ λ e. cc ] in
+    each (sym is ∙ never)
+wrong_end_goes_on (b ∷ c ∷ []) after (first, second, is) = λ never. cc
+wrong_end_goes_on _ after is = absurd is
+
+-- what a line and the bytes behind it complete is no line too long, and reading goes on after it
+completed_goes_on : (line : ParsedLine) (behind : List ℕ) (told : Item) (after : After) → IsOrdinary line
+    → Completes line behind told after → (told ≢ line_too_long) × (after ≢ Never)
+completed_goes_on (Asks command) behind (item.Request request) after ordinary (none, is, next) = (λ e. cc, λ e. cc)
+completed_goes_on (Asks command) behind (item.Fault it) after ordinary completes = absurd completes
+completed_goes_on (Refused why onward) behind (item.Fault it) after ordinary (none, is, goes) =
+    (λ e. ordinary.0 (cc), λ e. ordinary.1 (sym goes ∙ e))
+completed_goes_on (Refused why onward) behind (item.Request request) after ordinary completes = absurd completes
+completed_goes_on (AwaitsData size command) behind (item.Request request) after ordinary (value, len, parts, is, next) =
+    (λ e. cc, λ e. cc)
+completed_goes_on (AwaitsData size command) behind (item.Fault it) after ordinary (value, end, len, parts, wrong, is) =
+    (λ e. cc, wrong_end_goes_on end after wrong)
+
+decided : (text : List ℕ) (told : Item) (after : After) → Decides text told after
+    → (told ≡ line_too_long → after ≡ Never) × (told ≢ line_too_long → after ≢ Never)
+decided text told after (by_line before behind line is completes) =
+    let goes = completed_goes_on (parsed (content before)) behind told after (words_ordinary (words (content before))) completes in
+    (λ e. absurd (goes.0 e), λ ne. goes.1)
+decided text told after (by_length long is never) = (λ e. never, λ ne. absurd (ne is))
+
+line_passed_goes_on : (bytes : List ℕ) → (passed PassLine bytes).after ≢ Never
+line_passed_goes_on [] = λ e. cc
+line_passed_goes_on (b ∷ bytes) =
+    let next : Reading = record { after = Next; unread = bytes } in
+    let P : Bool → Type 0 = λ v. (cond v next (passed PassLine bytes)).after ≢ Never in
+    elim (b == line_feed) as P [ true ↦ λ e. cc | false ↦ line_passed_goes_on bytes ]
+
+passed_goes_on : (after : After) (bytes : List ℕ) → after ≢ Never → (passed after bytes).after ≢ Never
+passed_goes_on Next bytes goes = λ e. cc
+passed_goes_on (Pass n) bytes goes =
+    let past : Reading = record { after = Next; unread = drop n bytes } in
+    let short : Reading = record { after = Pass (n - length bytes); unread = [] } in
+    let P : Bool → Type 0 = λ v. (cond v past short).after ≢ Never in
+    elim (nat_le n (length bytes)) as P [ true ↦ λ e. cc | false ↦ λ e. cc ]
+passed_goes_on PassLine bytes goes = line_passed_goes_on bytes
+passed_goes_on Never bytes goes = absurd (goes refl)
+
+-- after a line too long nothing is read
+pub ends_reading : (from : Reading) (told : Item) (to : Reading) → Emits from told to → told ≡ line_too_long
+    → to.after ≡ Never
+unfolding Emits
+ends_reading from told to (text, left, after, at, decides, goes) e =
+    let never = (decided text told after decides).0 e in
+    ap (λ (r : Reading). r.after) goes ∙ ap (λ a. (passed a left).after) never
+
+-- after any other item reading goes on
+goes_on_reading : (from : Reading) (told : Item) (to : Reading) → Emits from told to → told ≢ line_too_long
+    → to.after ≢ Never
+unfolding Emits
+goes_on_reading from told to (text, left, after, at, decides, goes) ne = λ never.
+    passed_goes_on after left ((decided text told after decides).1 ne) (sym (ap (λ (r : Reading). r.after) goes) ∙ never)
+
+each_goes_on : (from : Reading) (items : List Item) (to : Reading) → from.after ≢ Never → EmitsEach from items to
+    → GoesOn items → to.after ≢ Never
+each_goes_on from [] to reads is goes = λ never. reads (sym (ap (λ (r : Reading). r.after) is) ∙ never)
+each_goes_on from (told ∷ items) to reads (mid, tells, each) goes =
+    each_goes_on mid items to (goes_on_reading from told mid tells (All-head (λ item. item ≢ line_too_long) told items goes)) each (All-tail (λ item. item ≢ line_too_long) told items goes)
+
+-- reading goes on after items of which none is a line too long
+pub reading_goes_on : (bytes : List ℕ) (items : List Item) (to : Reading) → Gives (fed start bytes) items to
+    → GoesOn items → to.after ≢ Never
+reading_goes_on bytes items to gives goes =
+    each_goes_on (fed start bytes) items to (λ never. cc) gives.each goes

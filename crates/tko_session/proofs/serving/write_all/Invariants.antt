@@ -1,7 +1,0 @@
-use Rattle.std.proofs.Common.{◌≡◌, ◌≤◌, length, take}
-use Rattle.tko_session.proofs.serving.write_all.Given as goal
-
-abbrev pub invariant-loop : goal.invariant-loop
-invariant-loop g l =
-    (l.at ≤ length l.text) × g.O.Outlet.takes l.fn.writer (take l.at l.text) l.writer
-    × (g.O.Outlet.failures l.writer ≡ g.O.Outlet.failures l.fn.writer)

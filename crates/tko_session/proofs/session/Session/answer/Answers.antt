@@ -1,0 +1,25 @@
+use Rattle.tko_session.proofs.ResultLemmas.{on_err}
+use Rattle.tko_session.proofs.TurnLemmas.{answered_none, answered_append, part_none, part_after}
+use Rattle.tko_session.proofs.session.Session.answer.Goals as goal
+
+pub loop-init : goal.loop-init
+loop-init g c = (answered_none c.args.self.now c.args.parts.now, c.requires.reach)
+
+pub returns-in_err-answer_next-clause-err : goal.returns-in_err-answer_next-clause-err
+returns-in_err-answer_next-clause-err g c =
+    on_err _ (part_after c.loop.invariant.0 (part_none _ _ c.loop.parts c.in_err-answer_next.ensures.err))
+
+pub loop-preserved : goal.loop-preserved
+loop-preserved g c =
+    let more = rw c.in-More.is at c.in_ok-answer_next.ensures.ok in
+    (answered_append c.loop.invariant.0 more, c.in_ok-answer_next.ensures.reach)
+
+pub returns-in-NeedsInput-clause-ok : goal.returns-in-NeedsInput-clause-ok
+returns-in-NeedsInput-clause-ok g c =
+    let last = rw c.in-NeedsInput.is at c.in_ok-answer_next.ensures.ok in
+    answered_append c.loop.invariant.0 last
+
+pub returns-in-LineTooLong-clause-ok : goal.returns-in-LineTooLong-clause-ok
+returns-in-LineTooLong-clause-ok g c =
+    let last = rw c.in-LineTooLong.is at c.in_ok-answer_next.ensures.ok in
+    answered_append c.loop.invariant.0 last

@@ -1,0 +1,143 @@
+-- A session between two pieces, and the turns that lead from one state to another.
+use Rattle.std.specs.Prelude.{◌≡◌, ◌≢◌, ◌<◌, ℕ, ◌+◌, Bool, true, false, List, [], ◌∷◌, ◌++◌, All, length, map, count_by, sum_by, flat_map}
+use Rattle.tko_model.specs.Records.{Gains, HealthItem}
+use Rattle.tko_text.specs.declared.item.Item.{Item}
+use Rattle.tko_text.specs.declared.item.Item.TheVariants as item
+use Rattle.tko_text.specs.declared.fault.TextFault.{TextFault}
+use Rattle.tko_text.specs.declared.fault.TextFault.TheVariants.{LineTooLong}
+use Rattle.tko_text.specs.declared.request.Request.{Request}
+use Rattle.tko_text.specs.Reading.{Reading, Never, Gives, NeedsMore, start, fed}
+use Rattle.tko_route.specs.declared.attempt.Attempt.{Attempt}
+use Rattle.tko_route.specs.Links.{LinksItem}
+use Rattle.tko_route.specs.Trail.{sends_in}
+use Rattle.tko_session.specs.declared.parts.Parts.{Parts}
+use Rattle.tko_session.specs.declared.session.Progress.{Progress}
+use Rattle.tko_session.specs.declared.session.Progress.TheVariants as progress
+use Rattle.tko_session.specs.Io.{capped}
+use Rattle.tko_session.specs.TrailEvents.{TrailEvent}
+use Rattle.tko_session.specs.Turns.{Turn, IsRouted, reply_text}
+
+-- how far the input was read, the replies that wait to be written, and the number of requests
+pub record SessionState : Type 0 where
+  pub reading : Reading
+  pub outbox : List ℕ
+  pub requests : ℕ
+
+-- a session that has read nothing
+abbrev pub fresh : SessionState
+fresh = record { reading = start; outbox = []; requests = 0 }
+
+-- the same after these bytes came
+abbrev pub fed_state : SessionState → List ℕ → SessionState
+fed_state old piece = record old { reading = fed old.reading piece }
+
+-- so many bytes of replies are enough to be written
+abbrev pub reply_bound : ℕ
+reply_bound = 65536
+
+-- the fault after which a session reads nothing more
+abbrev pub line_too_long : Item
+line_too_long = item.Fault LineTooLong
+
+abbrev pub is_request : Item → Bool
+is_request (item.Request request) = true
+is_request (item.Fault fault) = false
+
+abbrev pub items_of : List Turn → List Item
+items_of turns = map (λ turn. turn.item) turns
+
+-- the replies, one after another
+abbrev pub text_of : List Turn → List ℕ
+text_of turns = flat_map (λ turn. turn.text) turns
+
+abbrev pub trails_of : List Turn → List (List Attempt)
+trails_of turns = flat_map (λ turn. turn.trails) turns
+
+-- how many items are requests
+abbrev pub requests_in : List Item → ℕ
+requests_in items = count_by is_request items
+
+-- how often these trails sent to a server
+abbrev pub sends_to : ℕ → List (List Attempt) → ℕ
+sends_to server trails = sum_by (sends_in server) trails
+
+-- no item is a line that is too long
+abbrev pub GoesOn : List Item → Type 0
+GoesOn items = All (λ item. item ≢ line_too_long) items
+
+-- the last item is a line that is too long, and no other is
+pub record EndsTooLong (items : List Item) : Type 0 where
+  pub before : List Item
+  pub parts : items ≡ before ++ line_too_long ∷ []
+  pub goes_on : GoesOn before
+
+-- how a session stands after these items: there may be more, all that are decided were answered, or
+-- the last one ended the session
+abbrev pub ProgressIs : Progress → List Item → Reading → Type 0
+ProgressIs progress.More items reading = GoesOn items
+ProgressIs progress.NeedsInput items reading = GoesOn items × NeedsMore reading
+ProgressIs progress.LineTooLong items reading = EndsTooLong items × (reading.after ≡ Never)
+
+-- how a session stands after the reply to a fault
+abbrev pub progress_after : TextFault → Progress
+progress_after LineTooLong = progress.LineTooLong
+progress_after _ = progress.More
+
+-- where so many bytes wait, each of these turns begins while fewer than the bound wait
+abbrev pub BeginBelowBound : ℕ → List Turn → Type 0
+BeginBelowBound waiting [] = Unit {0}
+BeginBelowBound waiting (turn ∷ turns) =
+    (waiting < reply_bound) × BeginBelowBound (waiting + length turn.text) turns
+
+-- each target is a server of the health and of the links
+pub record Reaches {H L T : Type 0} (servers : H → ℕ) (linked : L → ℕ)
+    (parts : Parts H L T) : Type 0 where
+  pub health : All (λ target. target < servers parts.health) parts.targets.items
+  pub links : All (λ target. target < linked parts.links) parts.targets.items
+
+-- how often each server was sent to
+abbrev pub sent_by : {H L T : Type 0} → (L → ℕ → ℕ) → Parts H L T → ℕ → ℕ
+sent_by sent parts server = sent parts.links server
+
+-- a request was answered: one more, and the reply after its trail at the end of the outbox
+pub record Replied {H L T : Type 0} (steps : H → HealthItem → H → Type 0)
+    (exchanges : L → LinksItem → L → Type 0) (sent : L → ℕ → ℕ)
+    (records : T → TrailEvent → T → Type 0)
+    (old : SessionState) (before : Parts H L T) (request : Request)
+    (new : SessionState) (after : Parts H L T) : Type 0 where
+  pub trail : List Attempt
+  pub routed : IsRouted steps exchanges sent records before request trail after
+  pub sends : (server : ℕ)
+      → sent after.links server ≡ sent before.links server + sends_in server trail
+  pub reading : new.reading ≡ old.reading
+  pub outbox : new.outbox ≡ old.outbox ++ reply_text trail
+  pub requests : capped new.requests ≡ capped (old.requests + 1)
+
+module _ {W : Type 0} (step : W → Turn → W → Type 0) (sent : W → ℕ → ℕ) where
+  -- these turns lead from the one state to the other, and change what they work on
+  pub record Turned (old : SessionState) (before : W) (turns : List Turn)
+      (new : SessionState) (after : W) : Type 0 where
+    pub gives : Gives old.reading (items_of turns) new.reading
+    pub gains : Gains step before turns after
+    pub sends : (server : ℕ)
+        → sent after server ≡ sent before server + sends_to server (trails_of turns)
+    pub requests : capped new.requests ≡ capped (old.requests + requests_in (items_of turns))
+
+  -- some turns did, and their text was added to the outbox, each while there was room
+  pub record Answered (progress : Progress) (old : SessionState) (before : W)
+      (new : SessionState) (after : W) : Type 0 where
+    pub turns : List Turn
+    pub turned : Turned old before turns new after
+    pub outbox : new.outbox ≡ old.outbox ++ text_of turns
+    pub begin : BeginBelowBound (length old.outbox) turns
+    pub progress_is : ProgressIs progress (items_of turns) new.reading
+
+-- memory ran out after these turns; what the item behind them changed is not said
+pub record AnsweredPart {W : Type 0} (step : W → Turn → W → Type 0)
+    (old : SessionState) (before : W) (new : SessionState) : Type 0 where
+  pub turns : List Turn
+  pub left : Reading
+  pub reached : W
+  pub gives : Gives old.reading (items_of turns) left
+  pub gains : Gains step before turns reached
+  pub outbox : new.outbox ≡ old.outbox ++ text_of turns
