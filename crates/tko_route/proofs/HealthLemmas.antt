@@ -1,4 +1,4 @@
--- Laws of the sequential tracker in the hands of one thread.
+-- Laws of the sequential tracker of one thread.
 use Rattle.std.proofs.Common.{◌≡◌, ℕ, List, [], ◌∷◌, length, Option, Some, None, refl, ap, subst, ◌∙◌}
 use Rattle.std.proofs.Math.ListN.{length-set}
 use Rattle.tko_model.specs.declared.mark.Mark.{Mark}
@@ -13,7 +13,7 @@ length_changed : (servers : List ServerState) (server : ℕ) (change : Option Ma
 length_changed servers server None = refl
 length_changed servers server (Some mark) = length-set _ _ _
 
--- a call leaves as many servers
+-- a call does not change the number of servers
 pub length_after : (tracker : Tracker) (thread : ℕ) (op : Op) (server : ℕ)
     → length (after tracker thread op server).servers ≡ length tracker.servers
 length_after tracker thread op server =

@@ -18,7 +18,7 @@ reply_of_look (look.Marked mark) = reply.Marked mark
 abbrev pub look_item : ℕ → Look → HealthItem
 look_item server found = Called LookUp server (reply_of_look found)
 
--- a leave to send names this server
+-- a permission to send names this server
 abbrev pub Names : ℕ → Look → Type 0
 Names server (look.Up count clear) = clear ≡ server
 Names server (look.Marked mark) = Unit {0}

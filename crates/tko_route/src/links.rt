@@ -45,7 +45,7 @@ pub trait Links {
     /// From one state to the next, this was exchanged.
     ghost exchanges: { Self → LinksItem → Self → Type 0 };
 
-    /// Sends a request to the server that the leave names, and waits for what comes of it.
+    /// Sends a request to the server that the permission names, and waits for what comes of it.
     fn exchange<R: IoRuntime>(
         &mut self,
         rt: &R,
