@@ -10,7 +10,8 @@ use crate::options::DryOptions;
 use crate::outcomes::scripts_of;
 use crate::trail_lines::trail_lines;
 use crate::writing::write_text;
-use std::alloc::{AllocError, Global};
+use std::alloc::Global;
+use tko_bytes::NoMemory;
 use tko_model::Plain;
 use tko_route::links::{Script, Scripted};
 use tko_route::{IoRuntime, PlainHealth};
@@ -49,7 +50,7 @@ fn parts_of(
     options: &DryOptions,
     tracker: Plain,
     scripts: Vec<Script>,
-) -> Result<DryParts, AllocError>
+) -> Result<DryParts, NoMemory>
     requires tracker { tracker ≡ opened (settings_of options.now) }
     requires asked { AllAsk (words_in options.now) scripts.items }
     ensures { IfOk result (Begins options.now) }
@@ -64,7 +65,7 @@ fn parts_of(
 }
 
 /// All servers, in the order of their numbers.
-fn targets_of(alloc: Global, servers: usize) -> Result<Vec<usize>, AllocError>
+fn targets_of(alloc: Global, servers: usize) -> Result<Vec<usize>, NoMemory>
     ensures { IfOk result (λ targets. targets.items ≡ numbers_below servers) }
 {
     let mut targets = Vec::new(alloc);

@@ -5,7 +5,7 @@ ghost use Rattle.tko_route.specs.Scripted.{IsPlayed};
 
 use crate::io_runtime::IoRuntime;
 use crate::links::{Links, NoMemory, Outcome};
-use std::alloc::{AllocError, Global};
+use std::alloc::Global;
 use std::marker::Model;
 use tko_model::Clear;
 use tko_text::{ReadFault, Request, Response};
@@ -92,7 +92,11 @@ impl Scripted {
     ghost use Rattle.tko_route.specs.Scripted.{NextGives, counted};
 
     /// Links to so many servers, none of which was sent to.
-    pub fn new(alloc: Global, servers: usize, scripts: Vec<Script>) -> Result<Scripted, AllocError>
+    pub fn new(
+        alloc: Global,
+        servers: usize,
+        scripts: Vec<Script>,
+    ) -> Result<Scripted, tko_bytes::NoMemory>
         ensures { IfOk result (λ links. links
             ≡ record { scripts = scripts.items; sends = replicate servers 0; requests = [] }) }
     {
