@@ -1,3 +1,4 @@
+pub mod CommandLineLemmas
 pub mod DryLemmas
 pub mod ReplayLemmas
 pub mod ReportLemmas

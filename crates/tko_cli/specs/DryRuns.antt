@@ -25,11 +25,15 @@ use Rattle.tko_cli.specs.Texts.{trails_text}
 abbrev pub DryParts : Type 0
 DryParts = Parts OneThread ScriptedState (List (List Attempt))
 
+-- how many threads the tracker has
+abbrev pub dry_threads : ℕ
+dry_threads = 4
+
 -- the tracker's settings that the options name
 abbrev pub settings_of : DryOptions → Settings
 settings_of options = record {
   servers = options.servers;
-  threads = 4;
+  threads = dry_threads;
   failures = options.failures;
   limit = options.limit;
   tries = options.tries;
@@ -72,8 +76,8 @@ abbrev pub TrailsGo : {O : Type 0} → (O → List ℕ → O → Type 0) → Boo
 TrailsGo takes true trails from to = takes from (trails_text 1 trails) to
 TrailsGo takes false trails from to = to ≡ from
 
--- a session over the parts that the options name came to the end of its input, and after its replies
--- the lines of its trails went out, if they are asked for
+-- a session over the parts that the options name came to the end of its input, and after its
+-- replies the lines of its trails went out, if they are asked for
 pub record IsDry {I O : Type 0} (gives : I → List ℕ → I → Type 0) (is_ended : I → Type 0)
     (takes : O → List ℕ → O → Type 0) (options : DryOptions)
     (old : I) (from : O) (new : I) (to : O) : Type 0 where

@@ -1,3 +1,4 @@
+pub mod CommandLine
 pub mod DryRuns
 pub mod Faults
 pub mod Outcomes

@@ -19,7 +19,8 @@ texts_of words = map (λ word. word.now) words
 -- whether a word is one of the list's
 abbrev pub is_outcome : List ℕ → Bool
 is_outcome word =
-    bytes_eq word (codes "refused") || (bytes_eq word (codes "timeout") || bytes_eq word (codes "miss"))
+    bytes_eq word (codes "refused")
+    || (bytes_eq word (codes "timeout") || bytes_eq word (codes "miss"))
 
 -- the number of the first bad word, counted from 1
 abbrev pub first_bad : List (List ℕ) → Option ℕ

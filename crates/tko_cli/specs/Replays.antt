@@ -35,8 +35,8 @@ pub record Replays {I O : Type 0} (gives : I → List ℕ → I → Type 0) (is_
   pub replay : IsReplay text printed
   pub went : takes from printed to
 
--- the text that was read, all of the input or one byte more than a schedule may have, is no schedule
--- for this reason
+-- the text that was read, all of the input or one byte more than a schedule may have, is no
+-- schedule for this reason
 pub record IsNoSchedule {I : Type 0} (gives : I → List ℕ → I → Type 0) (is_ended : I → Type 0)
     (old new : I) (reason : ScheduleFault) : Type 0 where
   pub text : List ℕ

@@ -15,7 +15,7 @@ outcome_text outcome.Refused = codes "refused"
 outcome_text outcome.Broken = codes "broken"
 outcome_text outcome.Spent = codes "spent"
 
--- what came of an attempt, behind the server's number
+-- what came of an attempt, after the server's number
 abbrev pub end_text : Attempt → List ℕ
 end_text (attempt.Skipped server mark) = codes "skipped " ++ mark_text mark
 end_text (attempt.Sent server outcome reply) =

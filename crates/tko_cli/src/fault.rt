@@ -13,7 +13,7 @@ use tko_model::{OpenFault, SettingsFault};
 use tko_runs::{RunFault, ScheduleFault};
 use tko_session::SessionFault;
 
-/// Why a command ended with status 1. It prints as the line that reports it, without the line's end.
+/// Why a command ended with status 1. It prints as the line that reports it, without its LF.
 #[derive(Clone, Copy, Debug, PartialEq, Eq)]
 pub enum Fault {
     Read,

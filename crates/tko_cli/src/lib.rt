@@ -6,6 +6,7 @@
 //! - The list of `--outcomes` becomes the scripts of the servers, and the trails become lines.
 #![tactic(auto)]
 
+mod command_line;
 mod dry;
 mod fault;
 mod options;

@@ -2,10 +2,14 @@
 ghost use Rattle.std.specs.Prelude.{◌≡◌};
 ghost use Rattle.tko_cli.specs.DryRuns.{settings_of};
 
+use crate::command_line::program;
 use clap::error::ErrorKind;
-use clap::{Arg, ArgAction, ArgMatches, Command, Error, value_parser};
+use clap::{ArgMatches, Error};
 use std::alloc::{AllocError, Global};
 use tko_model::Settings;
+
+/// How many threads the tracker has; `dry` uses thread 0.
+const THREADS: u32 = 4;
 
 /// What the words ask for.
 #[derive(Debug, Drop)]
@@ -58,7 +62,7 @@ impl DryOptions {
     {
         Settings {
             servers: self.servers,
-            threads: 4,
+            threads: THREADS,
             failures: self.failures,
             limit: self.limit,
             tries: self.tries,
@@ -70,75 +74,4 @@ impl DryOptions {
 /// A number of the options; each has a default.
 fn number_of(found: &ArgMatches<'_>, name: &str) -> u32 {
     found.get_one(name).unwrap_or(0)
-}
-
-fn program<'a>(alloc: Global) -> Result<Command<'a>, AllocError> {
-    Command::new(alloc, "tkoproxy")
-        .about("A failover cache proxy with shared server health")
-        .subcommand_required(true)
-        .subcommand(dry(alloc)?)?
-        .subcommand(replay(alloc))
-}
-
-fn replay<'a>(alloc: Global) -> Command<'a> {
-    Command::new(alloc, "replay").about(
-        "Plays a schedule from standard input, checks that each call is legal, and prints the run",
-    )
-}
-
-fn dry<'a>(alloc: Global) -> Result<Command<'a>, AllocError> {
-    let dry = Command::new(alloc, "dry").about(
-        "Answers requests on standard input from scripted servers",
-    );
-    with_switches(alloc, with_numbers(alloc, dry)?)
-}
-
-fn with_numbers<'a>(alloc: Global, command: Command<'a>) -> Result<Command<'a>, AllocError> {
-    command
-        .arg(number(
-            alloc,
-            "servers",
-            "1",
-            "How many servers there are, 1 to 256",
-        ))?
-        .arg(number(
-            alloc,
-            "failures",
-            "3",
-            "How many soft failures in a row mark a server, 1 to 1000",
-        ))?
-        .arg(number(
-            alloc,
-            "limit",
-            "40",
-            "How many soft marks there may be at once, 0 to 256",
-        ))?
-        .arg(number(
-            alloc,
-            "tries",
-            "8",
-            "How many tries a call may lose to other threads, 1 to 1000",
-        ))
-}
-
-fn with_switches<'a>(alloc: Global, command: Command<'a>) -> Result<Command<'a>, AllocError> {
-    let outcomes = Arg::new(alloc, "outcomes")
-        .long("outcomes")
-        .value_name("LIST")
-        .default_value("")
-        .help("What comes of each send: refused, timeout and miss, parted by commas; then refused");
-    let trail = Arg::new(alloc, "trail")
-        .long("trail")
-        .action(ArgAction::SetTrue)
-        .help("Prints one line an attempt after the replies");
-    command.arg(outcomes)?.arg(trail)
-}
-
-fn number<'a>(alloc: Global, name: &'a str, default: &'a str, help: &'a str) -> Arg<'a> {
-    Arg::new(alloc, name)
-        .long(name)
-        .value_name("N")
-        .value_parser(value_parser!(u32))
-        .default_value(default)
-        .help(help)
 }

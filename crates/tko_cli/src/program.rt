@@ -20,8 +20,8 @@ const FAILED: u8 = 1;
 const REFUSED: u8 = 2;
 
 /// Runs the command that the words name, of which the first is the program's name, and returns the
-/// status: 0 where it was done, 1 after a fault, 2 where the words were refused. Replies and runs go
-/// to `output`, and the line of a fault to `faults`.
+/// status: 0 where it was done, 1 after a fault, 2 where the words were refused. Replies and runs
+/// go to `output`, and the line of a fault to `faults`.
 pub fn command<R: IoRuntime, I: Inlet, O: Outlet, F: Outlet>(
     rt: &R,
     alloc: Global,

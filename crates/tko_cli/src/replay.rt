@@ -13,8 +13,8 @@ use tko_session::{Inlet, Outlet};
 /// One byte more than a schedule may have, so that a text that is too long is seen.
 const MOST_READ: usize = 1_048_577;
 
-/// Reads a schedule, and prints the run that it names and where each call takes effect. A fault other
-/// than `Write` leaves the output empty.
+/// Reads a schedule, and prints the run that it names and where each call takes effect. A fault
+/// other than `Write` leaves the output empty.
 pub(crate) fn replay<R: IoRuntime, I: Inlet, O: Outlet>(
     rt: &R,
     alloc: Global,

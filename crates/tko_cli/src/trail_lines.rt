@@ -1,5 +1,5 @@
-//! Trails as lines of text. What is printed goes to the end of a text; where memory is wanting a part of it
-//! may stand there.
+//! Trails as lines of text, appended to a buffer. Where memory runs out, the buffer may hold a part
+//! of a line.
 ghost use Rattle.std.specs.Prelude.{◌≡◌, ◌++◌, OnOk, IfOk};
 ghost use Rattle.tko_cli.specs.Texts.{attempt_text, end_text, outcome_text, trail_text, trails_text};
 ghost use Rattle.tko_route.specs.Trail.{server_of};
@@ -10,7 +10,7 @@ use tko_model::{append_mark, append_number, append_reply};
 use tko_route::links::Outcome;
 use tko_route::{Attempt, Trail};
 
-/// The lines of the trails of all routed requests, which are numbered from 1.
+/// The lines of the trails of all routed requests, numbered from 1.
 pub(crate) fn trail_lines(alloc: Global, trails: &[Trail]) -> Result<Vec<u8>, NoMemory>
     ensures { IfOk result (λ lines. lines.items ≡ trails_text 1 trails.now) }
 {
@@ -37,7 +37,8 @@ fn append_line(out: &mut Vec<u8>, number: usize, attempt: &Attempt) -> Result<()
     append_number(out, b" ", server_of(attempt) as u64)?;
     out.extend_from_slice(b" ")?;
     append_end(out, attempt)?;
-    Ok(out.extend_from_slice(b"\n")?)
+    out.extend_from_slice(b"\n")?;
+    Ok(())
 }
 
 fn server_of(attempt: &Attempt) -> usize
@@ -55,27 +56,29 @@ fn append_end(out: &mut Vec<u8>, attempt: &Attempt) -> Result<(), NoMemory>
     match attempt {
         Attempt::Skipped(_, mark) => {
             out.extend_from_slice(b"skipped ")?;
-            append_mark(out, *mark)
+            append_mark(out, *mark)?;
         }
         Attempt::Sent(_, outcome, reply) => {
             out.extend_from_slice(b"sent ")?;
             append_outcome(out, outcome)?;
             out.extend_from_slice(b" ")?;
-            append_reply(out, *reply)
+            append_reply(out, *reply)?;
         }
-        Attempt::Spent(_) => Ok(out.extend_from_slice(b"spent")?),
+        Attempt::Spent(_) => out.extend_from_slice(b"spent")?,
     }
+    Ok(())
 }
 
-/// Puts the word of an outcome at the end.
+/// Appends the word of an outcome.
 fn append_outcome(out: &mut Vec<u8>, outcome: &Outcome) -> Result<(), NoMemory>
     ensures { OnOk result (out.new.items ≡ out.old.items ++ outcome_text outcome.now) }
 {
-    Ok(out.extend_from_slice(match outcome {
+    out.extend_from_slice(match outcome {
         Outcome::Reply(_) => b"reply",
         Outcome::Timeout => b"timeout",
         Outcome::Refused => b"refused",
         Outcome::Broken => b"broken",
         Outcome::Spent => b"spent",
-    })?)
+    })?;
+    Ok(())
 }

@@ -1,4 +1,4 @@
-//! The program: its arguments and its standard ends, handed to the command.
+//! The program: passes its arguments and its standard ends to the command.
 #![tactic(auto)]
 
 use std::alloc::Global;
@@ -17,7 +17,7 @@ fn main(rt: HostRuntime) -> ExitCode {
             let ends = (rt.stdin(), rt.stdout(), rt.stderr());
             run(&rt, rt.alloc(), &words, ends)
         },
-        Err(error) => tell(&rt, error.kind()),
+        Err(error) => report(&rt, error.kind()),
     };
     ExitCode::from(status)
 }
@@ -26,8 +26,8 @@ fn words_of(rt: &(impl Env + AllocGlobal)) -> io::Result<Vec<String>> {
     Ok(env::args(rt)?.collect(rt.alloc())?)
 }
 
-/// The command over std's readers and writers. The bounds of `IoRuntime` are written out, since only
-/// those are covered at the runtime itself.
+/// Runs the command over std's readers and writers. The bounds of `IoRuntime` are written out,
+/// since the prover covers only those at the runtime itself.
 fn run<R: Wait + Net<Stream = TcpStream>, I: Read + Drop, O: Write + Drop, F: Write + Drop>(
     rt: &R,
     alloc: Global,
@@ -40,8 +40,9 @@ fn run<R: Wait + Net<Stream = TcpStream>, I: Read + Drop, O: Write + Drop, F: Wr
     command(rt, alloc, words, &mut input, &mut output, &mut faults)
 }
 
-/// Says why the words could not be read: one is no text, which refuses them, or memory was wanting.
-fn tell(rt: &impl Eprint, kind: io::ErrorKind) -> u8 {
+/// Reports why the words could not be read, and returns the status: one is not UTF-8, or memory ran
+/// out.
+fn report(rt: &impl Eprint, kind: io::ErrorKind) -> u8 {
     let (line, status) = match kind {
         io::ErrorKind::InvalidData => ("error: an argument is not UTF-8", 2),
         _ => ("fault: memory", 1),
