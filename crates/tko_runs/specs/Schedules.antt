@@ -1,5 +1,5 @@
--- Schedules: a text of lines, with the settings of a tracker first, and then, line by line, what its
--- threads do.
+-- Schedules: a text of lines, with the settings of a tracker first, and then, line by line, what
+-- its threads do.
 use Rattle.std.specs.Prelude.{◌≡◌, ℕ, ◌+◌, ◌≤◌, nat_lt, if◌then◌else◌, List, [], ◌∷◌, length, drop, min, slice_index_or, codes, find, Option, Some, None, is_none, Result, Ok, Err, ⊤}
 use Rattle.std.specs.List.{filter_map, position_or_len}
 use Rattle.std.specs.Option.{option_map, option_and_then}
