@@ -1,6 +1,6 @@
 //! From the arguments to the status.
 ghost use Rattle.std.specs.Prelude.{◌≡◌, ◌≤◌, ◌<◌, OnOk, OnErr};
-ghost use Rattle.tko_cli.specs.Reports.{IsReported, Reports};
+ghost use Rattle.tko_cli.specs.FaultLines.{HasLine, IsFaultWritten};
 
 use crate::Fault;
 use crate::dry::dry;
@@ -32,7 +32,7 @@ pub fn command<R: IoRuntime, I: Inlet, O: Outlet, F: Outlet>(
 ) -> u8
     ensures status { result ≤ 2 }
     ensures done { result ≡ 0 → faults.new ≡ faults.old }
-    ensures fault { result ≡ 1 → IsReported F.takes F.failures faults.old faults.new }
+    ensures fault { result ≡ 1 → IsFaultWritten F.takes F.failures faults.old faults.new }
     ensures refused { result ≡ 2 → (input.new ≡ input.old) × (output.new ≡ output.old) }
 {
     let done = match Options::read(alloc, words) {
@@ -52,7 +52,7 @@ pub fn command<R: IoRuntime, I: Inlet, O: Outlet, F: Outlet>(
 /// reported.
 fn refuse<R: IoRuntime, F: Outlet>(rt: &R, alloc: Global, faults: &mut F, refusal: &Error) -> u8
     ensures status { (0 < result) × (result ≤ 2) }
-    ensures fault { result ≡ 1 → IsReported F.takes F.failures faults.old faults.new }
+    ensures fault { result ≡ 1 → IsFaultWritten F.takes F.failures faults.old faults.new }
 {
     let Ok(text) = format!(in alloc; "{refusal}") else {
         return fail(rt, alloc, faults, Fault::Memory);
@@ -76,20 +76,20 @@ fn show<R: IoRuntime, O: Outlet>(
 /// Reports a fault and returns its status. A failure to report it is not reported.
 fn fail<R: IoRuntime, F: Outlet>(rt: &R, alloc: Global, faults: &mut F, fault: Fault) -> u8
     ensures status { result ≡ 1 }
-    ensures fault { IsReported F.takes F.failures faults.old faults.new }
+    ensures fault { IsFaultWritten F.takes F.failures faults.old faults.new }
 {
-    let _ = report(rt, alloc, faults, fault);
+    let _ = write_fault(rt, alloc, faults, fault);
     FAILED
 }
 
 /// Writes the line of a fault, or that memory ran out.
-fn report<R: IoRuntime, F: Outlet>(
+fn write_fault<R: IoRuntime, F: Outlet>(
     rt: &R,
     alloc: Global,
     faults: &mut F,
     fault: Fault,
 ) -> Result<(), WriteFault>
-    ensures ok { OnOk result (Reports F.takes fault faults.old faults.new) }
+    ensures ok { OnOk result (HasLine F.takes fault faults.old faults.new) }
     ensures err { OnErr result (F.failures faults.old < F.failures faults.new) }
 {
     match format!(in alloc; "{fault}\n") {
