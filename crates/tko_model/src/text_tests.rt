@@ -1,6 +1,8 @@
 //! Words of operations, marks, replies and faults, by hand.
 
-use crate::{Mark, Op, OpenFault, Plain, Reply, Settings, append_reply, op_word};
+use crate::{
+    Mark, Op, OpenFault, Plain, Reply, Settings, append_mark, append_number, append_reply, op_word,
+};
 use std::test::Fail;
 
 const SETTINGS: Settings = Settings {
@@ -107,5 +109,14 @@ fn each_setting_out_of_range_has_its_word(rt: HostRuntime) -> Result<(), Fail> {
         format!(in rt.alloc(); "{}", OpenFault::Memory)?.as_str(),
         "memory"
     );
+    Ok(())
+}
+
+#[test]
+fn numbers_and_marks_are_appended(rt: HostRuntime) -> Result<(), Fail> {
+    let mut out = Vec::new(rt.alloc());
+    append_number(&mut out, b"server ", 7)?;
+    append_mark(&mut out, Mark::Hard(3))?;
+    assert_eq!(rt; out.as_slice(), b"server 7hard:3".as_slice());
     Ok(())
 }
