@@ -1,8 +1,8 @@
 -- What holds of the core is kept by begins and steps.
-use Rattle.std.proofs.Common.{◌≡◌, ℕ, zero, suc, ◌+◌, ◌-◌, ◌<◌, ◌≤◌, Bool, true, false, cond, List, [], ◌∷◌, length, get_or, set, All, Option, Some, None, count_by, sum_by, replicate, refl, sym, ap, ◌∙◌, subst, inl, inr, ⊎_elim, arith, length-set, get_or-set_same, get_or-set_other}
+use Rattle.std.proofs.Common.{◌≡◌, ℕ, ◌+◌, ◌-◌, ◌<◌, ◌≤◌, Bool, true, false, cond, List, [], ◌∷◌, length, get_or, set, All, Some, None, count_by, refl, sym, ap, ◌∙◌, subst, inl, inr, ⊎_elim, arith, length-set, get_or-set_same, get_or-set_other}
 use Rattle.std.proofs.lemmas.Bool.{cases_Bool, cases_eq, le-ltb}
 use Rattle.std.proofs.lemmas.List.{length-replicate}
-use Rattle.std.proofs.lemmas.List.Elements.{All-cons, All-from_get_or, All-head, All-replicate, All-set, All-tail}
+use Rattle.std.proofs.lemmas.List.Elements.{All-from_get_or, All-head, All-replicate, All-set, All-tail}
 use Rattle.std.proofs.lemmas.List.Sums.{count_by-le-length, sum_by-cons, sum_by-le-sum_by}
 use Rattle.tko_model.specs.declared.mark.Mark.{Mark}
 use Rattle.tko_model.specs.declared.mark.Mark.TheVariants.{Up, Soft, Hard}
@@ -11,7 +11,7 @@ use Rattle.tko_model.specs.declared.mark.Reply.{Reply}
 use Rattle.tko_model.specs.declared.mark.Reply.TheVariants as reply
 use Rattle.tko_model.specs.declared.settings.Settings.{Settings}
 use Rattle.tko_model.specs.declared.state.ServerState.{ServerState}
-use Rattle.tko_model.specs.Ranges.{IsWithinRanges, worn}
+use Rattle.tko_model.specs.Ranges.{IsWithinRanges}
 use Rattle.tko_model.specs.Tracker.{IsFit, is_soft, server_at, softs}
 use Rattle.tko_steps.specs.declared.fine.phase.Call.{Call}
 use Rattle.tko_steps.specs.declared.fine.phase.Phase.{Phase}
@@ -21,13 +21,13 @@ use Rattle.tko_steps.specs.declared.fine.phase.ThreadState.{ThreadState}
 use Rattle.tko_steps.specs.declared.fine.phase.ThreadState.TheVariants.{NotEnrolled, Idle, InCall}
 use Rattle.tko_steps.specs.declared.fine.table.Decision.{Decision}
 use Rattle.tko_steps.specs.declared.fine.table.Decision.TheVariants.{Goes, Answers}
-use Rattle.tko_steps.specs.Core.{IsOwner, owner_of}
+use Rattle.tko_steps.specs.Core.{owner_of}
 use Rattle.tko_word.specs.Words.{IsMark, stamp_end}
 use Rattle.tko_steps.specs.FineCore.{CanAct, CoreState, IsPlace, abstract_of, after_act, after_enrol, begun_by, has_number, is_enrolled, number_of, opened_core, place_of, state_after, thread_at, with_thread}
-use Rattle.tko_steps.specs.FineInvariant.{IsCore, IsFoundBy, IsOwnOrUp, IsPhase, IsThread, IsWrite, holds, holds_at, is_loose, is_loose_at}
+use Rattle.tko_steps.specs.FineInvariant.{IsCore, IsFoundBy, IsOwnOrUp, IsPhase, IsThread, holds, holds_at, is_loose, is_loose_at}
 use Rattle.tko_steps.specs.FineTable.{action_of, goes, lost_try, same_server, same_slots}
-use Rattle.tko_steps.proofs.CoreLemmas.{count_by-replicate, get_or-replicate_same, owner-replicate}
-use Rattle.tko_steps.proofs.ThreadLemmas.{bit, bit-le-count_by, count_by-set}
+use Rattle.tko_steps.proofs.CoreLemmas.{count_by-replicate, owner-replicate}
+use Rattle.tko_steps.proofs.ThreadLemmas.{bit, count_by-set}
 use Rattle.tko_steps.proofs.FineThreadLemmas.{OneEach, OneEach-enrol, count_by-enrol, count_by-moved, count_by-set_same, has_number-from, number-lt, number-once, one-le-count_by}
 use Rattle.tko_steps.proofs.FineTableLemmas.{IsCalm, IsCalm-at_limit, IsCalm-at_threshold, IsCalm-from_start, IsCalm-lost_try, IsDecided, eq-same_server, same_server-true, same_slots-true}
 

@@ -1,11 +1,8 @@
 -- Each thread owns exactly the servers whose marks name it, along a run.
-use Rattle.std.proofs.Common.{◌≡◌, ◌↔◌, ℕ, ◌+◌, ◌<◌, Bool, true, false, cond, eqb, ◌&&◌, List, ◌∷◌, length, get_or, set, Option, Some, None, refl, sym, ap, ◌∙◌, subst, inl, inr, ⊎_elim, get_or-set_same, get_or-set_other, arith}
+use Rattle.std.proofs.Common.{◌≡◌, ℕ, ◌<◌, Bool, true, false, cond, eqb, ◌&&◌, List, ◌∷◌, length, get_or, set, Option, Some, None, refl, sym, ap, ◌∙◌, subst, inl, inr, ⊎_elim, get_or-set_same, get_or-set_other, arith}
 use Rattle.std.proofs.lemmas.Bool.{and_from, and_left, and_right, cases_Bool, cases_eq, cond-false, cond-true, eq-eqb, eqb-true, ne_eqb}
 use Rattle.tko_model.specs.declared.mark.Mark.{Mark}
 use Rattle.tko_model.specs.declared.mark.Mark.TheVariants.{Up, Soft, Hard}
-use Rattle.tko_model.specs.declared.mark.Reply.{Reply}
-use Rattle.tko_model.specs.declared.mark.Reply.TheVariants as reply
-use Rattle.tko_model.specs.declared.settings.Settings.{Settings}
 use Rattle.tko_model.specs.declared.state.ServerState.{ServerState}
 use Rattle.tko_model.specs.Tracker.{server_at}
 use Rattle.tko_steps.specs.declared.fine.phase.Call.{Call}
@@ -13,25 +10,20 @@ use Rattle.tko_steps.specs.declared.fine.phase.Phase.{Phase}
 use Rattle.tko_steps.specs.declared.fine.phase.Phase.TheVariants.{Start, Read, AtThreshold, Limit, Reserving, Holding, Firming, Losing, Loosening, Loosened, Emptied}
 use Rattle.tko_steps.specs.declared.fine.phase.ThreadState.{ThreadState}
 use Rattle.tko_steps.specs.declared.fine.phase.ThreadState.TheVariants.{NotEnrolled, Idle, InCall}
-use Rattle.tko_steps.specs.declared.fine.step.Kind.{Kind}
 use Rattle.tko_steps.specs.declared.fine.step.Kind.TheVariants as kind
 use Rattle.tko_steps.specs.declared.fine.step.Place.TheVariants as place
 use Rattle.tko_steps.specs.declared.fine.step.Word.{Word}
 use Rattle.tko_steps.specs.declared.fine.step.Word.TheVariants as word
-use Rattle.tko_steps.specs.declared.fine.table.Action.{Action}
-use Rattle.tko_steps.specs.declared.fine.table.Action.TheVariants as action
 use Rattle.tko_steps.specs.declared.fine.table.Decision.{Decision}
 use Rattle.tko_steps.specs.declared.fine.table.Decision.TheVariants.{Goes, Answers}
 use Rattle.tko_steps.specs.Core.{owner_of}
 use Rattle.tko_steps.specs.FineCore.{CoreState, abstract_of, after_act, answer_of, follows, is_done, kind_of, kind_of_exchange, number_of, place_of, seen_by, shared_after, state_after, thread_at, word_at}
-use Rattle.tko_steps.specs.FineInvariant.{IsCore, IsPhase}
-use Rattle.tko_steps.specs.FineRuns.{Moment, StepTaken, Took, World, is_marked, is_server, owns, owns_after}
-use Rattle.tko_steps.specs.FineSafe.{IsResponsible}
+use Rattle.tko_steps.specs.FineInvariant.{IsCore}
+use Rattle.tko_steps.specs.FineRuns.{Moment, StepTaken, Took, is_server, owns, owns_after}
 use Rattle.tko_steps.specs.FineTable.{action_of, goes, lost_try, same_server}
 use Rattle.tko_steps.proofs.FineCoreLemmas.{IsFreeFor, free-found, free-fresh, knows_at, owners-written, written}
-use Rattle.tko_steps.proofs.FineTableLemmas.{eq-same_server, same_server-true}
+use Rattle.tko_steps.proofs.FineTableLemmas.{same_server-true}
 use Rattle.tko_steps.proofs.FineThreadLemmas.{number-inside, number-once}
-use Rattle.tko_steps.proofs.FineWiringLemmas.{stepped_from}
 
 -- whether a mark names this number
 abbrev pub names : Mark → Option ℕ → Bool

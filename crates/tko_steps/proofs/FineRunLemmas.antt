@@ -1,22 +1,19 @@
 -- The law of every run of the fine core: what holds of the world is kept by each turn.
-use Rattle.std.proofs.Common.{◌≡◌, ◌↔◌, ℕ, ◌+◌, ◌<◌, ◌≤◌, Bool, true, false, cond, List, [], ◌∷◌, length, get_or, replicate, Option, Some, None, count_by, sum_by, refl, sym, ap, ◌∙◌, subst, arith}
+use Rattle.std.proofs.Common.{◌≡◌, ℕ, ◌<◌, ◌≤◌, List, [], ◌∷◌, length, get_or, Some, None, refl, sym, ap, ◌∙◌, arith}
 use Rattle.std.proofs.lemmas.List.Sums.{sum_by-le-sum_by}
-use Rattle.tko_model.specs.declared.mark.Mark.TheVariants.{Up}
 use Rattle.tko_model.specs.declared.mark.Op.{Op}
 use Rattle.tko_model.specs.declared.settings.Settings.{Settings}
-use Rattle.tko_model.specs.declared.state.ServerState.{ServerState}
 use Rattle.tko_model.specs.Ranges.{IsWithinRanges}
-use Rattle.tko_model.specs.Tracker.{server_at, softs}
+use Rattle.tko_model.specs.Tracker.{server_at}
 use Rattle.tko_steps.specs.declared.fine.phase.Phase.{Phase}
 use Rattle.tko_steps.specs.declared.fine.phase.Phase.TheVariants.{Start, Read, AtThreshold, Limit, Reserving, Holding, Firming, Losing, Loosening, Loosened, Emptied}
 use Rattle.tko_steps.specs.declared.fine.phase.ThreadState.{ThreadState}
 use Rattle.tko_steps.specs.declared.fine.phase.ThreadState.TheVariants.{NotEnrolled, Idle, InCall}
-use Rattle.tko_steps.specs.Core.{owner_of}
 use Rattle.tko_steps.specs.Runs.{Begin, Step, Turn}
 use Rattle.tko_steps.specs.FineCore.{CoreState, abstract_of, begun_by, number_of, opened_core, thread_at}
 use Rattle.tko_steps.specs.FineInvariant.{IsCore, holds, holds_at, is_loose, is_loose_at}
-use Rattle.tko_steps.specs.FineRuns.{InEveryRun, World, after_turns, happens, owns, start}
-use Rattle.tko_steps.specs.FineSafe.{CountsSlots, HasOneResponsible, IsResponsible, OwnsItsMarks}
+use Rattle.tko_steps.specs.FineRuns.{InEveryRun, World, after_turns, happens, start}
+use Rattle.tko_steps.specs.FineSafe.{CountsSlots, HasOneResponsible, OwnsItsMarks}
 use Rattle.tko_steps.proofs.CoreLemmas.{get_or-replicate_same}
 use Rattle.tko_steps.proofs.ThreadLemmas.{bit}
 use Rattle.tko_steps.proofs.FineCoreLemmas.{IsCore-after_act, IsCore-after_begin, IsCore-after_enrol, IsCore-opened_core}
@@ -30,7 +27,7 @@ pub record Holds (s : Settings) (w : World) : Type 0 where
   pub settings : w.core.settings ≡ s
   pub owned : AreOwned w.past (abstract_of w.core) w.core.threads
 
-Holds-start : (s : Settings) → IsWithinRanges s → Holds s (start s)
+pub Holds-start : (s : Settings) → IsWithinRanges s → Holds s (start s)
 Holds-start s ranges =
     record {
       core = IsCore-opened_core s ranges;
@@ -41,7 +38,7 @@ Holds-start s ranges =
           sym (ap (names mark) none ∙ names-none mark);
     }
 
-Holds-begun : (s : Settings) (w : World) (thread number : ℕ) (op : Op) (server : ℕ) → Holds s w
+pub Holds-begun : (s : Settings) (w : World) (thread number : ℕ) (op : Op) (server : ℕ) → Holds s w
     → thread < length w.core.threads → thread_at w.core thread ≡ Idle number → server < length (abstract_of w.core)
     → Holds s (begun w thread op server)
 Holds-begun s w thread number op server holds inside stands on_server =
@@ -52,7 +49,7 @@ Holds-begun s w thread number op server holds inside stands on_server =
       owned = AreOwned-begun w.core w.past thread number new inside stands refl holds.owned;
     })
 
-Holds-stepped_from : (s : Settings) (w : World) (thread : ℕ) (state : ThreadState) → Holds s w → thread < length w.core.threads
+pub Holds-stepped_from : (s : Settings) (w : World) (thread : ℕ) (state : ThreadState) → Holds s w → thread < length w.core.threads
     → thread_at w.core thread ≡ state → Holds s (stepped_from w thread state)
 Holds-stepped_from s w thread NotEnrolled holds inside stands =
     record {
@@ -97,7 +94,7 @@ loose_at-le-holds (Loosening found mark answer) = omega arith
 loose_at-le-holds (Loosened found mark answer) = omega arith
 loose_at-le-holds (Emptied answer) = omega arith
 
-loose-le-holds : (state : ThreadState) → bit (is_loose state) ≤ bit (holds state)
+pub loose-le-holds : (state : ThreadState) → bit (is_loose state) ≤ bit (holds state)
 loose-le-holds NotEnrolled = omega arith
 loose-le-holds (Idle number) = omega arith
 loose-le-holds (InCall call phase) = loose_at-le-holds phase

@@ -1,5 +1,5 @@
 -- What the table's decisions leave a call with: what its phase knows, and whether it holds a slot.
-use Rattle.std.proofs.Common.{◌≡◌, ℕ, ◌+◌, ◌<◌, ◌≤◌, Bool, true, false, cond, ltb, leb, eqb, ◌&&◌, None, Some, refl, sym, ap, ◌∙◌, subst, arith}
+use Rattle.std.proofs.Common.{◌≡◌, ℕ, ◌+◌, ◌<◌, ◌≤◌, true, false, cond, ltb, leb, eqb, None, refl, sym, ap, ◌∙◌, subst, arith}
 use Rattle.std.proofs.lemmas.Bool.{and_from, and_parts, cond_both, eq-eqb, eqb-false, eqb-true, leb-false, ltb-true}
 use Rattle.tko_model.specs.declared.mark.Mark.{Mark}
 use Rattle.tko_model.specs.declared.mark.Mark.TheVariants.{Up, Soft, Hard}
@@ -12,8 +12,7 @@ use Rattle.tko_model.specs.declared.state.ServerState.{ServerState}
 use Rattle.tko_model.specs.Ranges.{IsWithinRanges, worn}
 use Rattle.tko_model.specs.Tracker.{IsFit}
 use Rattle.tko_steps.specs.declared.fine.phase.Call.{Call}
-use Rattle.tko_steps.specs.declared.fine.phase.Phase.{Phase}
-use Rattle.tko_steps.specs.declared.fine.phase.Phase.TheVariants.{Start, Read, AtThreshold, Limit, Reserving, Holding, Firming, Losing, Loosening, Loosened, Emptied}
+use Rattle.tko_steps.specs.declared.fine.phase.Phase.TheVariants.{Start, Read, AtThreshold, Limit, Reserving, Loosening}
 use Rattle.tko_steps.specs.declared.fine.phase.Slots.{Slots}
 use Rattle.tko_steps.specs.declared.fine.table.Decision.{Decision}
 use Rattle.tko_steps.specs.declared.fine.table.Decision.TheVariants.{Goes, Answers}

@@ -1,5 +1,5 @@
 -- The packed words and what they hold.
-use Rattle.std.proofs.Common.{◌≡◌, ℕ, zero, suc, ◌+◌, Bool, true, cond, List, ◌∷◌, set, map, replicate, refl, sym, ap, ◌∙◌}
+use Rattle.std.proofs.Common.{◌≡◌, ℕ, zero, suc, ◌+◌, true, cond, List, ◌∷◌, set, map, replicate, refl, sym, ap, ◌∙◌}
 use Rattle.std.proofs.lemmas.Bool.{cond-true}
 use Rattle.std.proofs.lemmas.List.{map-set}
 use Rattle.tko_model.specs.declared.mark.Mark.{Mark}
@@ -8,7 +8,6 @@ use Rattle.tko_model.specs.declared.settings.Settings.{Settings}
 use Rattle.tko_model.specs.declared.state.ServerState.{ServerState}
 use Rattle.tko_model.specs.Tracker.{server_at}
 use Rattle.tko_word.specs.Words.{firm_in, held_in, server_in}
-use Rattle.tko_steps.specs.declared.fine.phase.Slots.{Slots}
 use Rattle.tko_steps.specs.declared.fine.table.Action.TheVariants.{Exchange}
 use Rattle.tko_steps.specs.FineCore.{Shared, opened_words, shared_after}
 use Rattle.tko_steps.specs.FineTable.{same_server}

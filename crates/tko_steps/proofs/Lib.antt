@@ -1,9 +1,13 @@
 pub mod AloneLemmas
 pub mod CallLemmas
 pub mod CoreLemmas
+pub mod FineCallLemmas
 pub mod FineCoreLemmas
+pub mod FineEveryCallLemmas
+pub mod FineLegalLemmas
 pub mod FineOwnLemmas
 pub mod FineRunLemmas
+pub mod FineStartLemmas
 pub mod FineTableLemmas
 pub mod FineThreadLemmas
 pub mod FineWiringLemmas

@@ -1,15 +1,15 @@
 -- What holds of the core in each state of each run.
-use Rattle.std.specs.Prelude.{◌≡◌, ℕ, ◌+◌, ◌<◌, ◌≤◌, Bool, true, false, nat_lt, if◌then◌else◌, List, length, count_by, All, Option, Some, None}
+use Rattle.std.specs.Prelude.{◌≡◌, ℕ, ◌+◌, ◌<◌, ◌≤◌, Bool, true, false, nat_lt, if◌then◌else◌, List, length, count_by, All, None}
 use Rattle.tko_model.specs.declared.mark.Mark.{Mark}
 use Rattle.tko_model.specs.declared.mark.Mark.TheVariants.{Up, Soft, Hard}
 use Rattle.tko_model.specs.declared.settings.Settings.{Settings}
 use Rattle.tko_model.specs.declared.state.ServerState.{ServerState}
 use Rattle.tko_model.specs.Ranges.{IsWithinRanges, worn}
-use Rattle.tko_model.specs.Tracker.{IsFit, is_soft, server_at, softs}
+use Rattle.tko_model.specs.Tracker.{IsFit, server_at, softs}
 use Rattle.tko_steps.specs.declared.fine.phase.Phase.{Phase}
 use Rattle.tko_steps.specs.declared.fine.phase.Phase.TheVariants.{Start, Read, AtThreshold, Limit, Reserving, Holding, Firming, Losing, Loosening, Loosened, Emptied}
 use Rattle.tko_steps.specs.declared.fine.phase.ThreadState.{ThreadState}
-use Rattle.tko_steps.specs.declared.fine.phase.ThreadState.TheVariants.{NotEnrolled, Idle, InCall}
+use Rattle.tko_steps.specs.declared.fine.phase.ThreadState.TheVariants.{InCall}
 use Rattle.tko_steps.specs.Core.{IsOwner, owner_of}
 use Rattle.tko_steps.specs.FineCore.{CoreState, abstract_of, has_number, is_enrolled}
 

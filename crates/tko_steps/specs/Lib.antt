@@ -2,6 +2,7 @@ pub mod Alone
 pub mod Core
 pub mod FineCore
 pub mod FineInvariant
+pub mod FineLegal
 pub mod FineRuns
 pub mod FineSafe
 pub mod FineTable

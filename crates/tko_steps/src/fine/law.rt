@@ -1,8 +1,9 @@
 //! The law of every run of the fine core.
-ghost use Rattle.std.specs.Prelude.{◌≡◌};
+ghost use Rattle.std.specs.Prelude.{◌≡◌, All};
 ghost use Rattle.tko_steps.specs.FineCore.{settings_of};
 ghost use Rattle.tko_steps.specs.FineInvariant.{IsCore};
-ghost use Rattle.tko_steps.specs.FineRuns.{InEveryRun};
+ghost use Rattle.tko_steps.specs.FineLegal.{ChangesAtMostOnce, IsFullAtLimit, IsLegal};
+ghost use Rattle.tko_steps.specs.FineRuns.{InEveryRun, calls_of};
 ghost use Rattle.tko_steps.specs.FineSafe.{CountsSlots, HasDistinctNumbers, HasOneResponsible, OwnsItsMarks};
 
 /// Over every list of turns, from the core as it opens under settings in range: soft marks never
@@ -15,4 +16,14 @@ pub fn fine_every_run()
     ensures responsible { InEveryRun (λ s w. HasOneResponsible w.core) }
     ensures settings { InEveryRun (λ s w. settings_of w.core ≡ s) }
     ensures core { InEveryRun (λ s w. IsCore w.core) }
+{}
+
+/// Over every list of turns, from the core as it opens under settings in range: each answered call
+/// has the sequential tracker's reply and change at one of its own steps, or lost every try and
+/// changed nothing; and a call is answered Full only at the limit.
+pub fn fine_every_call()
+    ensures legal { InEveryRun (λ s w. All (IsLegal s) (calls_of w.past)) }
+    ensures once { InEveryRun (λ s w.
+        All (λ call. ChangesAtMostOnce call.steps) (calls_of w.past)) }
+    ensures full { InEveryRun (λ s w. All (IsFullAtLimit s) (calls_of w.past)) }
 {}

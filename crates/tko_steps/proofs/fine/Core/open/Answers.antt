@@ -1,5 +1,4 @@
 -- A settings fault is handed on under its name.
-use Rattle.std.proofs.Common.{ap}
 use Rattle.tko_steps.proofs.fine.Core.open.Goals as goal
 
 pub returns-in-Err-clause-settings : goal.returns-in-Err-clause-settings

@@ -1,0 +1,19 @@
+-- Each clause is one part of what holds of each call in every run.
+use Rattle.std.proofs.lemmas.List.Elements.{All-weaker}
+use Rattle.tko_steps.specs.FineLegal.{ChangesAtMostOnce, IsFullAtLimit, IsLegal}
+use Rattle.tko_steps.specs.FineRuns.{Call, calls_of, run}
+use Rattle.tko_steps.proofs.FineEveryCallLemmas.{SoundCalls-run}
+use Rattle.tko_steps.proofs.FineLegalLemmas.{IsSoundCall}
+use Rattle.tko_steps.proofs.fine.law.fine_every_call.Goals as goal
+
+pub returns-clause-legal : goal.returns-clause-legal
+returns-clause-legal c = λ s ranges turns.
+    All-weaker (IsSoundCall s) (IsLegal s) (λ call sound. sound.legal) (calls_of (run s turns).past) (SoundCalls-run s ranges turns)
+
+pub returns-clause-once : goal.returns-clause-once
+returns-clause-once c = λ s ranges turns.
+    All-weaker (IsSoundCall s) (λ (call : Call). ChangesAtMostOnce call.steps) (λ call sound. sound.once) (calls_of (run s turns).past) (SoundCalls-run s ranges turns)
+
+pub returns-clause-full : goal.returns-clause-full
+returns-clause-full c = λ s ranges turns.
+    All-weaker (IsSoundCall s) (IsFullAtLimit s) (λ call sound. sound.full) (calls_of (run s turns).past) (SoundCalls-run s ranges turns)
