@@ -66,7 +66,8 @@ fn address_flaw(servers: &[Value]) -> Option<Flaw<'_>>
 
 /// The first item of a pool's list that is no address.
 fn bad_address(servers: &[Value]) -> Option<&str>
-    ensures { option_map (λ text. text.now) result ≡ bad_address (texts_of (items_view servers.now)) }
+    ensures { option_map (λ text. text.now) result
+        ≡ bad_address (texts_of (items_view servers.now)) }
 {
     for value in servers {
         let text = text_of(value);

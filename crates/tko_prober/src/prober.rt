@@ -66,8 +66,8 @@ impl Prober {
         }
     }
 
-    /// Send exactly where no probe is out, the prober has not ended, and `now` is at or past the due
-    /// moment.
+    /// Send exactly where no probe is out, the prober has not ended, and `now` is at or past the
+    /// due moment.
     pub fn turn(&mut self, now: u64) -> ProbeTurn
         ensures when { (result ≡ ProbeTurn.Send) ↔ IsDue self.old.stage now }
         ensures send { result ≡ ProbeTurn.Send → self.new ≡ sent self.old }

@@ -1,5 +1,6 @@
--- Legal calls of the fine core: each answered call takes effect at one of its own steps, its linearization point, as
--- the sequential tracker would do it there. Only abstract states and own steps are spoken of.
+-- Legal calls of the fine core: each answered call takes effect at one of its own steps, its
+-- linearization point, as the sequential tracker would do it there. Only abstract states and own
+-- steps are spoken of.
 use Rattle.std.specs.Prelude.{◌≡◌, ◌≢◌, List, [], ◌∷◌, ◌++◌, ◌⊎◌, All, Some, None}
 use Rattle.tko_model.specs.declared.mark.Reply.{Reply}
 use Rattle.tko_model.specs.declared.mark.Reply.TheVariants.{Contended, Full, Worn}

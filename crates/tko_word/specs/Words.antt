@@ -1,5 +1,5 @@
--- The words that threads share: the health word of a server, which holds its mark and its stamp, and
--- the soft word, which holds the two counts of soft marks.
+-- The words that threads share: the health word of a server, which holds its mark and its stamp,
+-- and the soft word, which holds the two counts of soft marks.
 use Rattle.std.specs.Prelude.{◌≡◌, ℕ, ◌+◌, ◌-◌, ◌*◌, ◌/◌, ◌%◌, ◌^◌, ◌<◌, ◌==◌, nat_lt, if◌then◌else◌}
 use Rattle.tko_model.specs.declared.mark.Mark.{Mark}
 use Rattle.tko_model.specs.declared.mark.Mark.TheVariants.{Up, Soft, Hard}
@@ -79,7 +79,9 @@ abbrev pub mark_in : ℕ → Mark
 mark_in body =
     if nat_lt body marked
     then Up body
-    else (if (body - marked) % 2 == 0 then Soft ((body - marked) / 2) else Hard ((body - marked) / 2))
+    else (if (body - marked) % 2 == 0
+    then Soft ((body - marked) / 2)
+    else Hard ((body - marked) / 2))
 
 -- the mark and the stamp that a health word holds
 unfoldable pub server_in : ℕ → ServerState
