@@ -44,6 +44,7 @@ fn put(out: &mut Vec<u8>, piece: &[u8])
 pub fn clear(bytes: &mut Vec<u8>, kept: usize)
     ensures items { bytes.new.items ≡ [] }
     ensures capacity { vec_capacity bytes.new ≤ kept }
+    ensures kept { vec_capacity bytes.old ≤ kept → vec_capacity bytes.new ≡ vec_capacity bytes.old }
 {
     bytes.clear();
     if bytes.capacity() > kept {
