@@ -69,16 +69,7 @@ fn value_of(alloc: Global, len: usize) -> Result<Vec<u8>, Fail> {
     Ok(bytes)
 }
 
-/// Two servers, both targets, with these scripts.
-fn parts_of(alloc: Global, scripts: Scripts) -> Result<Parts<PlainHealth, Scripted, Kept>, Fail> {
-    Ok(Parts {
-        health: PlainHealth::new(Plain::open(alloc, SETTINGS)?, 0),
-        links: Scripted::new(alloc, 2, scripts)?,
-        trails: Kept::new(alloc),
-        targets: vec![in alloc; 0, 1]?,
-    })
-}
-
+/// A session over two servers with these scripts, both targets.
 fn run<R: Wait + Net<Stream = TcpStream>, I: Inlet, O: Outlet>(
     rt: &R,
     alloc: Global,
@@ -86,7 +77,12 @@ fn run<R: Wait + Net<Stream = TcpStream>, I: Inlet, O: Outlet>(
     writer: &mut O,
     scripts: Scripts,
 ) -> Result<Ran, Fail> {
-    let mut parts = parts_of(alloc, scripts)?;
+    let mut parts = Parts {
+        health: PlainHealth::new(Plain::open(alloc, SETTINGS)?, 0),
+        links: Scripted::new(alloc, 2, scripts)?,
+        trails: Kept::new(alloc),
+        targets: vec![in alloc; 0, 1]?,
+    };
     let result = serve(rt, alloc, reader, writer, &mut parts);
     let mut sends = Vec::new(alloc);
     for target in &parts.targets {
@@ -234,18 +230,34 @@ fn a_line_too_long_is_answered_and_ends_the_session(rt: HostRuntime) -> Result<(
     Ok(())
 }
 
+/// Two answers to three requests: the progress of each, and how many bytes of replies then waited.
+fn two_answers<R: Wait + Net<Stream = TcpStream>>(
+    rt: &R,
+    alloc: Global,
+    scripts: Scripts,
+) -> Result<((Progress, usize), (Progress, usize)), Fail> {
+    let mut parts = Parts {
+        health: PlainHealth::new(Plain::open(alloc, SETTINGS)?, 0),
+        links: Scripted::new(alloc, 2, scripts)?,
+        trails: Kept::new(alloc),
+        targets: vec![in alloc; 0, 1]?,
+    };
+    let mut session = Session::new(alloc);
+    session.take(TWICE).ok().ok_or("not taken")?;
+    session.take(ONCE).ok().ok_or("not taken")?;
+    let first = session.answer(rt, alloc, &mut parts).ok().ok_or("memory")?;
+    let waiting = session.outbox().len();
+    session.clear_outbox();
+    let second = session.answer(rt, alloc, &mut parts).ok().ok_or("memory")?;
+    Ok(((first, waiting), (second, session.outbox().len())))
+}
+
 #[test]
 fn replies_are_written_at_the_bound(rt: HostRuntime) -> Result<(), Fail> {
     let alloc = rt.alloc();
-    let mut parts = parts_of(alloc, values(alloc, 3, 40_000)?)?;
-    let mut session = Session::new(alloc);
-    assert!(rt; session.take(TWICE).is_ok());
-    assert!(rt; session.take(ONCE).is_ok());
-    for (progress, waiting) in [(Progress::More, 80_048), (Progress::NeedsInput, 40_024)] {
-        assert_eq!(rt; session.answer(&rt, alloc, &mut parts), Ok(progress));
-        assert_eq!(rt; session.outbox().len(), waiting);
-        session.clear_outbox();
-    }
+    let (first, second) = two_answers(&rt, alloc, values(alloc, 3, 40_000)?)?;
+    assert_eq!(rt; first, (Progress::More, 80_048));
+    assert_eq!(rt; second, (Progress::NeedsInput, 40_024));
     Ok(())
 }
 
