@@ -246,14 +246,14 @@ Knows-lost s thread call steps it lost (Loosened found mark answer) knows = know
 Knows-lost s thread call steps it lost (Emptied answer) knows = knows
 
 -- a thread and the call that it began last
-abbrev StandsWith : Settings → List ServerState → ThreadState → ℕ → Option Call → Type 0
+abbrev pub StandsWith : Settings → List ServerState → ThreadState → ℕ → Option Call → Type 0
 StandsWith s servers NotEnrolled thread found = found ≡ None
 StandsWith s servers (Idle number) thread found = Unit {0}
 StandsWith s servers (InCall call phase) thread found =
     (steps : List OwnStep) × (found ≡ Some (open_call thread call steps))
     × Knows s thread call steps (server_at servers call.server) phase
 
-abbrev AllStand : Settings → List ServerState → List ThreadState → List Call → Type 0
+abbrev pub AllStand : Settings → List ServerState → List ThreadState → List Call → Type 0
 AllStand s servers threads calls =
     (thread : ℕ) → StandsWith s servers (get_or threads thread NotEnrolled) thread (latest thread calls)
 
@@ -301,14 +301,14 @@ pub record HoldsCalls (w : World) : Type 0 where
   pub calls : All (IsSoundCall w.core.settings) (calls_of w.past)
   pub stand : AllStand w.core.settings (abstract_of w.core) w.core.threads (calls_of w.past)
 
-HoldsCalls-start : (s : Settings) → HoldsCalls (start s)
+pub HoldsCalls-start : (s : Settings) → HoldsCalls (start s)
 HoldsCalls-start s =
     record {
       calls = All-nil (IsSoundCall s);
       stand = λ thread. rw (get_or-replicate_same s.threads thread NotEnrolled) refl;
     }
 
-HoldsCalls-begun : (w : World) (thread number : ℕ) (op : Op) (server : ℕ) → HoldsCalls w
+pub HoldsCalls-begun : (w : World) (thread number : ℕ) (op : Op) (server : ℕ) → HoldsCalls w
     → thread < length w.core.threads → thread_at w.core thread ≡ Idle number → HoldsCalls (begun w thread op server)
 HoldsCalls-begun w thread number op server holds inside stands =
     let s = w.core.settings in
@@ -324,7 +324,7 @@ HoldsCalls-begun w thread number op server holds inside stands =
     })
 
 -- an enrolment, with what it reports
-abbrev enrol_step : CoreState → ℕ → StepTaken
+abbrev pub enrol_step : CoreState → ℕ → StepTaken
 enrol_step core thread =
     record {
       thread = thread;
@@ -380,17 +380,17 @@ HoldsCalls-act w thread call phase is holds inside stands =
           (λ other apart. latest-with_step_other own calls other apart) holds.stand;
     }
 
-HoldsCalls-stepped_from : (w : World) (thread : ℕ) (state : ThreadState) → IsCore w.core → HoldsCalls w → thread < length w.core.threads
+pub HoldsCalls-stepped_from : (w : World) (thread : ℕ) (state : ThreadState) → IsCore w.core → HoldsCalls w → thread < length w.core.threads
     → thread_at w.core thread ≡ state → HoldsCalls (stepped_from w thread state)
 HoldsCalls-stepped_from w thread NotEnrolled is holds inside stands = HoldsCalls-enrolled w thread holds inside stands
 HoldsCalls-stepped_from w thread (Idle number) is holds inside stands = holds
 HoldsCalls-stepped_from w thread (InCall call phase) is holds inside stands = HoldsCalls-act w thread call phase is holds inside stands
 
 -- the law of each state and that of each call
-abbrev HoldsBoth : Settings → World → Type 0
+abbrev pub HoldsBoth : Settings → World → Type 0
 HoldsBoth s w = Holds s w × HoldsCalls w
 
-HoldsBoth-happens : (s : Settings) (w : World) (turn : Turn) → HoldsBoth s w → HoldsBoth s (happens w turn)
+pub HoldsBoth-happens : (s : Settings) (w : World) (turn : Turn) → HoldsBoth s w → HoldsBoth s (happens w turn)
 HoldsBoth-happens s w (Begin thread op server) both =
     keeps-begin (HoldsBoth s) w thread op server both
     (λ number inside stands on_server. (
@@ -404,7 +404,7 @@ HoldsBoth-happens s w (Step thread) both =
       HoldsCalls-stepped_from w thread (thread_at w.core thread) both.0.core both.1 inside refl,
     ))
 
-HoldsBoth-after_turns : (s : Settings) (w : World) (turns : List Turn) → HoldsBoth s w → HoldsBoth s (after_turns w turns)
+pub HoldsBoth-after_turns : (s : Settings) (w : World) (turns : List Turn) → HoldsBoth s w → HoldsBoth s (after_turns w turns)
 HoldsBoth-after_turns s w [] both = both
 HoldsBoth-after_turns s w (turn ∷ turns) both = HoldsBoth-after_turns s (happens w turn) turns (HoldsBoth-happens s w turn both)
 

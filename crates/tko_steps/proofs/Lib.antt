@@ -2,6 +2,7 @@ pub mod AloneLemmas
 pub mod CallLemmas
 pub mod CoreLemmas
 pub mod FineCallLemmas
+pub mod FineChainLemmas
 pub mod FineCoreLemmas
 pub mod FineEveryCallLemmas
 pub mod FineLegalLemmas

@@ -1,8 +1,9 @@
 //! The law of every run of the fine core.
 ghost use Rattle.std.specs.Prelude.{◌≡◌, All};
-ghost use Rattle.tko_steps.specs.FineCore.{settings_of};
+ghost use Rattle.tko_model.specs.Tracker.{opened};
+ghost use Rattle.tko_steps.specs.FineCore.{abstract_of, settings_of};
 ghost use Rattle.tko_steps.specs.FineInvariant.{IsCore};
-ghost use Rattle.tko_steps.specs.FineLegal.{ChangesAtMostOnce, IsFullAtLimit, IsLegal};
+ghost use Rattle.tko_steps.specs.FineLegal.{ChangesAreOwn, ChangesAtMostOnce, IsChain, IsFullAtLimit, IsLegal};
 ghost use Rattle.tko_steps.specs.FineRuns.{InEveryRun, calls_of};
 ghost use Rattle.tko_steps.specs.FineSafe.{CountsSlots, HasDistinctNumbers, HasOneResponsible, OwnsItsMarks};
 
@@ -20,10 +21,15 @@ pub fn fine_every_run()
 
 /// Over every list of turns, from the core as it opens under settings in range: each answered call
 /// has the sequential tracker's reply and change at one of its own steps, or lost every try and
-/// changed nothing; and a call is answered Full only at the limit.
+/// changed nothing; a call is answered Full only at the limit; and nothing but own steps of calls
+/// changes a mark.
 pub fn fine_every_call()
     ensures legal { InEveryRun (λ s w. All (IsLegal s) (calls_of w.past)) }
     ensures once { InEveryRun (λ s w.
         All (λ call. ChangesAtMostOnce call.steps) (calls_of w.past)) }
     ensures full { InEveryRun (λ s w. All (IsFullAtLimit s) (calls_of w.past)) }
+
+    // the abstract states, one after another
+    ensures chain { InEveryRun (λ s w. IsChain (opened s).servers w.past (abstract_of w.core)) }
+    ensures changes { InEveryRun (λ s w. ChangesAreOwn w.past) }
 {}

@@ -2,6 +2,7 @@
 use Rattle.std.proofs.lemmas.List.Elements.{All-weaker}
 use Rattle.tko_steps.specs.FineLegal.{ChangesAtMostOnce, IsFullAtLimit, IsLegal}
 use Rattle.tko_steps.specs.FineRuns.{Call, calls_of, run}
+use Rattle.tko_steps.proofs.FineChainLemmas.{ChangesAreOwn-run, IsChain-run}
 use Rattle.tko_steps.proofs.FineEveryCallLemmas.{SoundCalls-run}
 use Rattle.tko_steps.proofs.FineLegalLemmas.{IsSoundCall}
 use Rattle.tko_steps.proofs.fine.law.fine_every_call.Goals as goal
@@ -17,3 +18,9 @@ returns-clause-once c = λ s ranges turns.
 pub returns-clause-full : goal.returns-clause-full
 returns-clause-full c = λ s ranges turns.
     All-weaker (IsSoundCall s) (IsFullAtLimit s) (λ call sound. sound.full) (calls_of (run s turns).past) (SoundCalls-run s ranges turns)
+
+pub returns-clause-chain : goal.returns-clause-chain
+returns-clause-chain c = IsChain-run
+
+pub returns-clause-changes : goal.returns-clause-changes
+returns-clause-changes c = ChangesAreOwn-run
