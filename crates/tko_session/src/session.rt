@@ -144,6 +144,7 @@ impl Session {
         ensures ok { IfOk result (λ progress. Answered
             (IsTurn H.steps L.exchanges L.sent T.records) (sent_by L.sent) progress
             self.old parts.old self.new parts.new) }
+        ensures more { result ≡ Ok Progress.More → ¬ NeedsMore self.old.reading }
         ensures err { OnErr result (self.new.outbox ≡ self.old.outbox) }
         ensures reach { Reaches H.servers L.servers parts.new }
     {

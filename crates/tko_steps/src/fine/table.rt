@@ -4,10 +4,7 @@ ghost use Rattle.tko_model.specs.Ranges.{IsWithinRanges};
 ghost use Rattle.tko_steps.specs.FineTable.{action_of, after_change, after_look, after_slots, at_threshold, from_start, from_up, goes, lost_try, next_of, on_others, on_own_hard, on_own_soft, same_server};
 
 use crate::fine::{Call, Kind, Phase, Place, Slots, ThreadState};
-use tko_model::{Mark, Op, Reply, ServerState, Settings};
-
-/// From this stamp on an unmarked server takes no more changes.
-const WORN_STAMP: u64 = (1 << 51) - 8;
+use tko_model::{Mark, Op, Reply, ServerState, Settings, WORN_STAMP};
 
 /// One step on one word.
 #[derive(Clone, Copy)]

@@ -1,3 +1,4 @@
+use Rattle.tko_text.specs.Reading.{NeedsMore}
 use Rattle.tko_session.proofs.ResultLemmas.{both_ok}
 use Rattle.tko_session.proofs.TurnLemmas.{answered_open, answered_fault, answered_request}
 use Rattle.tko_session.proofs.session.Session.answer_next.Goals as goal
@@ -22,3 +23,16 @@ returns-in_ok-answer_request-in-Some-Request-clause-ok g c =
     let request_told = rw c.in-Some-Request.field-0-is at told in
     answered_request _ _ _ _ _ _ request_told c.in_ok-next.ensures.others
     c.in_ok-answer_request-in-Some-Request.ensures.ok c.requires.room
+
+pub returns-in-Some-Fault-clause-more : goal.returns-in-Some-Fault-clause-more
+unfolding NeedsMore
+returns-in-Some-Fault-clause-more g c =
+    let told = rw c.in-Some-Fault.is at c.in_ok-next.ensures.item in
+    λ _ needs. needs _ _ told
+
+pub returns-in_ok-answer_request-in-Some-Request-clause-more :
+    goal.returns-in_ok-answer_request-in-Some-Request-clause-more
+unfolding NeedsMore
+returns-in_ok-answer_request-in-Some-Request-clause-more g c =
+    let told = rw c.in-Some-Request.is at c.in_ok-next.ensures.item in
+    λ _ needs. needs _ _ told
