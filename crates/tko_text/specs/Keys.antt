@@ -1,16 +1,11 @@
 -- Which bytes are a key.
 use Rattle.std.specs.Prelude.{ℕ, ◌≤◌, ◌<◌, ◌≢◌, Bool, ◌&&◌, not, nat_le, nat_lt, ◌==◌, List, length, All}
 use Rattle.std.specs.List.{list_all}
-use Rattle.tko_bytes.specs.Words.{space}
 use Rattle.tko_text.specs.Limits.{key_limit}
 
--- the control character behind the printable ones
-abbrev pub delete : ℕ
-delete = 127
-
--- a byte of a key: no control character and no space
+-- a byte of a key: no control character, no space, and not 127
 abbrev pub IsKeyByte : ℕ → Type 0
-IsKeyByte b = (space < b) × (b ≢ delete)
+IsKeyByte b = (32 < b) × (b ≢ 127)
 
 pub record IsKey (bytes : List ℕ) : Type 0 where
   pub some : 1 ≤ length bytes
@@ -19,7 +14,7 @@ pub record IsKey (bytes : List ℕ) : Type 0 where
 
 -- the same as tests
 abbrev pub is_key_byte : ℕ → Bool
-is_key_byte b = nat_lt space b && not (b == delete)
+is_key_byte b = nat_lt 32 b && not (b == 127)
 
 unfoldable pub is_key : List ℕ → Bool
 is_key bytes =

@@ -32,23 +32,105 @@ fn read(alloc: Global, input: &[u8], step: usize) -> Result<(Vec<u8>, usize), Fa
     Ok((text, reader.unfinished()))
 }
 
+/// The items' text and the unfinished bytes of each input, however it is cut.
+const ROWS: [(&str, &str, usize); 36] = [
+    ("get a\r\n", "get a\r\n", 0),
+    ("  get   a  b \n", "get a b\r\n", 0),
+    ("gets a\n", "gets a\r\n", 0),
+    ("get\r\n", "CLIENT_ERROR bad command line format\r\n", 0),
+    ("get a\x7f b\r\n", "CLIENT_ERROR bad key\r\n", 0),
+    ("\r\n", "ERROR\r\n", 0),
+    ("version\r\n", "version\r\n", 0),
+    (
+        "version x\r\n",
+        "CLIENT_ERROR bad command line format\r\n",
+        0,
+    ),
+    ("quit\n", "quit\r\n", 0),
+    ("stats tko\n", "stats tko\r\n", 0),
+    ("stats\n", "ERROR\r\n", 0),
+    ("stats tko x\n", "ERROR\r\n", 0),
+    ("GET a\r\n", "ERROR\r\n", 0),
+    ("get a\tb\r\n", "CLIENT_ERROR bad key\r\n", 0),
+    ("get a\r\r\n", "CLIENT_ERROR bad key\r\n", 0),
+    ("get a", "", 5),
+    ("x\nget b\nge", "ERROR\r\nget b\r\n", 2),
+    ("", "", 0),
+    (
+        "set a 007 -0 02 noreply\nx\n\r\nget b\n",
+        "set a 7 0 2 noreply\r\nx\n\r\nget b\r\n",
+        0,
+    ),
+    ("cas a 0 -1 0 9\r\n\r\n", "cas a 0 -1 0 9\r\n\r\n", 0),
+    (
+        "append a 0 0 1 noreply\r\nx\r\n",
+        "append a 0 0 1 noreply\r\nx\r\n",
+        0,
+    ),
+    ("set a 0 0 5\r\nhe", "", 15),
+    ("set a 0 0 2\r\nhe\r", "", 16),
+    (
+        "set a 0 0 2\r\nxyz\r\nversion\r\n",
+        "CLIENT_ERROR bad data chunk\r\nversion\r\n",
+        0,
+    ),
+    (
+        "set a 0 0 2\r\nxy\nquit\n",
+        "CLIENT_ERROR bad data chunk\r\nquit\r\n",
+        0,
+    ),
+    (
+        "set a 0 0 2\r\nxy\rz\nquit\n",
+        "CLIENT_ERROR bad data chunk\r\nquit\r\n",
+        0,
+    ),
+    ("set a 0 0 2\r\nxyz", "CLIENT_ERROR bad data chunk\r\n", 0),
+    (
+        "set \x7f 0 0 2\r\nxy\r\nquit\n",
+        "CLIENT_ERROR bad key\r\nquit\r\n",
+        0,
+    ),
+    (
+        "set a 0 0 1 norply\r\nx\r\nquit\r\n",
+        "CLIENT_ERROR bad command line format\r\nERROR\r\nquit\r\n",
+        0,
+    ),
+    (
+        "set a 0 0 18446744073709551615\r\nx",
+        "SERVER_ERROR object too large for cache\r\n",
+        0,
+    ),
+    (
+        "delete a\ndelete a noreply\ndelete a 0\n",
+        "delete a\r\ndelete a noreply\r\nCLIENT_ERROR bad command line format\r\n",
+        0,
+    ),
+    ("incr  a 007\n", "incr a 7\r\n", 0),
+    (
+        "decr a 18446744073709551615 noreply\n",
+        "decr a 18446744073709551615 noreply\r\n",
+        0,
+    ),
+    (
+        "incr a 18446744073709551616\n",
+        "CLIENT_ERROR bad command line format\r\n",
+        0,
+    ),
+    (
+        "touch a -9223372036854775808 noreply\n",
+        "touch a -9223372036854775808 noreply\r\n",
+        0,
+    ),
+    (
+        "touch a 9223372036854775808\n",
+        "CLIENT_ERROR bad command line format\r\n",
+        0,
+    ),
+];
+
 #[test]
-fn each_line_is_one_item(rt: HostRuntime) -> Result<(), Fail> {
-    let rows: [(&str, &str, usize); 12] = [
-        ("get a\r\n", "get a\r\n", 0),
-        ("  get   a  \n", "get a\r\n", 0),
-        ("get a b\r\n", "CLIENT_ERROR bad command line format\r\n", 0),
-        ("get\r\n", "CLIENT_ERROR bad command line format\r\n", 0),
-        ("\r\n", "ERROR\r\n", 0),
-        ("version\r\n", "ERROR\r\n", 0),
-        ("GET a\r\n", "ERROR\r\n", 0),
-        ("get a\tb\r\n", "CLIENT_ERROR bad key\r\n", 0),
-        ("get a\r\r\n", "CLIENT_ERROR bad key\r\n", 0),
-        ("get a", "", 5),
-        ("x\nget b\nge", "ERROR\r\nget b\r\n", 2),
-        ("", "", 0),
-    ];
-    for (input, wanted, unfinished) in rows {
+fn each_cut_of_the_input_gives_the_same_items(rt: HostRuntime) -> Result<(), Fail> {
+    for (input, wanted, unfinished) in ROWS {
         for step in [1, 3, 64] {
             let (text, left) = read(rt.alloc(), input.as_bytes(), step)?;
             assert_eq!(rt; text.as_slice(), wanted.as_bytes());

@@ -15,6 +15,8 @@ pub struct Value {
     pub key: Key,
     pub flags: u32,
     pub data: Data,
+    /// The cas number, where it was asked for.
+    pub unique: Option<u64>,
 }
 
 /// At most 1,048,576 bytes. Contracts see their list.

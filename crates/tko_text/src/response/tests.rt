@@ -1,5 +1,5 @@
 use super::*;
-use crate::Key;
+use crate::{Key, Keys};
 use std::process::Abort;
 use std::test::Fail;
 
@@ -11,8 +11,10 @@ fn check(
     bytes: &[u8],
     written: Result<(&[u8], usize), ReadFault>,
 ) -> Result<(), Fail> {
+    let mut keys = Vec::new(alloc);
+    keys.push(Key::of(alloc, b"a")?.ok_or("no key")?)?;
     let request = Request::Get {
-        key: Key::of(alloc, b"a")?.ok_or("no key")?,
+        keys: Keys::new(keys),
     };
     match (Response::read(alloc, &request, bytes), written) {
         (Ok((response, taken)), Ok((text, len))) => {

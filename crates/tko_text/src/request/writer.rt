@@ -1,0 +1,186 @@
+//! Prints a request.
+ghost use Rattle.std.specs.Prelude.{◌≡◌, ◌++◌, ◌∷◌, codes, OnOk, OnErr};
+ghost use Rattle.std.specs.Fmt.{decimal, signed_decimal};
+ghost use Rattle.tko_bytes.specs.Lines.{crlf};
+ghost use Rattle.tko_bytes.specs.Words.{space};
+ghost use Rattle.tko_text.specs.Requests.{line_of, noreply_text, noreply_words, request_text};
+
+use super::{Entry, Request};
+use crate::{Key, Keys, NoMemory};
+use itoa::Buffer;
+use tko_bytes::append;
+
+/// Puts the printed form at the end.
+#[tactic(auto, unfolding(crate::specs::Requests::request_text))]
+pub(crate) fn append_request(request: &Request, out: &mut Vec<u8>) -> Result<(), NoMemory>
+    ensures ok { OnOk result (out.new.items ≡ out.old.items ++ request_text request.now) }
+    ensures err { OnErr result (out.new.items ≡ out.old.items) }
+{
+    match request {
+        Request::Get { keys } => append_keys(b"get", keys, out),
+        Request::Gets { keys } => append_keys(b"gets", keys, out),
+        Request::Store {
+            verb,
+            entry,
+            noreply,
+        } => { append_entry(verb.word(), entry, b"", *noreply, out) }
+        Request::Cas {
+            entry,
+            unique,
+            noreply,
+        } => append_cas(entry, *unique, *noreply, out),
+        Request::Delete { key, noreply } => append_delete(key, *noreply, out),
+        Request::Incr {
+            key,
+            amount,
+            noreply,
+        } => { append_counted(b"incr", key, *amount, *noreply, out) }
+        Request::Decr {
+            key,
+            amount,
+            noreply,
+        } => { append_counted(b"decr", key, *amount, *noreply, out) }
+        Request::Touch {
+            key,
+            expiry,
+            noreply,
+        } => append_touch(key, *expiry, *noreply, out),
+        Request::Version => append(out, &[b"version\r\n"]),
+        Request::Quit => append(out, &[b"quit\r\n"]),
+        Request::StatsTko => append(out, &[b"stats tko\r\n"]),
+    }
+}
+
+/// The word `noreply` and the space before it, or nothing.
+fn noreply_text<'a>(noreply: bool) -> &'a [u8]
+    ensures { result.now ≡ noreply_text noreply }
+{
+    if noreply { b" noreply" } else { b"" }
+}
+
+fn append_keys(word: &[u8], keys: &Keys, out: &mut Vec<u8>) -> Result<(), NoMemory> {
+    let before = out.len();
+    let done = push_keys(word, keys.as_slice(), out);
+    if done.is_err() {
+        out.truncate(before);
+    }
+    done
+}
+
+/// The same, but that at an `Err` a part may be there.
+fn push_keys(word: &[u8], keys: &[Key], out: &mut Vec<u8>) -> Result<(), NoMemory> {
+    out.extend_from_slice(word)?;
+    for key in keys {
+        out.extend_from_slice(b" ")?;
+        out.extend_from_slice(key.as_bytes())?;
+    }
+    out.extend_from_slice(b"\r\n")?;
+    Ok(())
+}
+
+/// Puts a `delete` at the end.
+fn append_delete(key: &Key, noreply: bool, out: &mut Vec<u8>) -> Result<(), NoMemory>
+    ensures ok { OnOk result (out.new.items ≡ out.old.items
+        ++ line_of (codes "delete" ∷ key.now ∷ noreply_words noreply)) }
+    ensures err { OnErr result (out.new.items ≡ out.old.items) }
+{
+    append(
+        out,
+        &[b"delete ", key.as_bytes(), noreply_text(noreply), b"\r\n"],
+    )
+}
+
+/// Puts an `incr` or a `decr` at the end.
+fn append_counted<'a>(
+    word: &'a [u8],
+    key: &'a Key,
+    amount: u64,
+    noreply: bool,
+    out: &mut Vec<u8>,
+) -> Result<(), NoMemory>
+    ensures ok { OnOk result (out.new.items ≡ out.old.items
+        ++ line_of (word.now ∷ key.now ∷ decimal amount ∷ noreply_words noreply)) }
+    ensures err { OnErr result (out.new.items ≡ out.old.items) }
+{
+    let mut digits = Buffer::new();
+    let amount = digits.format(amount).as_bytes();
+    append(
+        out,
+        &[
+            word,
+            b" ",
+            key.as_bytes(),
+            b" ",
+            amount,
+            noreply_text(noreply),
+            b"\r\n",
+        ],
+    )
+}
+
+/// Puts a `touch` at the end.
+fn append_touch(key: &Key, expiry: i64, noreply: bool, out: &mut Vec<u8>) -> Result<(), NoMemory>
+    ensures ok { OnOk result (out.new.items ≡ out.old.items
+        ++ line_of (codes "touch" ∷ key.now ∷ signed_decimal expiry ∷ noreply_words noreply)) }
+    ensures err { OnErr result (out.new.items ≡ out.old.items) }
+{
+    let mut digits = Buffer::new();
+    let expiry = digits.format(expiry).as_bytes();
+    append(
+        out,
+        &[
+            b"touch ",
+            key.as_bytes(),
+            b" ",
+            expiry,
+            noreply_text(noreply),
+            b"\r\n",
+        ],
+    )
+}
+
+fn append_cas(
+    entry: &Entry,
+    unique: u64,
+    noreply: bool,
+    out: &mut Vec<u8>,
+) -> Result<(), NoMemory> {
+    let mut digits = Buffer::new();
+    append_entry(
+        b"cas",
+        entry,
+        digits.format(unique).as_bytes(),
+        noreply,
+        out,
+    )
+}
+
+/// Puts a storage request at the end. The cas number stands after the size, where it has one.
+fn append_entry(
+    word: &[u8],
+    entry: &Entry,
+    unique: &[u8],
+    noreply: bool,
+    out: &mut Vec<u8>,
+) -> Result<(), NoMemory> {
+    let value = entry.value.as_bytes();
+    let (mut flags, mut expiry, mut size) = (Buffer::new(), Buffer::new(), Buffer::new());
+    let pieces = [
+        word,
+        b" ",
+        entry.key.as_bytes(),
+        b" ",
+        flags.format(entry.flags).as_bytes(),
+        b" ",
+        expiry.format(entry.expiry).as_bytes(),
+        b" ",
+        size.format(value.len()).as_bytes(),
+        if unique.is_empty() { b"" } else { b" " },
+        unique,
+        noreply_text(noreply),
+        b"\r\n",
+        value,
+        b"\r\n",
+    ];
+    append(out, &pieces)
+}
