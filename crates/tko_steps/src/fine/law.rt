@@ -20,9 +20,9 @@ pub fn fine_every_run()
 {}
 
 /// Over every list of turns, from the core as it opens under settings in range: each answered call
-/// has the sequential tracker's reply and change at one of its own steps, or lost every try and
-/// changed nothing; a call is answered Full only at the limit; and nothing but own steps of calls
-/// changes a mark.
+/// has the sequential tracker's reply and change at one of its own steps, or is answered Contended
+/// and changed nothing; a call is answered Full only at the limit; and nothing but own steps of
+/// calls changes a mark. That a Contended call lost every try is not stated here.
 pub fn fine_every_call()
     ensures legal { InEveryRun (λ s w. All (IsLegal s) (calls_of w.past)) }
     ensures once { InEveryRun (λ s w.
