@@ -1,0 +1,19 @@
+//! Ledgers: what the workers counted, and the sum of it.
+//!
+//! - `Kind`: what is counted; `Numbers`: a number for each kind.
+//! - `Book`: the totals of a ledger; `Share`: one worker's part of it. Each number is counted twice,
+//!   in the book and in the share of the worker that counted it.
+//! - `Totals`: what a book comes to once all its shares are back.
+#![tactic(auto)]
+
+mod book;
+mod gathering;
+mod numbers;
+
+pub use book::{Book, LedgerFull, Share};
+pub use gathering::{Totals, gather};
+pub use numbers::{Kind, Numbers};
+pub use tko_bytes::NoMemory;
+
+#[cfg(test)]
+mod tests;
