@@ -4,7 +4,7 @@ use Rattle.tko_model.specs.Ranges.{first_fault}
 use Rattle.tko_model.specs.declared.plain.OpenFault.{OpenFault}
 use Rattle.tko_model.specs.declared.plain.OpenFault.TheVariants as open_fault
 use Rattle.tko_model.specs.declared.settings.SettingsFault.{SettingsFault}
-use Rattle.tko_route.specs.declared.links.scripted.Script.{Script}
+use Rattle.tko_links.specs.declared.scripted.Script.{Script}
 use Rattle.tko_session.specs.declared.session.Report.{Report}
 use Rattle.tko_session.specs.Served.{Served}
 use Rattle.tko_session.specs.SessionState.{Reaches, sent_by}

@@ -5,8 +5,8 @@ use Rattle.std.proofs.lemmas.List.Elements.{All-append}
 use Rattle.tko_model.specs.Tracker.{opened}
 use Rattle.tko_model.specs.declared.settings.Settings.{Settings}
 use Rattle.tko_route.specs.Health.{OneThread}
-use Rattle.tko_route.specs.Scripted.{ScriptedState}
-use Rattle.tko_route.specs.declared.links.scripted.Script.{Script}
+use Rattle.tko_links.specs.Scripted.{ScriptedState}
+use Rattle.tko_links.specs.declared.scripted.Script.{Script}
 use Rattle.tko_cli.specs.Targets.{numbers_below}
 
 pub numbers_below_are_below : (n m : ℕ) → n ≤ m → All (λ number. number < m) (numbers_below n)

@@ -5,9 +5,9 @@ use Rattle.tko_model.specs.Tracker.{opened}
 use Rattle.tko_model.specs.declared.settings.Settings.{Settings}
 use Rattle.tko_model.specs.declared.settings.SettingsFault.{SettingsFault}
 use Rattle.tko_route.specs.declared.attempt.Attempt.{Attempt}
-use Rattle.tko_route.specs.declared.links.scripted.Script.{Script}
+use Rattle.tko_links.specs.declared.scripted.Script.{Script}
 use Rattle.tko_route.specs.Health.{OneThread, IsTrackerStep}
-use Rattle.tko_route.specs.Scripted.{ScriptedState, IsPlayed}
+use Rattle.tko_links.specs.Scripted.{ScriptedState, IsPlayed}
 use Rattle.tko_session.specs.declared.parts.Parts.{Parts}
 use Rattle.tko_session.specs.declared.session.Report.{Report}
 use Rattle.tko_session.specs.Served.{CameTooLong, Served}

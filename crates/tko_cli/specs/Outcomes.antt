@@ -3,8 +3,8 @@ use Rattle.std.specs.Prelude.{◌≡◌, ℕ, ◌==◌, Bool, ◌||◌, not, if�
 use Rattle.std.specs.Borrow.{Bor}
 use Rattle.std.specs.List.{slice_split, position_from}
 use Rattle.std.specs.Str.{bytes_eq}
-use Rattle.tko_route.specs.declared.links.scripted.Script.{Script}
-use Rattle.tko_route.specs.declared.links.scripted.Script.TheVariants as script
+use Rattle.tko_links.specs.declared.scripted.Script.{Script}
+use Rattle.tko_links.specs.declared.scripted.Script.TheVariants as script
 use Rattle.tko_cli.specs.declared.outcomes.OutcomesFault.{OutcomesFault}
 use Rattle.tko_cli.specs.declared.outcomes.OutcomesFault.TheVariants as fault
 

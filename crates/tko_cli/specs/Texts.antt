@@ -4,8 +4,8 @@ use Rattle.tko_route.specs.declared.attempt.Attempt.{Attempt}
 use Rattle.tko_route.specs.declared.attempt.Attempt.TheVariants as attempt
 use Rattle.tko_route.specs.Trail.{server_of}
 use Rattle.tko_model.specs.Texts.{mark_text, reply_text}
-use Rattle.tko_route.specs.declared.links.Outcome.{Outcome}
-use Rattle.tko_route.specs.declared.links.Outcome.TheVariants as outcome
+use Rattle.tko_links.specs.declared.links.Outcome.{Outcome}
+use Rattle.tko_links.specs.declared.links.Outcome.TheVariants as outcome
 
 -- an outcome, without the response
 abbrev pub outcome_text : Outcome → List ℕ

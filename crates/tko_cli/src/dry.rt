@@ -12,9 +12,9 @@ use crate::trail_lines::trail_lines;
 use crate::writing::write_text;
 use std::alloc::Global;
 use tko_bytes::NoMemory;
+use tko_links::{IoRuntime, Script, Scripted};
 use tko_model::Plain;
-use tko_route::links::{Script, Scripted};
-use tko_route::{IoRuntime, PlainHealth};
+use tko_route::PlainHealth;
 use tko_session::{Inlet, Kept, Outlet, Parts, serve};
 
 type DryParts = Parts<PlainHealth, Scripted, Kept>;

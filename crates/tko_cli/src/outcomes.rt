@@ -3,7 +3,7 @@ ghost use Rattle.std.specs.Prelude.{◌≡◌, IfOk, IfErr, IfSome, IfNone, fals
 ghost use Rattle.tko_cli.specs.Outcomes.{AllAsk, Asks, Refuses, is_outcome, texts_of, words_of};
 
 use std::alloc::{AllocError, AllocFailed, Global};
-use tko_route::links::Script;
+use tko_links::Script;
 
 /// Why a list has no scripts.
 #[derive(Clone, Copy, Debug, PartialEq, Eq)]

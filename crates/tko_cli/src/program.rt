@@ -10,7 +10,7 @@ use crate::writing::{WriteFault, write_text};
 use clap::Error;
 use clap::error::ErrorKind;
 use std::alloc::Global;
-use tko_route::IoRuntime;
+use tko_links::IoRuntime;
 use tko_session::{Inlet, Outlet};
 
 const DONE: u8 = 0;

@@ -3,7 +3,7 @@ ghost use Rattle.std.specs.Prelude.{◌≡◌, ◌<◌, ◌≤◌, ◌+◌, ◌�
 ghost use Rattle.tko_cli.specs.Readings.{CannotRead, IsText};
 
 use std::alloc::{AllocError, Global};
-use tko_route::IoRuntime;
+use tko_links::IoRuntime;
 use tko_session::{Inlet, piece_buffer, read_piece};
 
 /// Why a text can't be read.

@@ -6,7 +6,7 @@ use crate::Fault;
 use crate::reading::read_text;
 use crate::writing::write_text;
 use std::alloc::Global;
-use tko_route::IoRuntime;
+use tko_links::IoRuntime;
 use tko_runs::{Schedule, check, play};
 use tko_session::{Inlet, Outlet};
 

@@ -6,8 +6,8 @@ ghost use Rattle.tko_route.specs.Trail.{server_of};
 
 use std::alloc::Global;
 use tko_bytes::NoMemory;
+use tko_links::Outcome;
 use tko_model::{append_mark, append_number, append_reply};
-use tko_route::links::Outcome;
 use tko_route::{Attempt, Trail};
 
 /// The lines of the trails of all routed requests, numbered from 1.

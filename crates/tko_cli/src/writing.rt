@@ -1,7 +1,7 @@
 //! Whole texts onto an outlet.
 ghost use Rattle.std.specs.Prelude.{◌≡◌, ◌<◌, OnErr, OnOk};
 
-use tko_route::IoRuntime;
+use tko_links::IoRuntime;
 use tko_session::{Outlet, write_all};
 
 /// The outlet failed.

@@ -1,3 +1,2 @@
 mod HealthLemmas
-mod ScriptedLemmas
 mod TrailLemmas

@@ -3,7 +3,7 @@ use Rattle.std.proofs.Common.{◌≡◌, ℕ, Bool, List, length, slice_index, s
 use Rattle.tko_model.specs.Records.{Gains, HealthItem}
 use Rattle.tko_text.specs.declared.request.Request.{Request}
 use Rattle.tko_route.specs.declared.attempt.Attempt.{Attempt}
-use Rattle.tko_route.specs.Links.{LinksItem}
+use Rattle.tko_links.specs.Links.{LinksItem}
 use Rattle.tko_route.specs.Trail.{Attempted, RanOut, RanShort, next_target}
 
 -- an attempt at which memory ran out comes after those that were made

@@ -1,4 +1,2 @@
 pub mod Health
-pub mod Links
-pub mod Scripted
 pub mod Trail

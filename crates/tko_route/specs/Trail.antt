@@ -8,11 +8,11 @@ use Rattle.tko_model.specs.declared.mark.Reply.TheVariants as reply
 use Rattle.tko_model.specs.Records.{Gains, HealthItem, Called}
 use Rattle.tko_text.specs.declared.request.Request.{Request}
 use Rattle.tko_text.specs.declared.response.Response.{Response}
-use Rattle.tko_route.specs.declared.links.Outcome.{Outcome}
-use Rattle.tko_route.specs.declared.links.Outcome.TheVariants as outcome
+use Rattle.tko_links.specs.declared.links.Outcome.{Outcome}
+use Rattle.tko_links.specs.declared.links.Outcome.TheVariants as outcome
 use Rattle.tko_route.specs.declared.attempt.Attempt.{Attempt}
 use Rattle.tko_route.specs.declared.attempt.Attempt.TheVariants as attempt
-use Rattle.tko_route.specs.Links.{LinksItem, Sent, most_sends}
+use Rattle.tko_links.specs.Links.{LinksItem, Sent, most_sends}
 
 -- the table of outcomes: the operation that records each
 abbrev pub op_of : Outcome → Option Op

@@ -1,8 +1,8 @@
 //! Attempts at a target, and the trail of a request.
 ghost use Rattle.std.specs.Prelude.{◌≡◌};
 
-use crate::links::Outcome;
 use std::marker::Model;
+use tko_links::Outcome;
 use tko_model::{Mark, Reply};
 
 /// One attempt at a target.

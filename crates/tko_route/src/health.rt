@@ -3,7 +3,7 @@ ghost use Rattle.std.specs.Prelude.{◌≡◌, ◌<◌};
 ghost use Rattle.tko_model.specs.Records.{Called};
 ghost use Rattle.tko_route.specs.Health.{Names, look_item};
 
-use crate::io_runtime::IoRuntime;
+use tko_links::IoRuntime;
 use tko_model::{Look, Reply};
 
 /// What is known of the servers' health, and what a router reports of them. Each call is one item

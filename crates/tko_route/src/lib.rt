@@ -2,25 +2,19 @@
 //!
 //! - `Health`: what is known of the servers, and what a router reports of them; `PlainHealth`
 //!   keeps it for one thread.
-//! - `links`: the connections to the servers. `Links` exchanges a request for an `Outcome`;
-//!   `Scripted` plays a list of them.
 //! - `Attempt` and `Trail`: what was done at one target, and at all of them in order.
 //! - `route`: makes the trail of a request, as a `Routed` or, out of memory, a `RouteFault`.
-//! - `IoRuntime`: a runtime that lets a call wait and use the network.
 #![tactic(auto)]
 
 mod attempt;
 mod health;
-mod io_runtime;
 mod laws;
-pub mod links;
 mod plain_health;
 mod routing;
 
 pub use attempt::{Attempt, Trail};
 pub use health::Health;
-pub use io_runtime::IoRuntime;
-pub use laws::{plain_health_replays, scripted_replays};
+pub use laws::plain_health_replays;
 pub use plain_health::PlainHealth;
 pub use routing::{RouteFault, Routed, route};
 

@@ -4,8 +4,8 @@ ghost use Rattle.tko_model.specs.Records.{Called};
 ghost use Rattle.tko_route.specs.Health.{IsTrackerStep};
 
 use crate::health::Health;
-use crate::io_runtime::IoRuntime;
 use std::marker::Model;
+use tko_links::IoRuntime;
 use tko_model::{Look, Op, Plain, Reply};
 
 /// The sequential tracker, used by one thread. Contracts see the tracker and the thread's number.

@@ -2,14 +2,13 @@
 ghost use Rattle.std.specs.Option.{option_copied};
 ghost use Rattle.std.specs.Prelude.{◌≡◌, ◌+◌, ◌<◌, ◌≤◌, ℕ, [], ◌∷◌, All, IfOk, IfErr, OnOk, OnErr, length, vec_capacity, vec_len};
 ghost use Rattle.tko_model.specs.Records.{Gains};
-ghost use Rattle.tko_route.specs.Links.{part_of};
+ghost use Rattle.tko_links.specs.Links.{part_of};
 ghost use Rattle.tko_route.specs.Trail.{Attempted, CutShort, IsCutTrail, IsRecorded, IsTrail, RanOut, RanShort, answer_of, next_target, op_of, sends_in, server_of};
 
 use crate::attempt::{Attempt, Trail};
 use crate::health::Health;
-use crate::io_runtime::IoRuntime;
-use crate::links::{Links, NoMemory, Outcome};
 use std::alloc::Global;
+use tko_links::{IoRuntime, Links, NoMemory, Outcome};
 use tko_model::{Look, Reply};
 use tko_text::{Request, Response};
 

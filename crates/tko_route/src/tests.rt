@@ -3,13 +3,13 @@ ghost use Rattle.std.specs.Prelude.{◌≡◌, IfOk, length};
 
 mod limits;
 
-use crate::links::{Links, Script, Scripted};
 use crate::{Attempt, Health, PlainHealth, RouteFault, Routed, Trail, route};
 use std::alloc::Global;
 use std::net::{Net, TcpStream};
 use std::process::Abort;
 use std::sync::Wait;
 use std::test::Fail;
+use tko_links::{Links, Script, Scripted};
 use tko_model::{Look, Mark, Plain, Reply, Settings};
 use tko_text::{Key, Request, Response};
 

@@ -12,7 +12,7 @@ use Rattle.tko_text.specs.declared.fault.TextFault.{TextFault}
 use Rattle.tko_text.specs.declared.fault.TextFault.TheVariants as fault
 use Rattle.tko_text.specs.declared.request.Request.{Request}
 use Rattle.tko_text.specs.Requests.{fault_text}
-use Rattle.tko_route.specs.Links.{LinksItem}
+use Rattle.tko_links.specs.Links.{LinksItem}
 use Rattle.tko_session.specs.declared.parts.Parts.{Parts}
 use Rattle.tko_session.specs.TrailEvents.{TrailEvent}
 use Rattle.tko_text.specs.Reading.{Reading, Gives, NeedsMore, Emits}

@@ -8,7 +8,7 @@ use Rattle.tko_text.specs.declared.fault.TextFault.TheVariants.{LineTooLong}
 use Rattle.tko_text.specs.declared.request.Request.{Request}
 use Rattle.tko_text.specs.Reading.{Reading, Never, Gives, NeedsMore, start, fed}
 use Rattle.tko_route.specs.declared.attempt.Attempt.{Attempt}
-use Rattle.tko_route.specs.Links.{LinksItem}
+use Rattle.tko_links.specs.Links.{LinksItem}
 use Rattle.tko_route.specs.Trail.{sends_in}
 use Rattle.tko_session.specs.declared.parts.Parts.{Parts}
 use Rattle.tko_session.specs.declared.session.Progress.{Progress}

@@ -8,7 +8,7 @@ use Rattle.tko_text.specs.declared.response.Response.{Response}
 use Rattle.tko_text.specs.Requests.{fault_text}
 use Rattle.tko_text.specs.Responses.{response_text}
 use Rattle.tko_route.specs.declared.attempt.Attempt.{Attempt}
-use Rattle.tko_route.specs.Links.{LinksItem}
+use Rattle.tko_links.specs.Links.{LinksItem}
 use Rattle.tko_route.specs.Trail.{IsTrail, Attempted, answer_of}
 use Rattle.tko_session.specs.declared.parts.Parts.{Parts}
 use Rattle.tko_session.specs.TrailEvents.{TrailEvent, Asked, Tried}

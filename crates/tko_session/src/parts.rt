@@ -5,8 +5,8 @@ ghost use Rattle.tko_route.specs.Trail.{Attempted, IsTrail, sends_in};
 ghost use Rattle.tko_session.specs.SessionState.{Reaches};
 
 use std::alloc::Global;
-use tko_route::links::Links;
-use tko_route::{Health, IoRuntime, RouteFault, Routed, route};
+use tko_links::{IoRuntime, Links};
+use tko_route::{Health, RouteFault, Routed, route};
 use tko_text::Request;
 
 /// What replaces a request's expiry at the targets after the first: a `get` has none.

@@ -3,7 +3,7 @@ ghost use Rattle.std.specs.Prelude.{◌≡◌, ◌<◌, ◌≤◌, ◌+◌, ℕ,
 
 use crate::{Inlet, Stop};
 use std::alloc::{AllocError, Global};
-use tko_route::IoRuntime;
+use tko_links::IoRuntime;
 
 /// The greatest piece that is read at once.
 const PIECE: usize = 16_384;

@@ -7,7 +7,7 @@ use crate::{Inlet, Outlet, Stop};
 use std::io;
 use std::io::{ErrorKind, Read, Write};
 use std::sync::Wait;
-use tko_route::IoRuntime;
+use tko_links::IoRuntime;
 
 /// A reader as an inlet, or a writer as an outlet.
 #[derive(Drop)]

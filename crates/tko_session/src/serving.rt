@@ -11,8 +11,8 @@ use crate::{
     read_piece, write_all,
 };
 use std::alloc::Global;
-use tko_route::links::Links;
-use tko_route::{Health, IoRuntime};
+use tko_links::{IoRuntime, Links};
+use tko_route::Health;
 
 /// Serves one client, from the first byte of its input to the end.
 pub fn serve<R: IoRuntime, I: Inlet, O: Outlet, H: Health, L: Links, T: Trails>(

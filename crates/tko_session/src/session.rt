@@ -11,8 +11,8 @@ use crate::{Parts, Trails};
 use std::alloc::Global;
 use std::marker::Model;
 use tko_bytes::NoMemory;
-use tko_route::links::Links;
-use tko_route::{Health, IoRuntime};
+use tko_links::{IoRuntime, Links};
+use tko_route::Health;
 use tko_text::{FeedFault, Item, Reader, Request, TextFault};
 
 /// What a session came to, at the end of its input.

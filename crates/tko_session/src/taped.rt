@@ -6,7 +6,7 @@ ghost use Rattle.tko_session.specs.Tape.{first_stop};
 use crate::stop_counts::{StopCounts, raise};
 use crate::{Inlet, Outlet, Stop};
 use std::marker::Model;
-use tko_route::IoRuntime;
+use tko_links::IoRuntime;
 
 /// Bytes in memory: an inlet that gives them, and an outlet that appends to them. A call moves at
 /// most `greatest` bytes, and a call whose number is in `stops` comes to that Stop.

@@ -9,8 +9,8 @@ use std::io::{ErrorKind, Read, Write};
 use std::net::{Net, TcpStream};
 use std::sync::Wait;
 use std::test::Fail;
+use tko_links::{Links, Script, Scripted};
 use tko_model::{Mark, Plain, Settings};
-use tko_route::links::{Links, Script, Scripted};
 use tko_route::{Attempt, PlainHealth};
 
 const SETTINGS: Settings = Settings {

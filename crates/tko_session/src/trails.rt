@@ -5,7 +5,8 @@ ghost use Rattle.tko_session.specs.TrailEvents.{Asked, Tried};
 use std::alloc::Global;
 use std::marker::Model;
 use tko_bytes::NoMemory;
-use tko_route::{IoRuntime, Trail};
+use tko_links::IoRuntime;
+use tko_route::Trail;
 use tko_text::Request;
 
 /// Records each item that isn't a fault, and then the trail of its routed request.

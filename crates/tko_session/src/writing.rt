@@ -4,7 +4,7 @@ ghost use Rattle.std.specs.Bool.{OnTrue, OnFalse};
 ghost use Rattle.tko_session.specs.Io.{Writes, WritesPart};
 
 use crate::{Outlet, Stop};
-use tko_route::IoRuntime;
+use tko_links::IoRuntime;
 
 /// Writes the text, and returns whether all of it was written. The count rises by the bytes that
 /// were written, and stays at 2^64 - 1.

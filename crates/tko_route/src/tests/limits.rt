@@ -1,12 +1,12 @@
 //! Routes at the limits: so many servers, all of them targets; a key and a value of so many bytes.
 ghost use Rattle.std.specs.Prelude.{◌≡◌, ◌<◌, All, IfOk, IsTrue, length};
 
-use crate::links::{Script, Scripted};
 use crate::{PlainHealth, RouteFault, Routed, route};
 use std::alloc::Global;
 use std::net::{Net, TcpStream};
 use std::sync::Wait;
 use std::test::Fail;
+use tko_links::{Script, Scripted};
 use tko_model::{Plain, Settings};
 use tko_text::{Key, Request, Response};
 

@@ -1,6 +1,6 @@
 use Rattle.std.proofs.Common.{◌≡◌, ◌+◌, List, ◌++◌, drop, not}
 use Rattle.std.specs.List.{position_from}
-use Rattle.tko_route.specs.declared.links.scripted.Script.{Script}
+use Rattle.tko_links.specs.declared.scripted.Script.{Script}
 use Rattle.tko_cli.specs.Outcomes.{AllAsk, first_bad, is_outcome, texts_of}
 use Rattle.tko_cli.proofs.outcomes.scripts_of_words.Given as goal
 

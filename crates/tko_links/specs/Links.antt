@@ -1,9 +1,9 @@
 -- Requests sent to servers: what came of each, and how they are counted.
 use Rattle.std.specs.Prelude.{◌≡◌, ℕ, Bool, true, false, ◌==◌, ◌&&◌, if◌then◌else◌, MatchBool, Option, Some, None, Result, Ok, Err}
 use Rattle.tko_text.specs.declared.request.Request.{Request}
-use Rattle.tko_route.specs.declared.links.Outcome.{Outcome}
-use Rattle.tko_route.specs.declared.links.Outcome.TheVariants as outcome
-use Rattle.tko_route.specs.declared.links.NoMemory.{NoMemory}
+use Rattle.tko_links.specs.declared.links.Outcome.{Outcome}
+use Rattle.tko_links.specs.declared.links.Outcome.TheVariants as outcome
+use Rattle.tko_links.specs.declared.links.NoMemory.{NoMemory}
 
 -- how often a server can be sent to
 abbrev pub most_sends : ℕ

@@ -1,7 +1,7 @@
 //! Links in memory, which play a list of scripts.
 ghost use Rattle.std.specs.Prelude.{◌≡◌, ◌<◌, [], true, false, IfOk, IfErr, OnErr, OnOk, length, replicate, slice_index};
-ghost use Rattle.tko_route.specs.Links.{most_sends, outcome_in};
-ghost use Rattle.tko_route.specs.Scripted.{IsPlayed};
+ghost use Rattle.tko_links.specs.Links.{most_sends, outcome_in};
+ghost use Rattle.tko_links.specs.Scripted.{IsPlayed};
 
 use crate::io_runtime::IoRuntime;
 use crate::links::{Links, NoMemory, Outcome};
@@ -54,7 +54,7 @@ pub struct Scripted {
 
 impl Model for Scripted {
     ghost use Rattle.std.specs.Prelude.{◌≤◌, drop, vec_len};
-    ghost use Rattle.tko_route.specs.Scripted.{ScriptedState};
+    ghost use Rattle.tko_links.specs.Scripted.{ScriptedState};
 
     ghost Value = { ScriptedState };
 
@@ -68,7 +68,7 @@ impl Model for Scripted {
 }
 
 impl Script {
-    ghost use Rattle.tko_route.specs.Scripted.{Gives};
+    ghost use Rattle.tko_links.specs.Scripted.{Gives};
 
     /// What it gives to a request.
     fn outcome(&self, alloc: Global, request: &Request) -> Result<Outcome, NoMemory>
@@ -89,7 +89,7 @@ impl Script {
 
 impl Scripted {
     ghost use Rattle.std.specs.Prelude.{drop, slice_get};
-    ghost use Rattle.tko_route.specs.Scripted.{NextGives, counted};
+    ghost use Rattle.tko_links.specs.Scripted.{NextGives, counted};
 
     /// Links to so many servers, none of which was sent to.
     pub fn new(

@@ -1,11 +1,8 @@
-//! Links to the servers: one request out, and what came of it.
+//! What links to the servers do, whatever connects them.
 ghost use Rattle.std.specs.Prelude.{◌≡◌, ◌+◌, ◌<◌, ◌↔◌, ℕ};
-ghost use Rattle.tko_route.specs.Links.{Exchanged, is_counted, most_sends, part_of};
-
-mod scripted;
+ghost use Rattle.tko_links.specs.Links.{Exchanged, is_counted, most_sends, part_of};
 
 use crate::io_runtime::IoRuntime;
-pub use scripted::{RequestText, Script, Scripted};
 use tko_model::Clear;
 use tko_text::{Request, Response};
 
@@ -34,7 +31,7 @@ pub struct NoMemory {
 /// see: the server, the request and the outcome, or none where memory ran out.
 pub trait Links {
     ghost use Rattle.std.specs.Prelude.{ℕ};
-    ghost use Rattle.tko_route.specs.Links.{LinksItem};
+    ghost use Rattle.tko_links.specs.Links.{LinksItem};
 
     /// How many servers there are.
     ghost servers: { Self → ℕ };

@@ -6,11 +6,11 @@ use Rattle.tko_text.specs.declared.response.fault.ReadFault.TheVariants as fault
 use Rattle.tko_text.specs.declared.response.Response.{Response}
 use Rattle.tko_text.specs.Requests.{request_text}
 use Rattle.tko_text.specs.Responses.{ReadsResponse}
-use Rattle.tko_route.specs.declared.links.Outcome.{Outcome}
-use Rattle.tko_route.specs.declared.links.Outcome.TheVariants as outcome
-use Rattle.tko_route.specs.declared.links.scripted.Script.{Script}
-use Rattle.tko_route.specs.declared.links.scripted.Script.TheVariants as script
-use Rattle.tko_route.specs.Links.{LinksItem, Sent}
+use Rattle.tko_links.specs.declared.links.Outcome.{Outcome}
+use Rattle.tko_links.specs.declared.links.Outcome.TheVariants as outcome
+use Rattle.tko_links.specs.declared.scripted.Script.{Script}
+use Rattle.tko_links.specs.declared.scripted.Script.TheVariants as script
+use Rattle.tko_links.specs.Links.{LinksItem, Sent}
 
 -- the scripts that are left, how often each server was sent to, and the bytes of each request sent
 pub record ScriptedState : Type 0 where

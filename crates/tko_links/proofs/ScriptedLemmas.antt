@@ -2,9 +2,9 @@
 use Rattle.std.proofs.Common.{◌≡◌, ℕ, List, [], ◌∷◌, ◌++◌, length, map, drop, ap, subst, sym, ◌∙◌, append-nil, arith}
 use Rattle.std.proofs.lemmas.Grind.{common_steps}
 use Rattle.tko_model.specs.Records.{Gains, Lead}
-use Rattle.tko_route.specs.declared.links.scripted.Script.{Script}
-use Rattle.tko_route.specs.Links.{LinksItem}
-use Rattle.tko_route.specs.Scripted.{GiveInOrder, IsPlayed, IsReplay, ScriptedState, sends_after, sends_after_all, sent_text}
+use Rattle.tko_links.specs.declared.scripted.Script.{Script}
+use Rattle.tko_links.specs.Links.{LinksItem}
+use Rattle.tko_links.specs.Scripted.{GiveInOrder, IsPlayed, IsReplay, ScriptedState, sends_after, sends_after_all, sent_text}
 
 drop_more : (scripts : List Script) (it : LinksItem) (items : List LinksItem)
     → drop (length items) (drop 1 scripts) ≡ drop (length (it ∷ items)) scripts
