@@ -1,3 +1,4 @@
+mod InOrderLemmas
 mod JsonLemmas
 mod KnownLemmas
 mod NumberingLemmas

@@ -1,6 +1,6 @@
 -- What a configuration is: the servers by their numbers, and each child's servers.
-use Rattle.std.specs.Prelude.{◌≡◌, ℕ, ◌%◌, ◌<◌, ◌≤◌, List, length, map, slice_index, All, Some, None, is_some, true}
-use Rattle.std.specs.List.{flat_map}
+use Rattle.std.specs.Prelude.{◌≡◌, ℕ, ◌%◌, ◌<◌, ◌≤◌, List, [], ◌∷◌, length, map, slice_index, All, Some, None, is_some, true}
+use Rattle.std.specs.List.{flat_map, range_with_len}
 use Rattle.std.specs.Str.{IsUtf8}
 use Rattle.serde_json.specs.Data.{Data}
 use Rattle.serde_json.specs.Find.{as_object}
@@ -12,7 +12,7 @@ use Rattle.tko_pools.specs.declared.fault.ConfigFault.{ConfigFault}
 use Rattle.tko_pools.specs.declared.fault.ConfigFault.TheVariants as fault
 use Rattle.tko_pools.specs.Flaws.{Reports}
 use Rattle.tko_pools.specs.Reasons.{max_servers, reason_of}
-use Rattle.tko_pools.specs.Routes.{RouteRead, route_in}
+use Rattle.tko_pools.specs.Routes.{RouteRead, default_exptime, route_in}
 
 -- the addresses in the order of their numbers, the numbers of each child's servers, and the
 -- greatest expiry after the first target
@@ -50,6 +50,18 @@ configuration pools route =
       children = map (child_of addresses pools) route.children;
       failover_exptime = route.failover_exptime;
     }
+
+-- the numbers of so many servers
+abbrev pub numbers_below : ℕ → List ℕ
+numbers_below count = range_with_len 0 count
+
+-- the configuration without pools: each of these addresses is a child of its own
+abbrev pub in_order : List (List ℕ) → Configuration
+in_order addresses = record {
+  addresses = addresses;
+  children = map (λ number. number ∷ []) (numbers_below (length addresses));
+  failover_exptime = default_exptime;
+}
 
 -- a text is the JSON of this object
 pub record IsRoot (text : List ℕ) (root : Data) : Type 0 where

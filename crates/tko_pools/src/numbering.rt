@@ -34,6 +34,13 @@ impl Addresses {
         }
     }
 
+    /// These addresses, each at its place.
+    pub(crate) fn of(texts: Vec<String>) -> Addresses
+        ensures { result ≡ map string_bytes texts.items }
+    {
+        Addresses { texts }
+    }
+
     pub(crate) fn texts(&self) -> &[String]
         ensures { map string_bytes result.now ≡ self.now }
     {

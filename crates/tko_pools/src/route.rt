@@ -9,7 +9,8 @@ use serde_json::Value;
 use std::alloc::{AllocError, Global};
 use std::marker::Model;
 
-const DEFAULT_EXPTIME: u32 = 60;
+/// The greatest expiry after the first target where a route names none.
+pub(crate) const DEFAULT_EXPTIME: u32 = 60;
 
 const MAX_EXPTIME: u64 = (1 << 31) - 1;
 

@@ -49,6 +49,21 @@ fn targets_of_two_pools(rt: HostRuntime) -> Result<(), Fail> {
 }
 
 #[test]
+fn without_pools_every_key_has_all_servers(rt: HostRuntime) -> Result<(), Fail> {
+    let alloc = rt.alloc();
+    let first = String::from_str(alloc, "dry:0")?;
+    let second = String::from_str(alloc, "dry:1")?;
+    let config = Config::in_order(alloc, vec![in alloc; first, second]?)?;
+    for key in [b"a".as_slice(), b"b"] {
+        assert_eq!(rt; config.targets(alloc, key)?.as_slice(), [0, 1].as_slice());
+    }
+    assert_eq!(rt; config.failover_exptime(), 60);
+    assert_eq!(rt; config.addresses().len(), 2);
+    assert_eq!(rt; config.addresses()[1].as_str(), "dry:1");
+    Ok(())
+}
+
+#[test]
 fn hashes_are_those_of_fnv1a(rt: HostRuntime) {
     assert_eq!(rt; fnv1a(b""), 2_166_136_261);
     assert_eq!(rt; fnv1a(b"a"), 0xE40C_292C);
@@ -67,7 +82,7 @@ fn one_child_as_a_text(rt: HostRuntime) -> Result<(), Fail> {
 
 #[test]
 fn the_first_fault_is_reported(rt: HostRuntime) -> Result<(), Fail> {
-    let rows: [(&[u8], &str, &str); 14] = [
+    let rows: [(&[u8], &str, &str); 15] = [
         (b"{", "json", ""),
         (b"[]", "json", ""),
         (b"{\"pools\":\"\xff\"}", "json", ""),
@@ -85,6 +100,11 @@ fn the_first_fault_is_reported(rt: HostRuntime) -> Result<(), Fail> {
         ),
         (br#"{"pools":{"A":{"servers":["h:0"]}}}"#, "address", "h:0"),
         (br#"{"pools":{"A":{"servers":[7]}}}"#, "address", ""),
+        (
+            br#"{"pools":{"A":{"servers":["x"]}},"route":"PoolRoute|X"}"#,
+            "address",
+            "x",
+        ),
         (br#"{"pools":{"A":{"servers":["h:1"]}}}"#, "route", ""),
         (
             br#"{"pools":{"A":{"servers":["h:1"]}},
@@ -116,20 +136,31 @@ fn the_first_fault_is_reported(rt: HostRuntime) -> Result<(), Fail> {
     Ok(())
 }
 
-/// A pool of servers `h:1`, `h:2` and so on.
-fn pool_of(alloc: Global, count: u32) -> Result<String, Fail> {
+/// A pool A of servers `h:1`, `h:2` and so on, and a route over it and another child.
+fn pool_of(alloc: Global, count: u32, child: &str) -> Result<String, Fail> {
     let mut text = String::from_str(alloc, r#"{"pools":{"A":{"servers":["h:1""#)?;
     for port in 1..count {
         text.push_str(format!(in alloc; ",\"h:{}\"", u64::from(port) + 1)?.as_str())?;
     }
-    text.push_str(r#"]}},"route":"PoolRoute|A"}"#)?;
+    text.push_str(r#"]}},"route":{"type":"FailoverRoute","children":["PoolRoute|A",""#)?;
+    text.push_str(child)?;
+    text.push_str(r#""]}}"#)?;
     Ok(text)
 }
 
 #[test]
 fn servers_at_the_limit(rt: HostRuntime) -> Result<(), Fail> {
-    let config = Config::read(rt.alloc(), pool_of(rt.alloc(), 256)?.as_bytes())?;
+    let alloc = rt.alloc();
+    let config = Config::read(alloc, pool_of(alloc, 256, "PoolRoute|A")?.as_bytes())?;
     assert_eq!(rt; config.addresses().len(), 256);
-    let text = pool_of(rt.alloc(), 257)?;
-    fault(&rt, rt.alloc(), text.as_bytes(), "too-many-servers", "")
+    let rows = [
+        ("PoolRoute|A", "too-many-servers", ""),
+        ("PoolRoute|X", "no-such-pool", "X"),
+        ("A", "route", ""),
+    ];
+    for (child, word, named) in rows {
+        let text = pool_of(alloc, 257, child)?;
+        fault(&rt, alloc, text.as_bytes(), word, named)?;
+    }
+    Ok(())
 }

@@ -1,0 +1,72 @@
+-- The configuration without pools.
+use Rattle.std.proofs.Common.{◌≡◌, ◌<◌, ◌≤◌, ℕ, zero, suc, ◌+◌, List, [], ◌∷◌, ◌++◌, length, map, refl, ap, sym, subst, ◌∙◌, arith}
+use Rattle.std.specs.List.{All, range_with_len}
+use Rattle.std.specs.Prelude.{◌%◌, slice_index}
+use Rattle.std.proofs.Math.Nat.{mod-one}
+use Rattle.std.proofs.lemmas.List.{length-map, map-append}
+use Rattle.std.proofs.lemmas.List.Elements.{All-nil, All-cons}
+use Rattle.std.proofs.lemmas.List.FromFn.{map-range_with_len_more}
+use Rattle.tko_pools.specs.Configs.{Configuration, IsSound, chosen_by, in_order, numbers_below, targets_of}
+use Rattle.tko_pools.specs.Hash.{fnv1a_of}
+use Rattle.tko_pools.specs.Reasons.{max_servers}
+use Rattle.tko_pools.specs.Routes.{default_exptime}
+
+-- a child with one server
+abbrev alone : ℕ → List ℕ
+alone number = number ∷ []
+
+-- one more child
+pub children-more : {X : Type 0} (items : X → List ℕ) (count : ℕ) (children all : List X) (child : X)
+    → map items children ≡ map alone (numbers_below count) → items child ≡ alone count
+    → all ≡ children ++ child ∷ [] → map items all ≡ map alone (numbers_below (count + 1))
+children-more items count children all child before last e =
+    let more = map-range_with_len_more alone 0 count count (omega arith) in
+    rw (e, map-append items children (child ∷ []), before, last) (sym more)
+
+-- the configuration is the one of these addresses
+pub in_order-made : {X : Type 0} (text : X → List ℕ) (texts : List X) (addresses children : List (List ℕ)) (count : ℕ)
+    → addresses ≡ map text texts → children ≡ map alone (numbers_below count) → count ≡ length texts
+    → record { addresses = addresses; children = children; failover_exptime = default_exptime } ≡ in_order (map text texts)
+in_order-made text texts addresses children count named numbered counted =
+    rw (named, numbered, counted, length-map texts text) refl
+
+-- the server of a child with one server
+chosen-alone : (hash : ℕ) (numbers : List ℕ) → chosen_by hash (map alone numbers) ≡ numbers
+chosen-alone hash [] = refl
+chosen-alone hash (number ∷ numbers) =
+    let first : slice_index (alone number) (hash % 1) ≡ number = rw (mod-one hash) refl in
+    ap (λ n. n ∷ chosen_by hash (map alone numbers)) first ∙ ap (λ ns. number ∷ ns) (chosen-alone hash numbers)
+
+-- every key has all servers as its targets, in order
+pub in_order-targets : {X : Type 0} (text : X → List ℕ) (texts : List X) (config : Configuration) (key : List ℕ)
+    → config ≡ in_order (map text texts) → targets_of config key ≡ numbers_below (length texts)
+in_order-targets text texts config key made =
+    ap (λ (at : Configuration). targets_of at key) made
+    ∙ chosen-alone (fnv1a_of key) (numbers_below (length (map text texts)))
+    ∙ ap numbers_below (length-map texts text)
+
+below : (start count bound : ℕ) → start + count ≤ bound
+    → All (λ child. All (λ number. number < bound) child) (map alone (range_with_len start count))
+below start zero bound within = All-nil (λ child. All (λ number. number < bound) child)
+below start (suc count) bound within =
+    All-cons (λ child. All (λ number. number < bound) child) (alone start) _
+    (All-cons (λ number. number < bound) start [] (omega (arith, within)) (All-nil (λ number. number < bound)))
+    (below (start + 1) count bound (omega (arith, within)))
+
+filled : (numbers : List ℕ) → All (λ child. 0 < length child) (map alone numbers)
+filled [] = All-nil (λ child. 0 < length child)
+filled (number ∷ numbers) =
+    All-cons (λ child. 0 < length child) (alone number) (map alone numbers) (omega arith) (filled numbers)
+
+in_order-sound : (addresses : List (List ℕ)) → length addresses ≤ max_servers → IsSound (in_order addresses)
+in_order-sound addresses few = record {
+  children = filled (numbers_below (length addresses));
+  numbers = below 0 (length addresses) (length addresses) (omega arith);
+  servers = few;
+}
+
+pub made-sound : {X : Type 0} (text : X → List ℕ) (texts : List X) (config : Configuration)
+    → config ≡ in_order (map text texts) → length texts ≤ max_servers → IsSound config
+made-sound text texts config made few =
+    let counted : length (map text texts) ≤ max_servers = rw (length-map texts text) few in
+    subst IsSound (sym made) (in_order-sound (map text texts) counted)

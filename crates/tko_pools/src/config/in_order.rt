@@ -1,0 +1,41 @@
+//! The configuration without pools.
+ghost use Rattle.std.specs.Prelude.{◌≡◌, ◌≤◌, ℕ, [], ◌∷◌, List, IfOk, length, map, string_bytes};
+ghost use Rattle.tko_pools.specs.Configs.{in_order, numbers_below, targets_of};
+ghost use Rattle.tko_pools.specs.Reasons.{max_servers};
+
+use super::Config;
+use crate::numbering::Addresses;
+use crate::route::DEFAULT_EXPTIME;
+use std::alloc::Global;
+use tko_bytes::NoMemory;
+
+impl Config {
+    /// The configuration of servers without pools: every key has all of them as its targets, in the
+    /// order of these addresses.
+    pub fn in_order(alloc: Global, addresses: Vec<String>) -> Result<Config, NoMemory>
+        requires few { length addresses.items ≤ max_servers }
+        ensures value { IfOk result (λ config.
+            config ≡ in_order (map string_bytes addresses.items)) }
+        ensures targets { IfOk result (λ config. (key : List ℕ) →
+            targets_of config key ≡ numbers_below (length addresses.items)) }
+    {
+        Ok(Config {
+            children: children_in_order(alloc, addresses.len())?,
+            addresses: Addresses::of(addresses),
+            failover_exptime: DEFAULT_EXPTIME,
+        })
+    }
+}
+
+/// So many children, each of one server.
+
+fn children_in_order(alloc: Global, count: usize) -> Result<Vec<Vec<usize>>, NoMemory>
+    ensures { IfOk result (λ children. map (λ child. child.items) children.items
+        ≡ map (λ number. number ∷ []) (numbers_below count)) }
+{
+    let mut children = Vec::with_capacity(alloc, count)?;
+    for number in 0..count {
+        children.push(vec![in alloc; number]?)?;
+    }
+    Ok(children)
+}
