@@ -78,7 +78,7 @@ owns_after-names (Hard a) (Soft b) stamp number owned = sym (eq-eqb b number (ow
 owns_after-names (Hard a) (Hard b) stamp number owned = sym (eq-eqb b number (owned b refl))
 
 -- a lost exchange leaves what is owned
-owns_after-lost : (old new : Mark) (left : Word) (owned : Bool) → owns_after (kind_of_exchange old new) false left owned ≡ owned
+pub owns_after-lost : (old new : Mark) (left : Word) (owned : Bool) → owns_after (kind_of_exchange old new) false left owned ≡ owned
 owns_after-lost (Up a) (Up b) left owned = refl
 owns_after-lost (Up a) (Soft b) left owned = refl
 owns_after-lost (Up a) (Hard b) left owned = refl
@@ -111,7 +111,7 @@ AreOwned-quiet : (past : List Moment) (step : StepTaken) (servers : List ServerS
     → AreOwned past servers threads → AreOwned (Took step ∷ past) servers threads
 AreOwned-quiet past step servers threads quiet owned thread server = quiet thread server ∙ owned thread server
 
-cond_same : {X : Type 0} (test : Bool) (x y : X) → y ≡ x → cond test y x ≡ x
+pub cond_same : {X : Type 0} (test : Bool) (x y : X) → y ≡ x → cond test y x ≡ x
 cond_same true x y e = e
 cond_same false x y e = refl
 
@@ -164,7 +164,7 @@ AreOwned-wrote past step servers threads thread number server new by at of_kind 
     subst P (sym (get_or-set_other servers server place new none elsewhere)) (cond-false test after has false_test ∙ owned other place))
     (cases_eq place server)
 
-number-after-step : (call : Call) (decision : Decision) → number_of (state_after call decision) ≡ Some call.number
+pub number-after-step : (call : Call) (decision : Decision) → number_of (state_after call decision) ≡ Some call.number
 number-after-step call (Goes lost phase) = refl
 number-after-step call (Answers answer) = refl
 

@@ -33,13 +33,13 @@ pub record IsSound (s : Settings) (softs thread : ℕ) (mark : Mark) (stamp : �
   pub own : owner_of mark ≡ Some thread → given.reply ≢ reply.Worn
 
 -- a reply that says neither full, worn nor contended
-abbrev is_plain : Reply → Bool
+abbrev pub is_plain : Reply → Bool
 is_plain reply.Full = false
 is_plain reply.Worn = false
 is_plain reply.Contended = false
 is_plain _ = true
 
-plain≢ : (answer other : Reply) → is_plain answer ≡ true → is_plain other ≡ false → answer ≢ other
+pub plain≢ : (answer other : Reply) → is_plain answer ≡ true → is_plain other ≡ false → answer ≢ other
 plain≢ answer other plain not_plain same = let e = ap is_plain same in cc
 
 -- a change to a mark that isn't soft, or where one more soft mark is allowed

@@ -3,6 +3,7 @@ pub mod Core
 pub mod FineCore
 pub mod FineInvariant
 pub mod FineLegal
+pub mod FineLost
 pub mod FineRuns
 pub mod FineSafe
 pub mod FineTable

@@ -4,6 +4,7 @@ ghost use Rattle.tko_model.specs.Tracker.{opened};
 ghost use Rattle.tko_steps.specs.FineCore.{abstract_of, settings_of};
 ghost use Rattle.tko_steps.specs.FineInvariant.{IsCore};
 ghost use Rattle.tko_steps.specs.FineLegal.{ChangesAreOwn, ChangesAtMostOnce, IsChain, IsFullAtLimit, IsLegal};
+ghost use Rattle.tko_steps.specs.FineLost.{ExpectsWhatItSaw, HasLostEachTry, LosesToOthers};
 ghost use Rattle.tko_steps.specs.FineRuns.{InEveryRun, calls_of};
 ghost use Rattle.tko_steps.specs.FineSafe.{CountsSlots, HasDistinctNumbers, HasOneResponsible, OwnsItsMarks};
 
@@ -20,14 +21,20 @@ pub fn fine_every_run()
 {}
 
 /// Over every list of turns, from the core as it opens under settings in range: each answered call
-/// has the sequential tracker's reply and change at one of its own steps, or is answered Contended
-/// and changed nothing; a call is answered Full only at the limit; and nothing but own steps of
-/// calls changes a mark. That a Contended call lost every try is not stated here.
+/// has the sequential tracker's reply and change at one of its own steps, or lost every try to other
+/// threads and changed nothing; a call is answered Full only at the limit; and nothing but own steps
+/// of calls changes a mark.
 pub fn fine_every_call()
     ensures legal { InEveryRun (λ s w. All (IsLegal s) (calls_of w.past)) }
     ensures once { InEveryRun (λ s w.
         All (λ call. ChangesAtMostOnce call.steps) (calls_of w.past)) }
     ensures full { InEveryRun (λ s w. All (IsFullAtLimit s) (calls_of w.past)) }
+
+    // the tries of a call
+    ensures lost { InEveryRun (λ s w. All (HasLostEachTry s) (calls_of w.past)) }
+    ensures expected { InEveryRun (λ s w.
+        All (λ call. ExpectsWhatItSaw s call.steps) (calls_of w.past)) }
+    ensures others { InEveryRun LosesToOthers }
 
     // the abstract states, one after another
     ensures chain { InEveryRun (λ s w. IsChain (opened s).servers w.past (abstract_of w.core)) }
