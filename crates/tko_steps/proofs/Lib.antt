@@ -10,8 +10,10 @@ pub mod FineFirstLookLemmas
 pub mod FineLegalLemmas
 pub mod FineLoserLemmas
 pub mod FineLostLemmas
+pub mod FineNumberLemmas
 pub mod FineOtherLemmas
 pub mod FineOwnLemmas
+pub mod FineOwnerLemmas
 pub mod FineRunLemmas
 pub mod FineStartLemmas
 pub mod FineTableLemmas

@@ -3,10 +3,12 @@
 -- steps are spoken of.
 use Rattle.std.specs.Prelude.{◌≡◌, ◌≢◌, List, [], ◌∷◌, ◌++◌, ◌⊎◌, All, Some, None}
 use Rattle.tko_model.specs.declared.mark.Reply.{Reply}
-use Rattle.tko_model.specs.declared.mark.Reply.TheVariants.{Contended, Full}
+use Rattle.tko_model.specs.declared.mark.Reply.TheVariants.{Contended, Full, Worn}
 use Rattle.tko_model.specs.declared.settings.Settings.{Settings}
 use Rattle.tko_model.specs.declared.state.ServerState.{ServerState}
 use Rattle.tko_model.specs.Tracker.{Tracker, after, reply_of, softs}
+use Rattle.tko_steps.specs.Core.{IsOwner}
+use Rattle.tko_steps.specs.FineCore.{CoreState, number_of, thread_at}
 use Rattle.tko_steps.specs.FineRuns.{Began, Call, Moment, OwnStep, StepTaken, Took, calls_of, own_step}
 
 -- the sequential tracker in this abstract state
@@ -59,6 +61,19 @@ pub record IsFullAt (s : Settings) (call : Call) : Type 0 where
 -- a call is answered Full only at the limit
 abbrev pub IsFullAtLimit : Settings → Call → Type 0
 IsFullAtLimit s call = call.answer ≡ Some Full → IsFullAt s call
+
+-- a thread that finds its own mark on the server is not answered that the server is worn, or that
+-- it lost every try
+abbrev pub IsOwnersAnswer : Call → Type 0
+IsOwnersAnswer call =
+    All
+    (λ own. IsOwner own.step.before call.number call.server →
+    (call.answer ≢ Some Worn) × (call.answer ≢ Some Contended))
+    call.steps
+
+-- the call is under the number that its thread drew
+abbrev pub IsUnderNumber : CoreState → Call → Type 0
+IsUnderNumber core call = number_of (thread_at core call.thread) ≡ Some call.number
 
 -- The abstract states of a run.
 

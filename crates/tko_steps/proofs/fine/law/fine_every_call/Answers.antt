@@ -9,6 +9,8 @@ use Rattle.tko_steps.proofs.FineLegalLemmas.{IsSoundCall}
 use Rattle.tko_steps.proofs.FineLoserLemmas.{LosesToOthers-run}
 use Rattle.tko_steps.proofs.FineLostLemmas.{IsTried}
 use Rattle.tko_steps.proofs.FineOtherLemmas.{TriedCalls-run}
+use Rattle.tko_steps.proofs.FineNumberLemmas.{Numbers-run}
+use Rattle.tko_steps.proofs.FineOwnerLemmas.{OwnersAnswers-run}
 use Rattle.tko_steps.proofs.fine.law.fine_every_call.Goals as goal
 
 pub returns-clause-legal : goal.returns-clause-legal
@@ -39,3 +41,9 @@ returns-clause-expected c = λ s ranges turns.
 
 pub returns-clause-others : goal.returns-clause-others
 returns-clause-others c = LosesToOthers-run
+
+pub returns-clause-owners : goal.returns-clause-owners
+returns-clause-owners c = OwnersAnswers-run
+
+pub returns-clause-numbers : goal.returns-clause-numbers
+returns-clause-numbers c = Numbers-run
