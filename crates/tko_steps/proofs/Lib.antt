@@ -4,6 +4,7 @@ pub mod CoreLemmas
 pub mod FineCallLemmas
 pub mod FineChainLemmas
 pub mod FineCoreLemmas
+pub mod FineCostLemmas
 pub mod FineEveryCallLemmas
 pub mod FineFamilyLemmas
 pub mod FineFirstLookLemmas

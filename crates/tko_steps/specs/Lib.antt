@@ -1,6 +1,7 @@
 pub mod Alone
 pub mod Core
 pub mod FineCore
+pub mod FineCost
 pub mod FineInvariant
 pub mod FineLegal
 pub mod FineLost

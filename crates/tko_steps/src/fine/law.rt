@@ -2,6 +2,7 @@
 ghost use Rattle.std.specs.Prelude.{◌≡◌, All};
 ghost use Rattle.tko_model.specs.Tracker.{opened};
 ghost use Rattle.tko_steps.specs.FineCore.{abstract_of, settings_of};
+ghost use Rattle.tko_steps.specs.FineCost.{IsShort};
 ghost use Rattle.tko_steps.specs.FineInvariant.{IsCore};
 ghost use Rattle.tko_steps.specs.FineLegal.{ChangesAreOwn, ChangesAtMostOnce, IsChain, IsFullAtLimit, IsLegal, IsOwnersAnswer, IsUnderNumber};
 ghost use Rattle.tko_steps.specs.FineLost.{ExpectsWhatItSaw, HasLostEachTry, LosesToOthers};
@@ -31,6 +32,7 @@ pub fn fine_every_call()
     ensures full { InEveryRun (λ s w. All (IsFullAtLimit s) (calls_of w.past)) }
     ensures owners { InEveryRun (λ s w. All IsOwnersAnswer (calls_of w.past)) }
     ensures numbers { InEveryRun (λ s w. All (IsUnderNumber w.core) (calls_of w.past)) }
+    ensures steps { InEveryRun (λ s w. All (IsShort s) (calls_of w.past)) }
 
     // the tries of a call
     ensures lost { InEveryRun (λ s w. All (HasLostEachTry s) (calls_of w.past)) }

@@ -9,6 +9,7 @@ use Rattle.tko_steps.proofs.FineLegalLemmas.{IsSoundCall}
 use Rattle.tko_steps.proofs.FineLoserLemmas.{LosesToOthers-run}
 use Rattle.tko_steps.proofs.FineLostLemmas.{IsTried}
 use Rattle.tko_steps.proofs.FineOtherLemmas.{TriedCalls-run}
+use Rattle.tko_steps.proofs.FineCostLemmas.{ShortCalls-run}
 use Rattle.tko_steps.proofs.FineNumberLemmas.{Numbers-run}
 use Rattle.tko_steps.proofs.FineOwnerLemmas.{OwnersAnswers-run}
 use Rattle.tko_steps.proofs.fine.law.fine_every_call.Goals as goal
@@ -47,3 +48,6 @@ returns-clause-owners c = OwnersAnswers-run
 
 pub returns-clause-numbers : goal.returns-clause-numbers
 returns-clause-numbers c = Numbers-run
+
+pub returns-clause-steps : goal.returns-clause-steps
+returns-clause-steps c = ShortCalls-run
