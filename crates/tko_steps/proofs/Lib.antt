@@ -1,6 +1,7 @@
 pub mod AloneLemmas
 pub mod CallLemmas
 pub mod CoreLemmas
+pub mod FineAloneLemmas
 pub mod FineCallLemmas
 pub mod FineChainLemmas
 pub mod FineCoreLemmas
@@ -16,6 +17,7 @@ pub mod FineOtherLemmas
 pub mod FineOwnLemmas
 pub mod FineOwnerLemmas
 pub mod FineRunLemmas
+pub mod FineSoloLemmas
 pub mod FineStartLemmas
 pub mod FineTableLemmas
 pub mod FineThreadLemmas

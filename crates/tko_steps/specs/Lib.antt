@@ -1,5 +1,6 @@
 pub mod Alone
 pub mod Core
+pub mod FineAlone
 pub mod FineCore
 pub mod FineCost
 pub mod FineInvariant

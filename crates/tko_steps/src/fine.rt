@@ -15,7 +15,7 @@ mod words;
 
 use crate::BeginFault;
 use crate::fine::words::Words;
-pub use law::{fine_every_call, fine_every_run};
+pub use law::{fine_every_call, fine_every_run, fine_one_thread_alone};
 pub use phase::{Call, Phase, Slots, ThreadState};
 use std::alloc::Global;
 use std::marker::Model;

@@ -1,13 +1,16 @@
 //! The law of every run of the fine core.
-ghost use Rattle.std.specs.Prelude.{◌≡◌, All};
+ghost use Rattle.std.specs.Prelude.{◌≡◌, ◌≢◌, Some, All};
 ghost use Rattle.tko_model.specs.Tracker.{opened};
+ghost use Rattle.tko_steps.specs.FineAlone.{InEveryRunAlone, IsIdleUnlessOf, Replays};
 ghost use Rattle.tko_steps.specs.FineCore.{abstract_of, settings_of};
 ghost use Rattle.tko_steps.specs.FineCost.{IsShort};
 ghost use Rattle.tko_steps.specs.FineInvariant.{IsCore};
-ghost use Rattle.tko_steps.specs.FineLegal.{ChangesAreOwn, ChangesAtMostOnce, IsChain, IsFullAtLimit, IsLegal, IsOwnersAnswer, IsUnderNumber};
+ghost use Rattle.tko_steps.specs.FineLegal.{ChangesAreOwn, ChangesAtMostOnce, IsChain, IsFullAtLimit, IsLegal, IsOwnersAnswer, IsUnderNumber, tracker_in};
 ghost use Rattle.tko_steps.specs.FineLost.{ExpectsWhatItSaw, HasLostEachTry, LosesToOthers};
 ghost use Rattle.tko_steps.specs.FineRuns.{InEveryRun, calls_of};
 ghost use Rattle.tko_steps.specs.FineSafe.{CountsSlots, HasDistinctNumbers, HasOneResponsible, OwnsItsMarks};
+
+use tko_model::Reply;
 
 /// Over every list of turns, from the core as it opens under settings in range: soft marks never
 /// exceed the limit, every slot that is held is held by one call, each thread owns exactly the
@@ -43,4 +46,16 @@ pub fn fine_every_call()
     // the abstract states, one after another
     ensures chain { InEveryRun (λ s w. IsChain (opened s).servers w.past (abstract_of w.core)) }
     ensures changes { InEveryRun (λ s w. ChangesAreOwn w.past) }
+{}
+
+/// Over every list of turns in which one thread alone takes steps of calls: the sequential tracker,
+/// as it opens under settings in range, does the thread's calls one after another with the same
+/// replies, and no call lost every try. Other threads may have enrolled, and may have begun calls
+/// that took no step.
+pub fn fine_one_thread_alone()
+    ensures calls { InEveryRunAlone (λ s thread w. All (IsIdleUnlessOf thread) (calls_of w.past)) }
+    ensures replies { InEveryRunAlone (λ s thread w.
+        Replays (opened s) (calls_of w.past) (tracker_in s (abstract_of w.core))) }
+    ensures contended { InEveryRunAlone (λ s thread w.
+        All (λ call. call.answer ≢ Some Reply.Contended) (calls_of w.past)) }
 {}
