@@ -3,6 +3,47 @@ ghost use Rattle.std.specs.Prelude.{◌≡◌, ◌↔◌, [], ◌∷◌, IsTrue,
 ghost use Rattle.tko_bytes.specs.Words.{SplitsWord, unspaced, words};
 
 use memchr::memchr;
+use std::marker::Model;
+
+/// The words of a line that are still to be read. Contracts see the list of them.
+#[derive(Drop)]
+pub struct Words<'a> {
+    rest: &'a [u8],
+}
+
+impl<'a> Model for Words<'a> {
+    ghost use Rattle.std.specs.Prelude.{List, ℕ};
+    ghost use Rattle.tko_bytes.specs.Words.{words};
+
+    ghost Value = { List (List ℕ) };
+
+    ghost view = { λ w. words w.rest.now };
+}
+
+impl<'a> Words<'a> {
+    /// All words of a line.
+    pub fn of(line: &'a [u8]) -> Words<'a>
+        ensures { result ≡ words line.now }
+    {
+        Words { rest: line }
+    }
+
+    /// The next word, if there is one.
+    pub fn next(&mut self) -> Option<&'a [u8]>
+        ensures { MatchOption result (self.old ≡ []) (λ word. self.old ≡ word.now ∷ self.new) }
+    {
+        let (word, rest) = split_word(self.rest)?;
+        self.rest = rest;
+        Some(word)
+    }
+
+    /// Whether no word is left.
+    pub fn is_done(&self) -> bool
+        ensures { IsTrue result ↔ (self.now ≡ []) }
+    {
+        split_word(self.rest).is_none()
+    }
+}
 
 /// The first word, and what follows it.
 pub fn split_word(line: &[u8]) -> Option<(&[u8], &[u8])>

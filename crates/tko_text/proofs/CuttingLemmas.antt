@@ -5,12 +5,9 @@ use Rattle.std.proofs.lemmas.List.{append_cancel_left, drop-append-le, get_or_ap
 use Rattle.std.proofs.lemmas.List.Elements.{All-tail}
 use Rattle.tko_text.specs.declared.item.Item.{Item}
 use Rattle.tko_text.specs.declared.item.Item.TheVariants as item
-use Rattle.tko_text.specs.declared.request.Request.{Request}
-use Rattle.tko_text.specs.declared.request.Request.TheVariants as request
 use Rattle.tko_text.specs.Commands.{ParsedLine, Asks, AwaitsData, Refused, parsed}
 use Rattle.tko_bytes.specs.Lines.{line_feed, carriage_return, crlf, HasNoEnd, content}
 use Rattle.tko_text.specs.Lines.{IsLine, IsTooLong}
-use Rattle.tko_text.specs.Requests.{command_of}
 use Rattle.tko_text.specs.Reading.{After, Next, Pass, PassLine, Never, Reading, after_wrong, IsWrongEnd, Completes, Decides, by_line, by_length, passed, fed, start, Emits, NeedsMore, EmitsEach, FeedingKeeps, OneReading}
 
 passed-enough : (n : ℕ) (xs : List ℕ) → n ≤ length xs
@@ -85,7 +82,7 @@ Emits-fed from emitted to piece (text, left, after, is, decides, goes) = (
 )
 
 -- two lines at the front of one text are one
-same_line : (a b x y : List ℕ) → HasNoEnd a → HasNoEnd b → a ++ line_feed ∷ x ≡ b ++ line_feed ∷ y
+pub same_line : (a b x y : List ℕ) → HasNoEnd a → HasNoEnd b → a ++ line_feed ∷ x ≡ b ++ line_feed ∷ y
     → (a ≡ b) × (x ≡ y)
 same_line [] [] x y p q e = (refl, cc)
 same_line [] (c ∷ b) x y p q e = let c_is : c ≡ line_feed = cc in absurd (q 0 0 (omega arith) c_is)
@@ -108,16 +105,12 @@ same_front (c ∷ a) (d ∷ b) x y l e =
     (cc, rest.1)
 
 -- a whole line is no beginning of a line that is too long
-line_is_short : (a p x y : List ℕ) → IsLine a → IsTooLong p → a ++ line_feed ∷ x ≡ p ++ y → ⊥
+pub line_is_short : (a p x y : List ℕ) → IsLine a → IsTooLong p → a ++ line_feed ∷ x ≡ p ++ y → ⊥
 line_is_short a p x y line long e =
     let inside : length a < length p = omega (arith, line.within, long.beyond) in
     long.unended (length a) 0 inside
     (sym (get_or_append_left p y 0 (length a) inside) ∙ ap (λ xs. get_or xs (length a) 0) (sym e)
     ∙ get_or_at a line_feed x 0 (length a) refl)
-
--- a command is one request of the code
-pub same_request : (r t : Request) → command_of r ≡ command_of t → r ≡ t
-same_request (request.Get k) (request.Get l) e = cc
 
 -- CR LF is no wrong end of data
 wrong_end : (end x y : List ℕ) (a : After) → IsWrongEnd end a → crlf ++ x ≡ end ++ y → ⊥
@@ -147,7 +140,7 @@ same_wrong_end (c ∷ k ∷ l ∷ more) q x y a b v w e = absurd v
 same_completion : (s : ParsedLine) (p q x y : List ℕ) (i j : Item) (a b : After)
     → Completes s p i a → Completes s q j b → p ++ x ≡ q ++ y → (p ≡ q) × (i ≡ j) × (a ≡ b)
 same_completion (Asks c) p q x y (item.Request r) (item.Request t) a b v w e =
-    (v.0 ∙ sym w.0, ap (λ k. item.Request k) (same_request r t (v.1 ∙ sym w.1)), v.2 ∙ sym w.2)
+    (v.0 ∙ sym w.0, ap (λ k. item.Request k) (v.1 ∙ sym w.1), v.2 ∙ sym w.2)
 same_completion (Asks c) p q x y (item.Request r) (item.Fault g) a b v w e = absurd w
 same_completion (Asks c) p q x y (item.Fault f) j a b v w e = absurd v
 same_completion (Refused f n) p q x y (item.Fault g) (item.Fault h) a b v w e =
@@ -158,7 +151,7 @@ same_completion (AwaitsData n c) p q x y (item.Request r) (item.Request t) a b (
     let value = same_front m k (crlf ++ x) (crlf ++ y) (ml ∙ sym kl)
     (sym (append_assoc m crlf x) ∙ ap (λ z. z ++ x) (sym mp) ∙ e ∙ ap (λ z. z ++ y) kq ∙ append_assoc k crlf y) in (
       mp ∙ ap (λ z. z ++ crlf) value.0 ∙ sym kq,
-      ap (λ z. item.Request z) (same_request r t (mr ∙ ap c value.0 ∙ sym kr)),
+      ap (λ z. item.Request z) (mr ∙ ap c value.0 ∙ sym kr),
       ma ∙ sym ka,
     )
 same_completion (AwaitsData n c) p q x y (item.Request r) (item.Fault g) a b (m, ml, mp, mr, ma) (k, end, kl, kq, kw, kg) e =

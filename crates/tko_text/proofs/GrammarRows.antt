@@ -1,99 +1,257 @@
--- Rows of the grammar, computed: what some lines say, also of commands that aren't taken yet.
-use Rattle.std.proofs.Common.{◌≡◌, [], ◌∷◌, codes, refl, pos, negsuc, true, false}
+-- Rows of the grammar, computed: what some lines and texts are.
+use Rattle.std.proofs.Common.{◌≡◌, ◌≢◌, ℕ, [], ◌∷◌, ◌++◌, List, codes, length, refl, pos, negsuc, true, false, inl, arith}
 use Rattle.std.specs.Fmt.{digits}
-use Rattle.tko_text.specs.declared.fault.TextFault.TheVariants.{UnknownCommand, BadLine, BadKey, TooLarge}
-use Rattle.tko_text.specs.Commands.{parsed_form, bad_line, Stored, Compared, Deleted, Counted, Touched, Alone, Followed, Asks, AwaitsData, Refused, Next, Pass, parsed, form_of}
+use Rattle.std.specs.List.{list_all}
+use Rattle.std.specs.Prelude.{replicate, not, nat_le, ◌&&◌, ◌==◌}
+use Rattle.std.proofs.lemmas.Bool.{and_parts, leb-true}
+use Rattle.std.proofs.lemmas.Bool.Decides.{Decides-eqb, Decides-not}
+use Rattle.std.proofs.lemmas.List.Elements.{All-weaker}
+use Rattle.std.proofs.lemmas.List.Sums.{AllPass-from_list_all}
+use Rattle.tko_text.specs.declared.fault.TextFault.TheVariants.{UnknownCommand, BadKey, BadChunk, TooLarge}
+use Rattle.tko_text.specs.declared.item.Item.TheVariants as item
+use Rattle.tko_text.specs.declared.request.Request.TheVariants.{Get, Gets, Store, Cas, Delete, Incr, Decr, Touch, Version, Quit, StatsTko}
+use Rattle.tko_text.specs.declared.request.Verb.TheVariants.{Set, Add, Replace, Append, Prepend}
+use Rattle.tko_bytes.specs.Lines.{content, line_feed}
 use Rattle.tko_bytes.specs.Numbers.{number_of}
+use Rattle.tko_text.specs.Commands.{bad_line, Asks, AwaitsData, Refused, Next, Pass, parsed, form_of}
 use Rattle.tko_text.specs.Keys.{is_key}
-use Rattle.tko_bytes.specs.Lines.{content}
-use Rattle.tko_text.specs.Requests.{Set, Store, Cas, Incr, Touch, Version, StatsTko, Get, printed}
-use Rattle.tko_bytes.specs.Words.{words}
+use Rattle.tko_text.specs.Limits.{line_limit}
+use Rattle.tko_text.specs.Lines.{IsLine}
+use Rattle.tko_text.specs.Reading.{Emits, fed, start}
+use Rattle.tko_text.specs.Requests.{request_text}
+use Rattle.tko_text.proofs.DataLemmas.{Emits-whole, Emits-wrong, Emits-wrong_line}
+use Rattle.tko_text.proofs.ReadingLemmas.{Emits-line}
+
+-- Requests
 
 get_of_one_key : parsed (content (codes "  get   a \r")) ≡ Asks (Get (codes "a" ∷ []))
 unfolding is_key form_of
 get_of_one_key = refl
 
-get_of_two_keys : parsed (codes "get a b") ≡ Refused BadLine Next
+gets_of_two_keys : parsed (codes "gets a b") ≡ Asks (Gets (codes "a" ∷ codes "b" ∷ []))
 unfolding is_key form_of
-get_of_two_keys = refl
+gets_of_two_keys = refl
+
+set_with_zeros : parsed (codes "set a  0 -0  005 noreply ")
+    ≡ AwaitsData 5 (λ value. Store Set (record { key = codes "a"; flags = 0; expiry = pos 0; value = value }) true)
+unfolding is_key number_of form_of
+set_with_zeros = refl
+
+add_is_stored : parsed (codes "add a 4294967295 0 1048576")
+    ≡ AwaitsData 1048576 (λ value. Store Add (record { key = codes "a"; flags = 4294967295; expiry = pos 0; value = value }) false)
+unfolding is_key number_of form_of
+add_is_stored = refl
+
+replace_is_stored : parsed (codes "replace a 4294967295 0 1048576")
+    ≡ AwaitsData 1048576 (λ value. Store Replace (record { key = codes "a"; flags = 4294967295; expiry = pos 0; value = value }) false)
+unfolding is_key number_of form_of
+replace_is_stored = refl
+
+append_is_stored : parsed (codes "append a 4294967295 0 1048576")
+    ≡ AwaitsData 1048576 (λ value. Store Append (record { key = codes "a"; flags = 4294967295; expiry = pos 0; value = value }) false)
+unfolding is_key number_of form_of
+append_is_stored = refl
+
+prepend_is_stored : parsed (codes "prepend a 4294967295 0 1048576")
+    ≡ AwaitsData 1048576 (λ value. Store Prepend (record { key = codes "a"; flags = 4294967295; expiry = pos 0; value = value }) false)
+unfolding is_key number_of form_of
+prepend_is_stored = refl
+
+cas_without_noreply : parsed (codes "cas a 0 0 2 9")
+    ≡ AwaitsData 2 (λ value. Cas (record { key = codes "a"; flags = 0; expiry = pos 0; value = value }) 9 false)
+unfolding is_key number_of form_of
+cas_without_noreply = refl
+
+delete_silently : parsed (codes "delete a noreply") ≡ Asks (Delete (codes "a") true)
+unfolding is_key form_of
+delete_silently = refl
+
+incr_greatest : parsed (codes "incr a 18446744073709551615") ≡ Asks (Incr (codes "a") 18446744073709551615 false)
+unfolding is_key number_of form_of
+incr_greatest = refl
+
+decr_with_zeros : parsed (codes "decr a 007 noreply") ≡ Asks (Decr (codes "a") 7 true)
+unfolding is_key number_of form_of
+decr_with_zeros = refl
+
+touch_least : parsed (codes "touch a -9223372036854775808 noreply") ≡ Asks (Touch (codes "a") (negsuc 9223372036854775807) true)
+unfolding is_key number_of form_of
+touch_least = refl
+
+version : parsed (codes "version") ≡ Asks Version
+unfolding form_of
+version = refl
+
+quit : parsed (codes " quit ") ≡ Asks Quit
+unfolding form_of
+quit = refl
+
+stats_tko : parsed (codes "stats tko") ≡ Asks StatsTko
+unfolding form_of
+stats_tko = refl
+
+-- Faults
 
 no_word : parsed (codes "  ") ≡ Refused UnknownCommand Next
 no_word = refl
 
--- a version request isn't taken yet
-version_so_far : parsed (codes "version") ≡ Refused UnknownCommand Next
+upper_case : parsed (codes "GET a") ≡ Refused UnknownCommand Next
 unfolding form_of
-version_so_far = refl
+upper_case = refl
 
-set_with_zeros : parsed_form (Stored Set) (words (codes " a  0 -0  005 noreply "))
-    ≡ AwaitsData 5 (λ value. Store Set (record { key = codes "a"; flags = 0; expiry = pos 0; value = value }) true)
-unfolding is_key number_of
-set_with_zeros = refl
+stats_alone : parsed (codes "stats") ≡ Refused UnknownCommand Next
+unfolding form_of
+stats_alone = refl
 
-set_plus_expiry : parsed_form (Stored Set) (words (codes "a 0 +5 5")) ≡ bad_line
-unfolding is_key number_of
-set_plus_expiry = refl
-
-set_lone_minus : parsed_form (Stored Set) (words (codes "a 0 - 5")) ≡ bad_line
-unfolding is_key number_of
-set_lone_minus = refl
-
-set_greatest_data : parsed_form (Stored Set) (words (codes "a 4294967295 1 1048576"))
-    ≡ AwaitsData 1048576 (λ value. Store Set (record { key = codes "a"; flags = 4294967295; expiry = pos 1; value = value }) false)
-unfolding is_key number_of
-set_greatest_data = refl
-
-set_too_large : parsed_form (Stored Set) (words (codes "a 0 -7 1048577")) ≡ Refused TooLarge (Pass 1048579)
-unfolding is_key number_of
-set_too_large = refl
-
-set_flags_past_bound : parsed_form (Stored Set) (words (codes "a 4294967296 0 1")) ≡ bad_line
-unfolding is_key number_of
-set_flags_past_bound = refl
-
--- a bad key stands before a size that is too large
-set_bad_key : parsed_form (Stored Set) (words (127 ∷ codes " 0 0 1048577")) ≡ Refused BadKey (Pass 1048579)
-unfolding is_key number_of
-set_bad_key = refl
-
-set_other_last_word : parsed_form (Stored Set) (words (codes "a 0 0 1 reply")) ≡ bad_line
-unfolding is_key number_of
-set_other_last_word = refl
-
-cas_without_noreply : parsed_form Compared (words (codes "a 0 0 2 9"))
-    ≡ AwaitsData 2 (λ value. Cas (record { key = codes "a"; flags = 0; expiry = pos 0; value = value }) 9 false)
-unfolding is_key number_of
-cas_without_noreply = refl
-
-delete_other_word : parsed_form Deleted (words (codes "a x")) ≡ bad_line
-unfolding is_key number_of
-delete_other_word = refl
-
-incr_greatest : parsed_form (Counted Incr) (words (codes "a 18446744073709551615"))
-    ≡ Asks (Incr (codes "a") 18446744073709551615 false)
-unfolding is_key number_of
-incr_greatest = refl
-
-incr_past_bound : parsed_form (Counted Incr) (words (codes "a 18446744073709551616")) ≡ bad_line
-unfolding is_key number_of
-incr_past_bound = refl
-
-touch_least : parsed_form Touched (words (codes "a -9223372036854775808 noreply"))
-    ≡ Asks (Touch (codes "a") (negsuc 9223372036854775807) true)
-unfolding is_key number_of
-touch_least = refl
-
-touch_past_bound : parsed_form Touched (words (codes "a 9223372036854775808")) ≡ bad_line
-unfolding is_key number_of
-touch_past_bound = refl
-
-version_with_a_word : parsed_form (Alone Version) (words (codes "x")) ≡ bad_line
-version_with_a_word = refl
-
-stats_with_more : parsed_form (Followed (codes "tko") StatsTko) (words (codes "tko x")) ≡ Refused UnknownCommand Next
+stats_with_more : parsed (codes "stats tko x") ≡ Refused UnknownCommand Next
+unfolding form_of
 stats_with_more = refl
 
-printed-set : printed (Store Set (record { key = codes "k"; flags = 7; expiry = negsuc 0; value = codes "xy" }) true)
+get_without_key : parsed (codes "get") ≡ bad_line
+unfolding form_of
+get_without_key = refl
+
+version_with_more : parsed (codes "version x") ≡ bad_line
+unfolding form_of
+version_with_more = refl
+
+delete_with_time : parsed (codes "delete a 0") ≡ bad_line
+unfolding form_of
+delete_with_time = refl
+
+misspelled_noreply : parsed (codes "set a 0 0 1 norply") ≡ bad_line
+unfolding is_key number_of form_of
+misspelled_noreply = refl
+
+cas_without_number : parsed (codes "cas a 0 0 2") ≡ bad_line
+unfolding is_key number_of form_of
+cas_without_number = refl
+
+set_plus_expiry : parsed (codes "set a 0 +5 5") ≡ bad_line
+unfolding is_key number_of form_of
+set_plus_expiry = refl
+
+set_lone_minus : parsed (codes "set a 0 - 5") ≡ bad_line
+unfolding is_key number_of form_of
+set_lone_minus = refl
+
+flags_past_limit : parsed (codes "set a 4294967296 0 1") ≡ bad_line
+unfolding is_key number_of form_of
+flags_past_limit = refl
+
+amount_past_limit : parsed (codes "incr a 18446744073709551616") ≡ bad_line
+unfolding is_key number_of form_of
+amount_past_limit = refl
+
+expiry_past_limit : parsed (codes "touch a 9223372036854775808") ≡ bad_line
+unfolding is_key number_of form_of
+expiry_past_limit = refl
+
+size_past_limit : parsed (codes "set a 0 0 18446744073709551616") ≡ bad_line
+unfolding is_key number_of form_of
+size_past_limit = refl
+
+tab_in_a_key : parsed (codes "get a\tb") ≡ Refused BadKey Next
+unfolding is_key form_of
+tab_in_a_key = refl
+
+second_key_is_bad : parsed (codes "get a " ++ 127 ∷ []) ≡ Refused BadKey Next
+unfolding is_key form_of
+second_key_is_bad = refl
+
+key_of_251_bytes : parsed (codes "get " ++ replicate 251 97) ≡ Refused BadKey Next
+unfolding is_key form_of
+key_of_251_bytes = refl
+
+set_too_large : parsed (codes "set a 0 -7 1048577") ≡ Refused TooLarge (Pass 1048579)
+unfolding is_key number_of form_of
+set_too_large = refl
+
+-- the sum of the greatest size and 2 does not wrap
+set_of_greatest_size : parsed (codes "set a 0 0 18446744073709551615") ≡ Refused TooLarge (Pass 18446744073709551617)
+unfolding is_key number_of form_of
+set_of_greatest_size = refl
+
+-- Faults of one line, in their order
+
+unknown_before_bad_line : parsed (codes "sett a 0 + 1") ≡ Refused UnknownCommand Next
+unfolding form_of
+unknown_before_bad_line = refl
+
+bad_line_before_bad_key : parsed (codes "set " ++ 127 ∷ codes " 0 + 1") ≡ bad_line
+unfolding is_key number_of form_of
+bad_line_before_bad_key = refl
+
+bad_amount_before_bad_key : parsed (codes "incr " ++ 127 ∷ codes " x") ≡ bad_line
+unfolding is_key number_of form_of
+bad_amount_before_bad_key = refl
+
+bad_key_before_too_large : parsed (codes "set " ++ 127 ∷ codes " 0 0 1048577") ≡ Refused BadKey (Pass 1048579)
+unfolding is_key number_of form_of
+bad_key_before_too_large = refl
+
+-- Texts
+
+-- a line, by a test
+line_by : (before : List ℕ) → list_all (λ b. not (b == line_feed)) before && nat_le (length before) line_limit ≡ true → IsLine before
+line_by before test =
+    let parts = and_parts (list_all (λ b. not (b == line_feed)) before) (nat_le (length before) line_limit) test in record {
+      unended = All-weaker (λ b. not (b == line_feed) ≡ true) (λ b. b ≢ line_feed)
+          (λ b h. (Decides-not _ (Decides-eqb b line_feed)).0 h) before (AllPass-from_list_all (λ b. not (b == line_feed)) before parts.0);
+      within = leb-true (length before) line_limit parts.1;
+    }
+
+-- a bad chunk goes on to the first LF that follows the data
+bad_chunk_then_version : Emits (fed start (codes "set a 0 0 2\r\nxyz\r\nversion\r\n")) (item.Fault BadChunk) (fed start (codes "version\r\n"))
+unfolding is_key number_of form_of
+bad_chunk_then_version =
+    Emits-wrong (codes "set a 0 0 2\r") (codes "xyz\r\nversion\r\n") 2
+    (λ value. Store Set (record { key = codes "a"; flags = 0; expiry = pos 0; value = value }) false)
+    (line_by (codes "set a 0 0 2\r") refl) refl 3 (inl (refl, omega arith, λ e. omega (arith, e), λ e. omega (arith, e)))
+
+-- the LF right after the data of the wrong length ends the bad chunk, and is no line of its own
+bad_chunk_at_line_feed : Emits (fed start (codes "set a 0 0 2\nxy\nquit\n")) (item.Fault BadChunk) (fed start (codes "quit\n"))
+unfolding is_key number_of form_of
+bad_chunk_at_line_feed =
+    Emits-wrong_line (codes "set a 0 0 2") (codes "xy\nquit\n") 2
+    (λ value. Store Set (record { key = codes "a"; flags = 0; expiry = pos 0; value = value }) false)
+    (line_by (codes "set a 0 0 2") refl) refl 3 (refl, omega arith, refl)
+
+-- data are counted, so that an LF among them is data
+line_feed_in_data : Emits (fed start (codes "set a 0 0 2\nx\n\r\nget")) (item.Request (Store Set (record { key = codes "a"; flags = 0; expiry = pos 0; value = codes "x\n" }) false)) (fed start (codes "get"))
+unfolding is_key number_of form_of
+line_feed_in_data =
+    Emits-whole (codes "set a 0 0 2") (codes "x\n\r\nget") 2
+    (λ value. Store Set (record { key = codes "a"; flags = 0; expiry = pos 0; value = value }) false)
+    (line_by (codes "set a 0 0 2") refl) refl (omega arith, refl, refl)
+
+-- a bad key is followed by the next line once the data and their CR LF are skipped
+bad_key_with_data : Emits (fed start (codes "set a\tb 0 0 2\r\nxy\r\nquit\r\n")) (item.Fault BadKey) (fed start (codes "quit\r\n"))
+unfolding is_key number_of form_of
+bad_key_with_data =
+    Emits-line (codes "set a\tb 0 0 2\r") (codes "xy\r\nquit\r\n") (item.Fault BadKey) (Pass 4)
+    (line_by (codes "set a\tb 0 0 2\r") refl) (refl, refl, refl)
+
+-- so many bytes are skipped, in any pieces, and none of them is kept
+skipped_in_pieces : fed (fed (record { after = Pass 5; unread = [] }) (codes "abc")) (codes "degs") ≡ record { after = Next; unread = codes "gs" }
+skipped_in_pieces = refl
+
+-- an unfinished item counts with its line
+unfinished_data : length (fed (fed start (codes "set a 0 0 5\r\n")) (codes "he")).unread ≡ 15
+unfinished_data = refl
+
+-- Printed forms
+
+printed-set : request_text (Store Set (record { key = codes "k"; flags = 7; expiry = negsuc 0; value = codes "xy" }) true)
     ≡ codes "set k 7 -1 2 noreply\r\nxy\r\n"
-unfolding printed digits
+unfolding request_text digits
 printed-set = refl
+
+printed-cas : request_text (Cas (record { key = codes "k"; flags = 0; expiry = pos 0; value = [] }) 18446744073709551615 false)
+    ≡ codes "cas k 0 0 0 18446744073709551615\r\n\r\n"
+unfolding request_text digits
+printed-cas = refl
+
+printed-incr : request_text (Incr (codes "a") 7 false) ≡ codes "incr a 7\r\n"
+unfolding request_text digits
+printed-incr = refl

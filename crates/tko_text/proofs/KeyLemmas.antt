@@ -1,6 +1,6 @@
 -- The rule of keys as a test.
-use Rattle.std.proofs.Common.{◌≡◌, ℕ, true, false, List, Decides}
-use Rattle.std.proofs.lemmas.Bool.{le-leb, leb-true, and_parts, and_from, false_from_ne_true}
+use Rattle.std.proofs.Common.{◌≡◌, ℕ, Bool, IsTrue, true, false, List, Decides, sym, refl}
+use Rattle.std.proofs.lemmas.Bool.{false≢true, le-leb, leb-true, and_parts, and_from, false_from_ne_true}
 use Rattle.std.proofs.lemmas.Bool.Decides.{Decides-and, Decides-ltb, Decides-eqb, Decides-not}
 use Rattle.std.proofs.lemmas.List.Elements.{All-weaker}
 use Rattle.std.proofs.lemmas.List.Sums.{AllPass-from_list_all, list_all-from_AllPass}
@@ -31,3 +31,8 @@ IsKey-true bytes h =
 
 pub is_key-false : (bytes : List ℕ) → (IsKey bytes → ⊥) → is_key bytes ≡ false
 is_key-false bytes other = false_from_ne_true _ (λ h. other (IsKey-true bytes h))
+
+-- a test of the rule is the rule's test
+pub key_test : (b : Bool) (bytes : List ℕ) → (IsTrue b → IsKey bytes) → (IsKey bytes → IsTrue b) → b ≡ is_key bytes
+key_test true bytes to from = sym (is_key-true bytes (to refl))
+key_test false bytes to from = sym (is_key-false bytes (λ key. false≢true (from key)))

@@ -1,13 +1,21 @@
 mod GrammarRows
 pub mod BufferLemmas
-pub mod CommandLemmas
 pub mod CuttingLemmas
+pub mod DataLemmas
 pub mod GivesLemmas
+pub mod JoinedLemmas
 pub mod KeyLemmas
+pub mod LineLemmas
 pub mod PrintLemmas
+pub mod PrintedLemmas
+pub mod ReadAgainLemmas
 pub mod ReadingLemmas
+pub mod ResponseBodyLemmas
 pub mod ResponseLaws
 pub mod ResponseLemmas
 pub mod ResponseLineLemmas
 pub mod ResponseTextLemmas
+pub mod ResponseWordLemmas
 pub mod ResponseWriteLemmas
+pub mod SkipLemmas
+pub mod StepLemmas

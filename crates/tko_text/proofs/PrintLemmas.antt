@@ -1,75 +1,99 @@
--- The printed form of a request is read as that request.
-use Rattle.std.proofs.Common.{◌≡◌, ℕ, ◌≢◌, ◌-◌, eq-eqb, List, [], ◌∷◌, ◌++◌, length, drop, codes, refl, ap, sym, ◌∙◌, subst, arith, append_assoc, length-append, take_all}
-use Rattle.std.proofs.lemmas.Bool.{cond-true}
-use Rattle.std.proofs.lemmas.List.{drop_all, get_or_at, take_at}
-use Rattle.std.proofs.lemmas.List.Elements.{All-append, All-cons, All-nil, All-weaker}
-use Rattle.tko_text.specs.declared.item.Item.TheVariants as item
-use Rattle.tko_text.specs.declared.request.Request.TheVariants as request
-use Rattle.tko_text.specs.Commands.{Asks, Next, parsed, parsed_words}
-use Rattle.tko_text.specs.Keys.{IsKey, IsKeyByte}
-use Rattle.tko_bytes.specs.Lines.{line_feed, carriage_return, HasNoEnd, content}
-use Rattle.tko_text.specs.Lines.{IsLine}
-use Rattle.tko_text.specs.Reading.{by_line, Completes, Emits, ReadAgain}
-use Rattle.tko_text.specs.Requests.{Get, printed}
-use Rattle.tko_bytes.specs.Words.{space, words}
-use Rattle.tko_text.proofs.CommandLemmas.{parsed_words-get, parsed_keys-key}
-use Rattle.tko_bytes.proofs.WordLemmas.{words-run}
+-- The pieces of a printed request.
+use Rattle.std.proofs.Common.{◌≡◌, ℕ, ◌≤◌, List, [], ◌∷◌, ◌++◌, length, take, drop, get_or, ◌+◌, ◌<◌, refl, ap, sym, ◌∙◌, append_assoc, arith, Bool, true, false, Some, None, Result, Ok, Err, OnOk, OnErr}
+use Rattle.std.proofs.Math.Seq.{take-append_seam}
+use Rattle.std.proofs.lemmas.List.{append-nil, drop_all, drop_more, take-append-le, length-take}
+use Rattle.std.specs.Fmt.{decimal, signed_decimal}
+use Rattle.std.specs.List.{join_with_byte}
+use Rattle.std.specs.Prelude.{codes}
+use Rattle.tko_bytes.specs.Lines.{crlf}
+use Rattle.tko_bytes.specs.Words.{space}
+use Rattle.tko_text.specs.declared.request.Entry.{Entry}
+use Rattle.tko_text.specs.Requests.{keys_text, line_of, noreply_text, stored_pieces, stored_text}
 
--- what the printed line of a key holds
-abbrev get_line : List ℕ → List ℕ
-get_line key = codes "get" ++ space ∷ key
+-- words, with a space before each but the first
+pub join-keys : (word : List ℕ) (keys : List (List ℕ)) → join_with_byte space (word ∷ keys) ≡ word ++ keys_text keys
+join-keys word [] = sym (append-nil word)
+join-keys word (key ∷ keys) = ap (λ xs. word ++ space ∷ xs) (join-keys key keys)
 
-words-get : (key : List ℕ) → IsKey key → words (get_line key) ≡ codes "get" ∷ key ∷ []
-words-get key is =
-    ap (λ ws. codes "get" ∷ ws)
-    (words-run key (length key) is.some (omega arith)
-    (λ k h e. let b = is.each k 0 h in omega (arith, b.0)) (λ h. absurd (omega arith))
-    ∙ ap (λ w. w ∷ words (drop (length key) key)) (take_all (length key) key (omega arith))
-    ∙ ap (λ w. key ∷ words w) (drop_all (length key) key (omega arith)))
+pub keys_line : (word : List ℕ) (keys : List (List ℕ)) → line_of (word ∷ keys) ≡ word ++ keys_text keys ++ crlf
+keys_line word keys = ap (λ xs. xs ++ crlf) (join-keys word keys)
 
-content-push_cr : (bytes : List ℕ) → content (bytes ++ carriage_return ∷ []) ≡ bytes
-content-push_cr bytes =
-    let size : length (bytes ++ carriage_return ∷ []) - 1 ≡ length bytes = simp length-append (omega arith) in
-    cond-true _ _ _ (eq-eqb _ carriage_return (get_or_at bytes carriage_return [] 0 _ (sym size)))
-    ∙ take_at bytes (carriage_return ∷ []) _ (sym size)
+-- one key more
+pub keys_more : (out new all key bytes : List ℕ) (keys : List (List ℕ)) (i : ℕ) → i < length keys → key ≡ get_or keys i key → bytes ≡ key
+    → new ≡ out ++ (space ∷ (bytes ++ [])) → out ++ keys_text (drop i keys) ≡ all → new ++ keys_text (drop (i + 1) keys) ≡ all
+keys_more out new all key bytes keys i inside here same is before =
+    let rest = keys_text (drop (i + 1) keys) in
+    ap (λ xs. xs ++ rest) (is ∙ ap (λ b. out ++ (space ∷ b)) (append-nil bytes ∙ same ∙ here))
+    ∙ append_assoc out (space ∷ get_or keys i key) rest
+    ∙ sym (ap (λ ks. out ++ keys_text ks) (drop_more keys i key inside))
+    ∙ before
 
-unended_key : (key : List ℕ) → IsKey key → HasNoEnd (key ++ carriage_return ∷ [])
-unended_key key is =
-    All-append (λ b. b ≢ line_feed) key (carriage_return ∷ [])
-    (All-weaker IsKeyByte (λ b. b ≢ line_feed) (λ b byte e. omega (arith, byte.0)) key is.each)
-    (All-cons (λ b. b ≢ line_feed) carriage_return [] (λ e. omega arith) (All-nil (λ b. b ≢ line_feed)))
+-- all keys, and the end of the line
+pub keys_done : (start word out new : List ℕ) (keys : List (List ℕ)) (i : ℕ) → length keys ≤ i
+    → out ++ keys_text (drop i keys) ≡ start ++ word ++ keys_text keys → new ≡ out ++ crlf → new ≡ start ++ line_of (word ∷ keys)
+keys_done start word out new keys i past all is =
+    is ∙ ap (λ xs. xs ++ crlf) (sym (append-nil out) ∙ sym (ap (λ ks. out ++ keys_text ks) (drop_all i keys past)) ∙ all)
+    ∙ rw (keys_line word keys) (simp append_assoc)
 
-unended-get : (key : List ℕ) → IsKey key → HasNoEnd (get_line key ++ carriage_return ∷ [])
-unended-get key is =
-    let P : ℕ → Type 0 = λ b. b ≢ line_feed in
-    let end = key ++ carriage_return ∷ [] in
-    All-cons P 103 (101 ∷ 116 ∷ space ∷ end) (λ e. omega arith)
-    (All-cons P 101 (116 ∷ space ∷ end) (λ e. omega arith)
-    (All-cons P 116 (space ∷ end) (λ e. omega arith)
-    (All-cons P space end (λ e. omega arith) (unended_key key is))))
+-- a list begins with what it was made of
+pub begins_with : (start xs more : List ℕ) → xs ≡ start ++ more → take (length start) xs ≡ start
+begins_with start xs more is = ap (λ ys. take (length start) ys) is ∙ take-append_seam start more
 
-IsLine-get : (key : List ℕ) → IsKey key → IsLine (get_line key ++ carriage_return ∷ [])
-IsLine-get key is = record {
-  unended = unended-get key is;
-  within = omega (arith, length-append key (carriage_return ∷ []), is.few);
-}
+-- and so does a longer one
+pub begins_more : (start xs ys more : List ℕ) → take (length start) xs ≡ start → ys ≡ xs ++ more → take (length start) ys ≡ start
+begins_more start xs ys more is longer =
+    let within : length start ≤ length xs = omega (arith, sym (ap length is), length-take (length start) xs) in
+    ap (λ zs. take (length start) zs) longer ∙ take-append-le (length start) xs more within ∙ is
 
-parsed-get : (key : List ℕ) → IsKey key
-    → parsed (content (get_line key ++ carriage_return ∷ [])) ≡ Asks (Get (key ∷ []))
-parsed-get key is =
-    ap parsed (content-push_cr (get_line key)) ∙ ap parsed_words (words-get key is)
-    ∙ parsed_words-get (codes "get") (key ∷ []) refl ∙ parsed_keys-key key is
+-- a fact is one at an Err
+pub at_err : {T E P : Type 0} (r : Result T E) → P → OnErr r P
+at_err (Ok x) p = tt
+at_err (Err e) p = p
 
-pub read_again : ReadAgain
-unfolding Emits printed
-read_again (request.Get key) more is = (
-  get_line key ++ carriage_return ∷ line_feed ∷ [],
-  more,
-  Next,
-  refl,
-  by_line (get_line key ++ carriage_return ∷ []) [] (IsLine-get key is)
-      (sym (append_assoc (get_line key) (carriage_return ∷ []) (line_feed ∷ [])))
-      (subst (λ s. Completes s [] (item.Request (request.Get key)) Next) (sym (parsed-get key is))
-      (refl, refl, refl)),
-  refl,
-)
+-- with what an append leaves at its Err
+pub begins_at_err : {T E : Type 0} (r : Result T E) (start xs ys : List ℕ) → take (length start) xs ≡ start
+    → OnErr r (ys ≡ xs) → OnErr r (take (length start) ys ≡ start)
+begins_at_err (Ok x) start xs ys is same = tt
+begins_at_err (Err e) start xs ys is same = ap (λ zs. take (length start) zs) same ∙ is
+
+-- what follows from what holds at an Ok
+pub at_ok : {T E P Q : Type 0} (r : Result T E) → (P → Q) → OnOk r P → OnOk r Q
+at_ok (Ok x) f p = f p
+at_ok (Err e) f p = tt
+
+-- the pieces of a storage request, as a line and its data
+joined : (w k f e z r v : List ℕ)
+    → w ++ codes " " ++ k ++ codes " " ++ f ++ codes " " ++ e ++ codes " " ++ z ++ r ++ crlf ++ v ++ crlf
+    ≡ (w ++ (space ∷ (k ++ (space ∷ (f ++ (space ∷ (e ++ (space ∷ (z ++ r))))))))) ++ crlf ++ v ++ crlf
+joined w k f e z r v = simp append_assoc
+
+pub stored_plain : (word : List ℕ) (entry : Entry) (noreply : Bool)
+    → stored_pieces word entry ([] ++ [] ++ noreply_text noreply) ≡ stored_text word entry None noreply
+stored_plain word entry true =
+    joined word entry.key (decimal entry.flags) (signed_decimal entry.expiry) (decimal (length entry.value)) (codes " noreply") entry.value
+stored_plain word entry false =
+    joined word entry.key (decimal entry.flags) (signed_decimal entry.expiry) (decimal (length entry.value)) [] entry.value
+    ∙ rw append-nil refl
+
+pub stored_compared : (word : List ℕ) (entry : Entry) (unique : ℕ) (noreply : Bool)
+    → stored_pieces word entry (codes " " ++ decimal unique ++ noreply_text noreply) ≡ stored_text word entry (Some unique) noreply
+stored_compared word entry unique true =
+    joined word entry.key (decimal entry.flags) (signed_decimal entry.expiry) (decimal (length entry.value)) (codes " " ++ decimal unique ++ codes " noreply") entry.value
+stored_compared word entry unique false =
+    joined word entry.key (decimal entry.flags) (signed_decimal entry.expiry) (decimal (length entry.value)) (codes " " ++ decimal unique ++ []) entry.value
+    ∙ rw append-nil refl
+
+-- so many pieces, appended one after another
+in_a_row : (a b c d e f g h i j k l m n o : List ℕ)
+    → a ++ (b ++ (c ++ (d ++ (e ++ (f ++ (g ++ (h ++ (i ++ (j ++ (k ++ (l ++ (m ++ (n ++ (o ++ []))))))))))))))
+    ≡ a ++ b ++ c ++ d ++ e ++ f ++ g ++ h ++ i ++ (j ++ k ++ l) ++ m ++ n ++ o
+in_a_row a b c d e f g h i j k l m n o = simp (append_assoc, append-nil)
+
+pub stored_in_a_row : (word : List ℕ) (entry : Entry) (key flags expiry size a b c value : List ℕ) → key ≡ entry.key → flags ≡ decimal entry.flags
+    → expiry ≡ signed_decimal entry.expiry → size ≡ decimal (length value) → value ≡ entry.value
+    → word ++ (codes " " ++ (key ++ (codes " " ++ (flags ++ (codes " " ++ (expiry ++ (codes " " ++ (size ++ (a ++ (b ++ (c ++ (codes "\r\n" ++ (value ++ (codes "\r\n" ++ []))))))))))))))
+    ≡ stored_pieces word entry (a ++ b ++ c)
+stored_in_a_row word entry key flags expiry size a b c value keys same_flags expiries sizes same =
+    rw (keys, same_flags, expiries, sizes, same)
+    (in_a_row word (codes " ") entry.key (codes " ") (decimal entry.flags) (codes " ") (signed_decimal entry.expiry) (codes " ")
+    (decimal (length entry.value)) a b c (codes "\r\n") entry.value (codes "\r\n"))

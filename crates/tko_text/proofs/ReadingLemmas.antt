@@ -8,31 +8,30 @@ use Rattle.tko_text.specs.declared.item.Item.TheVariants as item
 use Rattle.tko_text.specs.Commands.{parsed}
 use Rattle.tko_bytes.specs.Lines.{line_feed, content}
 use Rattle.tko_text.specs.Limits.{line_limit}
-use Rattle.tko_text.specs.Lines.{IsEndedAt, IsBeyond}
-use Rattle.tko_text.specs.Reading.{After, Next, Never, Reading, Completes, Decides, by_line, by_length, Emits, NeedsMore}
+use Rattle.tko_text.specs.Lines.{IsLine, IsEndedAt, IsBeyond}
+use Rattle.tko_text.specs.Reading.{After, Next, Never, Reading, Completes, Decides, by_line, by_length, passed, Emits, NeedsMore}
+use Rattle.tko_text.specs.States.{at}
 
--- where reading is at the beginning of a text
-abbrev pub at : List ℕ → Reading
-at bytes = record { after = Next; unread = bytes }
+-- a line and what follows it
+pub line_parts : (bytes : List ℕ) (len : ℕ) → IsEndedAt bytes len
+    → take len bytes ++ line_feed ∷ drop (len + 1) bytes ≡ bytes
+line_parts bytes len line =
+    sym (sym (take-append-drop len bytes)
+    ∙ ap (λ xs. take len bytes ++ xs) (drop_more bytes len 0 line.fits ∙ ap (λ b. b ∷ drop (len + 1) bytes) line.ended))
 
 -- the line of a request or a fault that is decided by it alone
-pub Emits-line : (bytes : List ℕ) (len : ℕ) (emitted : Item) → IsEndedAt bytes len
-    → Completes (parsed (content (take len bytes))) [] emitted Next
-    → Emits (at bytes) emitted (at (drop (len + 1) bytes))
+pub Emits-line : (before rest : List ℕ) (emitted : Item) (after : After) → IsLine before
+    → Completes (parsed (content before)) [] emitted after
+    → Emits (at (before ++ line_feed ∷ rest)) emitted (passed after rest)
 unfolding Emits
-Emits-line bytes len emitted line completes =
-    let rest : drop len bytes ≡ line_feed ∷ drop (len + 1) bytes =
-    drop_more bytes len 0 line.fits ∙ ap (λ b. b ∷ drop (len + 1) bytes) line.ended in
-    let parts : bytes ≡ (take len bytes ++ line_feed ∷ []) ++ drop (len + 1) bytes =
-    sym (take-append-drop len bytes) ∙ ap (λ xs. take len bytes ++ xs) rest
-    ∙ sym (append_assoc (take len bytes) (line_feed ∷ []) (drop (len + 1) bytes)) in (
-      take len bytes ++ line_feed ∷ [],
-      drop (len + 1) bytes,
-      Next,
-      ap at parts,
-      by_line (take len bytes) [] line.line refl completes,
-      refl,
-    )
+Emits-line before rest emitted after line completes = (
+  before ++ line_feed ∷ [],
+  rest,
+  after,
+  ap at (sym (append_assoc before (line_feed ∷ []) rest)),
+  by_line before [] line refl completes,
+  refl,
+)
 
 pub Emits-beyond : (bytes : List ℕ) → IsBeyond bytes
     → Emits (at bytes) (item.Fault fault.LineTooLong) (record { after = Never; unread = [] })
@@ -79,15 +78,6 @@ NeedsMore-never bytes emitted to (text, left, after, from, decides, goes) =
 -- a reading by its parts
 at_next : (from : Reading) → from.after ≡ Next → at from.unread ≡ from
 at_next from next = ap (λ after. record { after = after; unread = from.unread }) (sym next)
-
-pub Emits-read : (from to : Reading) (len : ℕ) (emitted : Item) → from.after ≡ Next → to.after ≡ Next
-    → to.unread ≡ drop (len + 1) from.unread → IsEndedAt from.unread len
-    → Completes (parsed (content (take len from.unread))) [] emitted Next → Emits from emitted to
-Emits-read from to len emitted next goes rest line completes =
-    let on : at (drop (len + 1) from.unread) ≡ to = ap at (sym rest) ∙ at_next to goes in
-    subst (λ r. Emits from emitted r) on
-    (subst (λ r. Emits r emitted (at (drop (len + 1) from.unread))) (at_next from next)
-    (Emits-line from.unread len emitted line completes))
 
 pub Emits-failed : (from : Reading) (rest : List ℕ) → from.after ≡ Next → rest ≡ [] → IsBeyond from.unread
     → Emits from (item.Fault fault.LineTooLong) (record { after = Never; unread = rest })

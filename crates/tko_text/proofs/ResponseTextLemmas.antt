@@ -1,5 +1,5 @@
 -- What follows the first word of a line has no LF where the line has none.
-use Rattle.std.proofs.Common.{◌≡◌, ℕ, ◌≢◌, cond, eqb, List, [], ◌∷◌, sym, subst, inl, inr, take}
+use Rattle.std.proofs.Common.{ℕ, ◌≢◌, eqb, List, [], ◌∷◌, sym, subst, inl, inr}
 use Rattle.std.specs.List.{AllByRecursion}
 use Rattle.std.proofs.lemmas.Bool.{cases_Bool, cond-true, cond-false}
 use Rattle.std.proofs.lemmas.List.Elements.{recursion_from_All, All-from_recursion}

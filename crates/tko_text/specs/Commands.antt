@@ -1,16 +1,22 @@
 -- Request lines: the table of command words, the words that follow each of them, and the faults in
 -- the order in which they are looked for.
-use Rattle.std.specs.Prelude.{ℕ, ◌+◌, Bool, true, false, List, [], ◌∷◌, length, codes, Option, Some, None, option_and_then, unwrap_or, nat_le, if◌then◌else◌}
-use Rattle.std.specs.List.{list_all, list_any}
+use Rattle.std.specs.Prelude.{ℕ, ℤ, ◌+◌, Bool, true, false, List, [], ◌∷◌, codes, Option, Some, None, Result, Ok, Err, option_and_then, unwrap_or, nat_le, if◌then◌else◌}
+use Rattle.std.specs.List.{list_all}
 use Rattle.std.specs.Str.{bytes_eq}
+use Rattle.tko_bytes.specs.Numbers.{number_of}
+use Rattle.tko_bytes.specs.Words.{words}
 use Rattle.tko_text.specs.declared.fault.TextFault.{TextFault}
 use Rattle.tko_text.specs.declared.fault.TextFault.TheVariants.{UnknownCommand, BadLine, BadKey, TooLarge}
+use Rattle.tko_text.specs.declared.form.Form.{Form}
+use Rattle.tko_text.specs.declared.form.Form.TheVariants as form
+use Rattle.tko_text.specs.declared.request.Entry.{Entry}
+use Rattle.tko_text.specs.declared.request.Request.{Request}
+use Rattle.tko_text.specs.declared.request.Request.TheVariants as request
+use Rattle.tko_text.specs.declared.request.Verb.{Verb}
+use Rattle.tko_text.specs.declared.request.Verb.TheVariants.{Set, Add, Replace, Append, Prepend}
 use Rattle.tko_text.specs.Keys.{is_key}
-use Rattle.tko_bytes.specs.Numbers.{number_of}
 use Rattle.tko_text.specs.Limits.{data_limit, flags_limit, number_limit}
-use Rattle.tko_text.specs.Numbers.{expiry}
-use Rattle.tko_text.specs.Requests.{Verb, Set, Add, Replace, Append, Prepend, Command, Get, Gets, Store, Cas, Delete, Incr, Decr, Touch, Version, Quit, StatsTko}
-use Rattle.tko_bytes.specs.Words.{words}
+use Rattle.tko_text.specs.Numbers.{expiry_of}
 
 -- what is skipped after a text before the next one begins: nothing, so many bytes, or all up to the
 -- first LF; or no further text is read
@@ -23,87 +29,53 @@ pub data After : Type 0 where
 -- what a line is by itself: a whole request; a request that so many bytes of data complete; or a
 -- fault, and what is skipped after the line
 pub data ParsedLine : Type 0 where
-  Asks : Command → ParsedLine
-  AwaitsData : ℕ → (List ℕ → Command) → ParsedLine
+  Asks : Request → ParsedLine
+  AwaitsData : ℕ → (List ℕ → Request) → ParsedLine
   Refused : TextFault → After → ParsedLine
-
--- what follows a command word
-pub data Form : Type 0 where
-  -- <key> ..
-  Keys : (List (List ℕ) → Command) → Form
-  -- <key> <flags> <expiry> <bytes> [noreply], and the data
-  Stored : Verb → Form
-  -- <key> <flags> <expiry> <bytes> <cas> [noreply], and the data
-  Compared : Form
-  -- <key> [noreply]
-  Deleted : Form
-  -- <key> <amount> [noreply]
-  Counted : (List ℕ → ℕ → Bool → Command) → Form
-  -- <key> <expiry> [noreply]
-  Touched : Form
-  -- nothing
-  Alone : Command → Form
-  -- this word
-  Followed : List ℕ → Command → Form
 
 -- the command words
 abbrev pub commands : List (List ℕ × Form)
 commands =
-    (codes "get", Keys Get)
-    ∷ (codes "gets", Keys Gets)
-    ∷ (codes "set", Stored Set)
-    ∷ (codes "add", Stored Add)
-    ∷ (codes "replace", Stored Replace)
-    ∷ (codes "append", Stored Append)
-    ∷ (codes "prepend", Stored Prepend)
-    ∷ (codes "cas", Compared)
-    ∷ (codes "delete", Deleted)
-    ∷ (codes "incr", Counted Incr)
-    ∷ (codes "decr", Counted Decr)
-    ∷ (codes "touch", Touched)
-    ∷ (codes "version", Alone Version)
-    ∷ (codes "quit", Alone Quit)
-    ∷ (codes "stats", Followed (codes "tko") StatsTko)
+    (codes "get", form.Get)
+    ∷ (codes "gets", form.Gets)
+    ∷ (codes "set", form.Store Set)
+    ∷ (codes "add", form.Store Add)
+    ∷ (codes "replace", form.Store Replace)
+    ∷ (codes "append", form.Store Append)
+    ∷ (codes "prepend", form.Store Prepend)
+    ∷ (codes "cas", form.Cas)
+    ∷ (codes "delete", form.Delete)
+    ∷ (codes "incr", form.Incr)
+    ∷ (codes "decr", form.Decr)
+    ∷ (codes "touch", form.Touch)
+    ∷ (codes "version", form.Version)
+    ∷ (codes "quit", form.Quit)
+    ∷ (codes "stats", form.Stats)
     ∷ []
-
--- what is read of the protocol: some command words, and the most keys on a line, where it is
--- bounded
-pub record Scope : Type 0 where
-  pub words : List (List ℕ)
-  pub most_keys : Option ℕ
-
--- what is read so far
-abbrev pub taken : Scope
-taken = record { words = codes "get" ∷ []; most_keys = Some 1 }
 
 -- a word in a table
 abbrev pub form_in : List ℕ → List (List ℕ × Form) → Option Form
 form_in word [] = None
 form_in word (entry ∷ table) = if bytes_eq word entry.0 then Some entry.1 else form_in word table
 
--- the form of a command word that is read
+-- the form of a command word
 unfoldable pub form_of : List ℕ → Option Form
-form_of word = if list_any (bytes_eq word) taken.words then form_in word commands else None
-
--- whether a line may have so many keys
-abbrev pub is_within : Option ℕ → ℕ → Bool
-is_within None count = true
-is_within (Some most) count = nat_le count most
+form_of word = form_in word commands
 
 abbrev pub bad_line : ParsedLine
 bad_line = Refused BadLine Next
 
 -- the request, where the key is one
-abbrev pub with_key : List ℕ → Command → ParsedLine
-with_key key command = if is_key key then Asks command else Refused BadKey Next
+abbrev pub with_key : List ℕ → Request → ParsedLine
+with_key key asked = if is_key key then Asks asked else Refused BadKey Next
 
 -- so many bytes of data follow, where the key is one and they aren't too many; else they and their
 -- CR LF are skipped
-abbrev pub with_data : List ℕ → ℕ → (List ℕ → Command) → ParsedLine
-with_data key size command =
+abbrev pub with_data : List ℕ → ℕ → (List ℕ → Request) → ParsedLine
+with_data key size asked =
     if is_key key
     then (if nat_le size data_limit
-    then AwaitsData size command
+    then AwaitsData size asked
     else Refused TooLarge (Pass (size + 2)))
     else Refused BadKey (Pass (size + 2))
 
@@ -117,75 +89,113 @@ noreply [] = Some false
 noreply (word ∷ []) = if bytes_eq word (codes "noreply") then Some true else None
 noreply (word ∷ other ∷ words) = None
 
--- one key or more
-abbrev pub parsed_keys : (List (List ℕ) → Command) → List (List ℕ) → ParsedLine
-parsed_keys command [] = bad_line
-parsed_keys command (key ∷ keys) =
-    if is_within taken.most_keys (length (key ∷ keys))
-    then (if list_all is_key (key ∷ keys) then Asks (command (key ∷ keys)) else Refused BadKey Next)
-    else bad_line
+-- one key or more, or the fault
+abbrev pub keys_of : List (List ℕ) → Result (List (List ℕ)) TextFault
+keys_of [] = Err BadLine
+keys_of (key ∷ keys) =
+    if list_all is_key (key ∷ keys) then Ok (key ∷ keys) else Err BadKey
 
-abbrev pub parsed_stored : Verb → List (List ℕ) → Option ParsedLine
-parsed_stored verb (key ∷ flags ∷ until ∷ bytes ∷ rest) = do
-  f ← number_of flags_limit flags
-  e ← expiry until
-  size ← number_of number_limit bytes
-  quiet ← noreply rest
-  Some (with_data key size (λ value.
-      Store verb (record { key = key; flags = f; expiry = e; value = value }) quiet))
-parsed_stored verb _ = None
+-- a request of these keys
+abbrev pub asked_of : (List (List ℕ) → Request) → Result (List (List ℕ)) TextFault → ParsedLine
+asked_of asked (Ok keys) = Asks (asked keys)
+asked_of asked (Err fault) = Refused fault Next
 
-abbrev pub parsed_compared : List (List ℕ) → Option ParsedLine
-parsed_compared (key ∷ flags ∷ until ∷ bytes ∷ cas ∷ rest) = do
+abbrev pub parsed_keys : (List (List ℕ) → Request) → List (List ℕ) → ParsedLine
+parsed_keys asked arguments = asked_of asked (keys_of arguments)
+
+-- what a line announces of an entry
+pub record Announced : Type 0 where
+  pub key : List ℕ
+  pub flags : ℕ
+  pub expiry : ℤ
+  pub size : ℕ
+
+abbrev pub announced_by : List ℕ → ℕ → ℤ → ℕ → Announced
+announced_by key flags expiry size =
+    record { key = key; flags = flags; expiry = expiry; size = size }
+
+-- the entry that is announced, with its data
+abbrev pub entry_with : Announced → List ℕ → Entry
+entry_with a value = record { key = a.key; flags = a.flags; expiry = a.expiry; value = value }
+
+-- <key> <flags> <expiry> <bytes>, and the words that follow
+abbrev pub announced : List (List ℕ) → Option (Announced × List (List ℕ))
+announced (key ∷ flags ∷ until ∷ bytes ∷ rest) = do
   f ← number_of flags_limit flags
-  e ← expiry until
+  e ← expiry_of until
   size ← number_of number_limit bytes
+  Some (announced_by key f e size, rest)
+announced _ = None
+
+-- <cas> [noreply]
+abbrev pub compared : List (List ℕ) → Option (ℕ × Bool)
+compared [] = None
+compared (cas ∷ rest) = do
   unique ← number_of number_limit cas
   quiet ← noreply rest
-  Some (with_data key size (λ value.
-      Cas (record { key = key; flags = f; expiry = e; value = value }) unique quiet))
-parsed_compared _ = None
+  Some (unique, quiet)
 
+-- <key> <flags> <expiry> <bytes> [noreply], and the data
+abbrev pub parsed_stored : Verb → List (List ℕ) → Option ParsedLine
+parsed_stored verb arguments = do
+  a ← announced arguments
+  quiet ← noreply a.1
+  Some (with_data a.0.key a.0.size (λ value. request.Store verb (entry_with a.0 value) quiet))
+
+-- <key> <flags> <expiry> <bytes> <cas> [noreply], and the data
+abbrev pub parsed_compared : List (List ℕ) → Option ParsedLine
+parsed_compared arguments = do
+  a ← announced arguments
+  c ← compared a.1
+  Some (with_data a.0.key a.0.size (λ value. request.Cas (entry_with a.0 value) c.0 c.1))
+
+-- <key> [noreply]
 abbrev pub parsed_deleted : List (List ℕ) → Option ParsedLine
 parsed_deleted [] = None
 parsed_deleted (key ∷ rest) = do
   quiet ← noreply rest
-  Some (with_key key (Delete key quiet))
+  Some (with_key key (request.Delete key quiet))
 
-abbrev pub parsed_counted : (List ℕ → ℕ → Bool → Command) → List (List ℕ) → Option ParsedLine
-parsed_counted command (key ∷ amount ∷ rest) = do
+-- <key> <amount> [noreply]
+abbrev pub parsed_counted : (List ℕ → ℕ → Bool → Request) → List (List ℕ) → Option ParsedLine
+parsed_counted asked (key ∷ amount ∷ rest) = do
   n ← number_of number_limit amount
   quiet ← noreply rest
-  Some (with_key key (command key n quiet))
-parsed_counted command _ = None
+  Some (with_key key (asked key n quiet))
+parsed_counted asked _ = None
 
+-- <key> <expiry> [noreply]
 abbrev pub parsed_touched : List (List ℕ) → Option ParsedLine
 parsed_touched (key ∷ until ∷ rest) = do
-  e ← expiry until
+  e ← expiry_of until
   quiet ← noreply rest
-  Some (with_key key (Touch key e quiet))
+  Some (with_key key (request.Touch key e quiet))
 parsed_touched _ = None
 
-abbrev pub parsed_alone : Command → List (List ℕ) → ParsedLine
-parsed_alone command [] = Asks command
-parsed_alone command (word ∷ words) = bad_line
+-- no further word
+abbrev pub parsed_alone : Request → List (List ℕ) → ParsedLine
+parsed_alone asked [] = Asks asked
+parsed_alone asked (word ∷ words) = bad_line
 
--- the command word followed by other words, or by none, is no command
-abbrev pub parsed_followed : List ℕ → Command → List (List ℕ) → ParsedLine
-parsed_followed second command (word ∷ []) =
-    if bytes_eq word second then Asks command else Refused UnknownCommand Next
-parsed_followed second command _ = Refused UnknownCommand Next
+-- the word `tko`; with other words, or none, `stats` is no command
+abbrev pub parsed_stats : List (List ℕ) → ParsedLine
+parsed_stats (word ∷ []) =
+    if bytes_eq word (codes "tko") then Asks request.StatsTko else Refused UnknownCommand Next
+parsed_stats _ = Refused UnknownCommand Next
 
 -- the words that follow a command word
 abbrev pub parsed_form : Form → List (List ℕ) → ParsedLine
-parsed_form (Keys command) arguments = parsed_keys command arguments
-parsed_form (Stored verb) arguments = unwrap_or (parsed_stored verb arguments) bad_line
-parsed_form Compared arguments = unwrap_or (parsed_compared arguments) bad_line
-parsed_form Deleted arguments = unwrap_or (parsed_deleted arguments) bad_line
-parsed_form (Counted command) arguments = unwrap_or (parsed_counted command arguments) bad_line
-parsed_form Touched arguments = unwrap_or (parsed_touched arguments) bad_line
-parsed_form (Alone command) arguments = parsed_alone command arguments
-parsed_form (Followed second command) arguments = parsed_followed second command arguments
+parsed_form form.Get arguments = parsed_keys request.Get arguments
+parsed_form form.Gets arguments = parsed_keys request.Gets arguments
+parsed_form (form.Store verb) arguments = unwrap_or (parsed_stored verb arguments) bad_line
+parsed_form form.Cas arguments = unwrap_or (parsed_compared arguments) bad_line
+parsed_form form.Delete arguments = unwrap_or (parsed_deleted arguments) bad_line
+parsed_form form.Incr arguments = unwrap_or (parsed_counted request.Incr arguments) bad_line
+parsed_form form.Decr arguments = unwrap_or (parsed_counted request.Decr arguments) bad_line
+parsed_form form.Touch arguments = unwrap_or (parsed_touched arguments) bad_line
+parsed_form form.Version arguments = parsed_alone request.Version arguments
+parsed_form form.Quit arguments = parsed_alone request.Quit arguments
+parsed_form form.Stats arguments = parsed_stats arguments
 
 -- the same, where the command word has a form
 abbrev pub parsed_known : Option Form → List (List ℕ) → ParsedLine

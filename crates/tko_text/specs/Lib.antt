@@ -1,11 +1,17 @@
 pub mod Buffers
 pub mod Commands
+pub mod DataEnds
 pub mod Keys
 pub mod Limits
 pub mod Lines
 pub mod Numbers
+pub mod Parsed
+pub mod Printed
 pub mod Reading
 pub mod Requests
 pub mod ResponseFaults
+pub mod ResponseKinds
 pub mod ResponseLines
 pub mod Responses
+pub mod SentRequests
+pub mod States

@@ -7,9 +7,9 @@ abbrev pub minus : ℕ
 minus = 45
 
 -- an expiry, from -2^63 to 2^63 - 1
-abbrev pub expiry : List ℕ → Option ℤ
-expiry [] = None
-expiry (b ∷ bytes) =
+abbrev pub expiry_of : List ℕ → Option ℤ
+expiry_of [] = None
+expiry_of (b ∷ bytes) =
     if b == minus
     then option_map (λ n. neg_ℤ (pos n)) (number_of negative_expiry_limit bytes)
     else option_map pos (number_of expiry_limit (b ∷ bytes))

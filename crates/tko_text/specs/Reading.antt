@@ -4,10 +4,8 @@ use Rattle.std.specs.Prelude.{◌≡◌, ◌≢◌, ℕ, ◌-◌, List, [], ◌�
 use Rattle.tko_text.specs.declared.fault.TextFault.TheVariants as fault
 use Rattle.tko_text.specs.declared.item.Item.{Item}
 use Rattle.tko_text.specs.declared.item.Item.TheVariants as item
-use Rattle.tko_text.specs.declared.request.Request.{Request}
 use Rattle.tko_bytes.specs.Lines.{line_feed, carriage_return, crlf, content}
 use Rattle.tko_text.specs.Lines.{IsLine, IsTooLong}
-use Rattle.tko_text.specs.Requests.{command_of, request_text, HasKeys}
 pub use Rattle.tko_text.specs.Commands.{After, Next, Pass, PassLine, Never}
 use Rattle.tko_text.specs.Commands.{ParsedLine, Asks, AwaitsData, Refused, parsed}
 
@@ -24,14 +22,14 @@ IsWrongEnd _ after = ⊥
 -- a line parsed so and these bytes that follow its LF are this item
 abbrev pub Completes : ParsedLine → List ℕ → Item → After → Type 0
 Completes (Asks command) behind (item.Request request) after =
-    (behind ≡ []) × (command_of request ≡ command) × (after ≡ Next)
+    (behind ≡ []) × (request ≡ command) × (after ≡ Next)
 Completes (Asks command) behind (item.Fault why) after = ⊥
 Completes (Refused why onward) behind (item.Fault it) after =
     (behind ≡ []) × (it ≡ why) × (after ≡ onward)
 Completes (Refused why onward) behind (item.Request request) after = ⊥
 Completes (AwaitsData size command) behind (item.Request request) after =
     (value : List ℕ) × (length value ≡ size) × (behind ≡ value ++ crlf)
-    × (command_of request ≡ command value) × (after ≡ Next)
+    × (request ≡ command value) × (after ≡ Next)
 Completes (AwaitsData size command) behind (item.Fault it) after =
     (value end : List ℕ) × (length value ≡ size) × (behind ≡ value ++ end)
     × IsWrongEnd end after × (it ≡ fault.BadChunk)
@@ -104,9 +102,3 @@ abbrev pub OneReading : Type 0
 OneReading =
     (bytes : List ℕ) (items others : List Item) (left rest : Reading)
     → Reads bytes items left → Reads bytes others rest → (items ≡ others) × (left ≡ rest)
-
--- a printed request is read as that request, whatever follows it
-abbrev pub ReadAgain : Type 0
-ReadAgain =
-    (request : Request) (more : List ℕ) → HasKeys request
-    → Emits (fed start (request_text request ++ more)) (item.Request request) (fed start more)

@@ -1,39 +1,16 @@
--- Requests and faults as data, and the one printed form of each.
-use Rattle.std.specs.Prelude.{ℕ, ℤ, Bool, true, false, List, [], ◌∷◌, ◌++◌, length, codes}
+-- Requests and faults, and the one printed form of each.
+use Rattle.std.specs.Prelude.{ℕ, Bool, true, false, List, [], ◌∷◌, ◌++◌, length, codes, flat_map, Option, Some, None}
 use Rattle.std.specs.Fmt.{decimal, signed_decimal}
 use Rattle.std.specs.List.{join_with_byte}
-use Rattle.tko_text.specs.declared.fault.TextFault.{TextFault}
-use Rattle.tko_text.specs.declared.fault.TextFault.TheVariants.{UnknownCommand, BadLine, BadKey, BadChunk, TooLarge, LineTooLong}
-use Rattle.tko_text.specs.declared.request.Request.{Request}
-use Rattle.tko_text.specs.declared.request.Request.TheVariants as request
-use Rattle.tko_text.specs.Keys.{IsKey}
 use Rattle.tko_bytes.specs.Lines.{crlf}
 use Rattle.tko_bytes.specs.Words.{space}
-
--- what a storage request does with its entry
-pub data Verb : Type 0 where
-  Set Add Replace Append Prepend : Verb
-
--- what a storage request stores
-pub record Entry : Type 0 where
-  pub key : List ℕ
-  pub flags : ℕ
-  pub expiry : ℤ
-  pub value : List ℕ
-
--- every request of the protocol; the last `Bool` of some says whether `noreply` was given
-pub data Command : Type 0 where
-  Get Gets : List (List ℕ) → Command
-  Store : Verb → Entry → Bool → Command
-  Cas : Entry → ℕ → Bool → Command
-  Delete : List ℕ → Bool → Command
-  Incr Decr : List ℕ → ℕ → Bool → Command
-  Touch : List ℕ → ℤ → Bool → Command
-  Version Quit StatsTko : Command
-
--- the command that a request of the code is
-abbrev pub command_of : Request → Command
-command_of (request.Get key) = Get (key ∷ [])
+use Rattle.tko_text.specs.declared.fault.TextFault.{TextFault}
+use Rattle.tko_text.specs.declared.fault.TextFault.TheVariants.{UnknownCommand, BadLine, BadKey, BadChunk, TooLarge, LineTooLong}
+use Rattle.tko_text.specs.declared.request.Entry.{Entry}
+use Rattle.tko_text.specs.declared.request.Request.{Request}
+use Rattle.tko_text.specs.declared.request.Request.TheVariants.{Get, Gets, Store, Cas, Delete, Incr, Decr, Touch, Version, Quit, StatsTko}
+use Rattle.tko_text.specs.declared.request.Verb.{Verb}
+use Rattle.tko_text.specs.declared.request.Verb.TheVariants.{Set, Add, Replace, Append, Prepend}
 
 abbrev pub verb_word : Verb → List ℕ
 verb_word Set = codes "set"
@@ -57,33 +34,34 @@ entry_words entry =
     entry.key ∷ decimal entry.flags ∷ signed_decimal entry.expiry
     ∷ decimal (length entry.value) ∷ []
 
+-- the words of the printed line
+abbrev pub printed_words : Request → List (List ℕ)
+printed_words (Get keys) = codes "get" ∷ keys
+printed_words (Gets keys) = codes "gets" ∷ keys
+printed_words (Store verb entry noreply) =
+    verb_word verb ∷ entry_words entry ++ noreply_words noreply
+printed_words (Cas entry unique noreply) =
+    codes "cas" ∷ entry_words entry ++ decimal unique ∷ noreply_words noreply
+printed_words (Delete key noreply) = codes "delete" ∷ key ∷ noreply_words noreply
+printed_words (Incr key amount noreply) =
+    codes "incr" ∷ key ∷ decimal amount ∷ noreply_words noreply
+printed_words (Decr key amount noreply) =
+    codes "decr" ∷ key ∷ decimal amount ∷ noreply_words noreply
+printed_words (Touch key expiry noreply) =
+    codes "touch" ∷ key ∷ signed_decimal expiry ∷ noreply_words noreply
+printed_words Version = codes "version" ∷ []
+printed_words Quit = codes "quit" ∷ []
+printed_words StatsTko = codes "stats" ∷ codes "tko" ∷ []
+
+-- the data that follow the line, and their CR LF
+abbrev pub printed_data : Request → List ℕ
+printed_data (Store verb entry noreply) = entry.value ++ crlf
+printed_data (Cas entry unique noreply) = entry.value ++ crlf
+printed_data _ = []
+
 -- the printed form: single spaces, no leading zeros, CR LF
-unfoldable pub printed : Command → List ℕ
-printed (Get keys) = line_of (codes "get" ∷ keys)
-printed (Gets keys) = line_of (codes "gets" ∷ keys)
-printed (Store verb entry noreply) =
-    line_of (verb_word verb ∷ entry_words entry ++ noreply_words noreply) ++ entry.value ++ crlf
-printed (Cas entry unique noreply) =
-    line_of (codes "cas" ∷ entry_words entry ++ decimal unique ∷ noreply_words noreply)
-    ++ entry.value ++ crlf
-printed (Delete key noreply) = line_of (codes "delete" ∷ key ∷ noreply_words noreply)
-printed (Incr key amount noreply) =
-    line_of (codes "incr" ∷ key ∷ decimal amount ∷ noreply_words noreply)
-printed (Decr key amount noreply) =
-    line_of (codes "decr" ∷ key ∷ decimal amount ∷ noreply_words noreply)
-printed (Touch key expiry noreply) =
-    line_of (codes "touch" ∷ key ∷ signed_decimal expiry ∷ noreply_words noreply)
-printed Version = line_of (codes "version" ∷ [])
-printed Quit = line_of (codes "quit" ∷ [])
-printed StatsTko = line_of (codes "stats" ∷ codes "tko" ∷ [])
-
--- the keys of a request are keys
-abbrev pub HasKeys : Request → Type 0
-HasKeys (request.Get key) = IsKey key
-
--- the printed form of a request of the code
-abbrev pub request_text : Request → List ℕ
-request_text request = printed (command_of request)
+unfoldable pub request_text : Request → List ℕ
+request_text request = line_of (printed_words request) ++ printed_data request
 
 -- the reply to a fault
 unfoldable pub fault_text : TextFault → List ℕ
@@ -93,3 +71,30 @@ fault_text BadKey = codes "CLIENT_ERROR bad key" ++ crlf
 fault_text BadChunk = codes "CLIENT_ERROR bad data chunk" ++ crlf
 fault_text TooLarge = codes "SERVER_ERROR object too large for cache" ++ crlf
 fault_text LineTooLong = codes "CLIENT_ERROR line too long" ++ crlf
+
+-- `noreply` and the space before it
+abbrev pub noreply_text : Bool → List ℕ
+noreply_text true = codes " noreply"
+noreply_text false = []
+
+-- keys, with a space before each
+abbrev pub keys_text : List (List ℕ) → List ℕ
+keys_text keys = flat_map (λ key. space ∷ key) keys
+
+-- the cas number of a storage request that has one
+abbrev pub unique_words : Option ℕ → List (List ℕ)
+unique_words None = []
+unique_words (Some unique) = decimal unique ∷ []
+
+-- the printed form of a storage request, by its command word
+abbrev pub stored_text : List ℕ → Entry → Option ℕ → Bool → List ℕ
+stored_text word entry unique noreply =
+    line_of (word ∷ entry_words entry ++ unique_words unique ++ noreply_words noreply)
+    ++ entry.value ++ crlf
+
+-- the same, by what follows the number of bytes in the line
+abbrev pub stored_pieces : List ℕ → Entry → List ℕ → List ℕ
+stored_pieces word entry rest =
+    word ++ codes " " ++ entry.key ++ codes " " ++ decimal entry.flags ++ codes " "
+    ++ signed_decimal entry.expiry ++ codes " " ++ decimal (length entry.value) ++ rest ++ crlf
+    ++ entry.value ++ crlf

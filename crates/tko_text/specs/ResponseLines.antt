@@ -1,5 +1,5 @@
 -- Lines of responses: how they are cut from the bytes, and what they hold.
-use Rattle.std.specs.Prelude.{◌≡◌, ◌≢◌, ℕ, ◌<◌, ◌≤◌, List, [], ◌∷◌, ◌++◌, length, slice_index, Option, Some}
+use Rattle.std.specs.Prelude.{◌≡◌, ◌≢◌, ℕ, ◌<◌, ◌≤◌, List, [], ◌∷◌, ◌++◌, length, slice_index, Some}
 use Rattle.tko_bytes.specs.Lines.{HasNoEnd, content, line_feed}
 use Rattle.tko_bytes.specs.Numbers.{number_of}
 use Rattle.tko_bytes.specs.Words.{behind_word, front_word, unspaced}

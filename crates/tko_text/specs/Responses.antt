@@ -1,9 +1,9 @@
--- Responses of servers: the text of each answer, the requests that it answers, and what is read.
-use Rattle.std.specs.Prelude.{◌≡◌, ℕ, ◌<◌, ◌≤◌, ◌⊎◌, List, [], ◌∷◌, ◌++◌, length, take, drop, codes, decimal, Option, Some, None, IsSome, Result, Ok, Err}
+-- Responses of servers: the text of each, the requests that it answers, and what is read.
+use Rattle.std.specs.Prelude.{◌≡◌, ℕ, ◌<◌, ◌≤◌, ◌⊎◌, Bool, true, false, List, [], ◌∷◌, ◌++◌, length, take, drop, codes, decimal, Option, Some, None, is_some, Result, Ok, Err}
 use Rattle.tko_text.specs.declared.request.Request.{Request}
 use Rattle.tko_text.specs.declared.request.Request.TheVariants as request
 use Rattle.tko_text.specs.declared.response.Response.{Response}
-use Rattle.tko_text.specs.declared.response.Response.TheVariants as response
+use Rattle.tko_text.specs.declared.response.Response.TheVariants.{Values, Stored, NotStored, Exists, Deleted, Touched, NotFound, Number, Version, Error, ClientError, ServerError}
 use Rattle.tko_text.specs.declared.response.body.Value.{Value}
 use Rattle.tko_text.specs.declared.response.fault.ReadFault.{ReadFault}
 use Rattle.tko_text.specs.declared.response.fault.ReadFault.TheVariants as fault
@@ -11,59 +11,54 @@ use Rattle.tko_text.specs.Limits.{data_limit, flags_limit, number_limit}
 use Rattle.tko_text.specs.ResponseLines.{IsOpenLine, IsLine, IsNumber, Split}
 use Rattle.tko_bytes.specs.Words.{words}
 
--- what a request asks, as far as its answers go
+-- the requests that a server answers, by the responses that they can have
 pub data Kind : Type 0 where
-  Get : List ℕ → Kind
-  Gets : List ℕ → Kind
+  -- a value of this key, with its cas number or without
+  Retrieval : (key : List ℕ) (unique : Bool) → Kind
   Storage : Kind
-  Delete : Kind
-  Counter : Kind
-  Touch : Kind
+  Deletion : Kind
+  Counting : Kind
+  Touching : Kind
   Probe : Kind
 
--- what is found under a key, with its cas number where that was asked
-pub record Found : Type 0 where
-  pub key : List ℕ
-  pub flags : ℕ
-  pub bytes : List ℕ
-  pub cas : Option ℕ
+-- the kind of a request of one key; each of several keys is sent as a request of its own
+abbrev pub retrieval : List (List ℕ) → Bool → Option Kind
+retrieval (key ∷ []) unique = Some (Retrieval key unique)
+retrieval _ unique = None
 
--- every answer of the protocol
-pub data Answer : Type 0 where
-  Values : Option Found → Answer
-  Stored : Answer
-  NotStored : Answer
-  Exists : Answer
-  Deleted : Answer
-  Touched : Answer
-  NotFound : Answer
-  Number : ℕ → Answer
-  Version : List ℕ → Answer
-  Error : Answer
-  ClientError : List ℕ → Answer
-  ServerError : List ℕ → Answer
+-- the kind of a request that is sent to a server; `quit` and `stats tko` are never sent
+abbrev pub kind_of : Request → Option Kind
+kind_of (request.Get keys) = retrieval keys false
+kind_of (request.Gets keys) = retrieval keys true
+kind_of (request.Store verb entry noreply) = Some Storage
+kind_of (request.Cas entry unique noreply) = Some Storage
+kind_of (request.Delete key noreply) = Some Deletion
+kind_of (request.Incr key amount noreply) = Some Counting
+kind_of (request.Decr key amount noreply) = Some Counting
+kind_of (request.Touch key expiry noreply) = Some Touching
+kind_of request.Version = Some Probe
+kind_of request.Quit = None
+kind_of request.StatsTko = None
 
 -- a request of this kind asked for a value with such a key and cas number
 abbrev pub Asks : Kind → List ℕ → Option ℕ → Type 0
-Asks (Get asked) key cas = (key ≡ asked) × (cas ≡ None)
-Asks (Gets asked) key cas = (key ≡ asked) × IsSome cas
+Asks (Retrieval asked unique) key cas = (key ≡ asked) × (is_some cas ≡ unique)
 Asks _ key cas = ⊥
 
--- which answers a request of each kind can have
-abbrev pub Suits : Kind → Answer → Type 0
-Suits (Get key) (Values None) = Unit {0}
-Suits (Gets key) (Values None) = Unit {0}
-Suits kind (Values (Some found)) = Asks kind found.key found.cas
+-- the responses that a request of each kind can have
+abbrev pub Suits : Kind → Response → Type 0
+Suits (Retrieval key unique) (Values None) = Unit {0}
+Suits kind (Values (Some value)) = Asks kind value.key value.unique
 Suits Storage Stored = Unit {0}
 Suits Storage NotStored = Unit {0}
 Suits Storage Exists = Unit {0}
 Suits Storage NotFound = Unit {0}
-Suits Delete Deleted = Unit {0}
-Suits Delete NotFound = Unit {0}
-Suits Counter (Number n) = Unit {0}
-Suits Counter NotFound = Unit {0}
-Suits Touch Touched = Unit {0}
-Suits Touch NotFound = Unit {0}
+Suits Deletion Deleted = Unit {0}
+Suits Deletion NotFound = Unit {0}
+Suits Counting (Number n) = Unit {0}
+Suits Counting NotFound = Unit {0}
+Suits Touching Touched = Unit {0}
+Suits Touching NotFound = Unit {0}
 Suits Probe (Version text) = Unit {0}
 Suits kind Error = Unit {0}
 Suits kind (ClientError text) = Unit {0}
@@ -79,10 +74,10 @@ IsAlone word line = (line.word ≡ word) × (words line.rest ≡ [])
 abbrev pub IsTextLine : List ℕ → Split → List ℕ → Type 0
 IsTextLine word line text = (line.word ≡ word) × (text ≡ drop 1 line.rest)
 
--- the line is the whole answer
-abbrev pub Says : Split → Answer → Type 0
+-- the line is the whole response
+abbrev pub Says : Split → Response → Type 0
 Says line (Values None) = IsAlone (codes "END") line
-Says line (Values (Some found)) = ⊥
+Says line (Values (Some value)) = ⊥
 Says line Stored = IsAlone (codes "STORED") line
 Says line NotStored = IsAlone (codes "NOT_STORED") line
 Says line Exists = IsAlone (codes "EXISTS") line
@@ -95,8 +90,8 @@ Says line Error = IsAlone (codes "ERROR") line
 Says line (ClientError text) = IsTextLine (codes "CLIENT_ERROR") line text
 Says line (ServerError text) = IsTextLine (codes "SERVER_ERROR") line text
 
--- the bytes are one line, which is the whole answer
-pub record IsAnswerLine (bytes : List ℕ) (answer : Answer) : Type 0 where
+-- the bytes are one line, which is the whole response
+pub record IsAnswerLine (bytes : List ℕ) (answer : Response) : Type 0 where
   pub line : Split
   pub is_line : IsLine bytes line
   pub says : Says line answer
@@ -122,14 +117,14 @@ abbrev pub block : List ℕ → List ℕ
 block bytes = bytes ++ codes "\r\n"
 
 -- what follows a value's first line: its data, and the line `END`
-pub record IsBody (line : Split) (body : List ℕ) (found : Found) : Type 0 where
+pub record IsBody (line : Split) (body : List ℕ) (found : Value) : Type 0 where
   pub last : List ℕ
-  pub is_head : IsHead line found.key found.flags (length found.bytes) found.cas
-  pub whole : body ≡ block found.bytes ++ last
+  pub is_head : IsHead line found.key found.flags (length found.data) found.unique
+  pub whole : body ≡ block found.data ++ last
   pub is_end : IsAnswerLine last (Values None)
 
 -- the bytes are one value
-pub record IsValue (bytes : List ℕ) (found : Found) : Type 0 where
+pub record IsValue (bytes : List ℕ) (found : Value) : Type 0 where
   pub head : List ℕ
   pub line : Split
   pub body : List ℕ
@@ -137,8 +132,8 @@ pub record IsValue (bytes : List ℕ) (found : Found) : Type 0 where
   pub is_line : IsLine head line
   pub is_body : IsBody line body found
 
--- the bytes, from their first to their last, are this answer
-abbrev pub Spells : List ℕ → Answer → Type 0
+-- the bytes, from their first to their last, are this response
+abbrev pub Spells : List ℕ → Response → Type 0
 Spells bytes (Values (Some found)) = IsValue bytes found
 Spells bytes answer = IsAnswerLine bytes answer
 
@@ -175,34 +170,14 @@ pub record IsCutValue (kind : Kind) (bytes : List ℕ) : Type 0 where
 abbrev pub Begins : Kind → List ℕ → Type 0
 Begins kind bytes = IsOpenLine bytes ⊎ IsCutValue kind bytes
 
--- the requests whose answers are read so far
-abbrev pub IsTaken : Kind → Type 0
-IsTaken (Get key) = Unit {0}
-IsTaken _ = ⊥
-
-abbrev pub kind_of : Request → Kind
-kind_of (request.Get key) = Get key
-
-abbrev pub found_of : Value → Found
-found_of value = record { key = value.key; flags = value.flags; bytes = value.data; cas = None }
-
-abbrev pub answer_of : Response → Answer
-answer_of (response.Values None) = Values None
-answer_of (response.Values (Some value)) = Values (Some (found_of value))
-answer_of response.Error = Error
-answer_of (response.ClientError text) = ClientError text
-answer_of (response.ServerError text) = ServerError text
-
 -- the bytes, all of them, are this response to the request
 unfoldable pub IsResponse : Request → List ℕ → Response → Type 0
-IsResponse request bytes response =
-    IsTaken (kind_of request)
-    × Suits (kind_of request) (answer_of response)
-    × Spells bytes (answer_of response)
+IsResponse asked bytes response =
+    (kind : Kind) × (kind_of asked ≡ Some kind) × Suits kind response × Spells bytes response
 
 -- the bytes may be the beginning of a response to the request
 unfoldable pub IsBeginning : Request → List ℕ → Type 0
-IsBeginning request bytes = IsTaken (kind_of request) × Begins (kind_of request) bytes
+IsBeginning asked bytes = (kind : Kind) × (kind_of asked ≡ Some kind) × Begins kind bytes
 
 -- no front of the bytes is a response to the request
 unfoldable pub NoResponse : Request → List ℕ → Type 0
@@ -237,29 +212,32 @@ abbrev pub cas_text : Option ℕ → List ℕ
 cas_text None = []
 cas_text (Some n) = codes " " ++ decimal n
 
--- the written first line and data of a value
-abbrev pub value_text : Found → List ℕ
-value_text found =
+-- the written first line and data of a value, with this text after its size
+abbrev pub found_text : Value → List ℕ → List ℕ
+found_text found cas =
     codes "VALUE " ++ found.key ++ codes " " ++ decimal found.flags ++ codes " "
-    ++ decimal (length found.bytes) ++ cas_text found.cas ++ codes "\r\n"
-    ++ found.bytes ++ codes "\r\n"
+    ++ decimal (length found.data) ++ cas ++ codes "\r\n"
+    ++ found.data ++ codes "\r\n"
 
--- the written form of each answer
-abbrev pub answer_text : Answer → List ℕ
-answer_text (Values None) = codes "END\r\n"
-answer_text (Values (Some found)) = value_text found ++ codes "END\r\n"
-answer_text Stored = codes "STORED\r\n"
-answer_text NotStored = codes "NOT_STORED\r\n"
-answer_text Exists = codes "EXISTS\r\n"
-answer_text Deleted = codes "DELETED\r\n"
-answer_text Touched = codes "TOUCHED\r\n"
-answer_text NotFound = codes "NOT_FOUND\r\n"
-answer_text (Number n) = decimal n ++ codes "\r\n"
-answer_text (Version text) = codes "VERSION " ++ text ++ codes "\r\n"
-answer_text Error = codes "ERROR\r\n"
-answer_text (ClientError text) = codes "CLIENT_ERROR " ++ text ++ codes "\r\n"
-answer_text (ServerError text) = codes "SERVER_ERROR " ++ text ++ codes "\r\n"
+abbrev pub value_text : Value → List ℕ
+value_text found = found_text found (cas_text found.unique)
+
+-- the response of a value with this text after its size
+abbrev pub value_with : Value → List ℕ → List ℕ
+value_with found cas = found_text found cas ++ codes "END\r\n"
 
 -- the written form of a response
 unfoldable pub response_text : Response → List ℕ
-response_text response = answer_text (answer_of response)
+response_text (Values None) = codes "END\r\n"
+response_text (Values (Some found)) = value_text found ++ codes "END\r\n"
+response_text Stored = codes "STORED\r\n"
+response_text NotStored = codes "NOT_STORED\r\n"
+response_text Exists = codes "EXISTS\r\n"
+response_text Deleted = codes "DELETED\r\n"
+response_text Touched = codes "TOUCHED\r\n"
+response_text NotFound = codes "NOT_FOUND\r\n"
+response_text (Number n) = decimal n ++ codes "\r\n"
+response_text (Version text) = codes "VERSION " ++ text ++ codes "\r\n"
+response_text Error = codes "ERROR\r\n"
+response_text (ClientError text) = codes "CLIENT_ERROR " ++ text ++ codes "\r\n"
+response_text (ServerError text) = codes "SERVER_ERROR " ++ text ++ codes "\r\n"

@@ -1,5 +1,5 @@
 //! Bytes that have come and belong to no item yet.
-ghost use Rattle.std.specs.Prelude.{◌≡◌, ◌≤◌, ◌++◌, [], length, take, drop, OnOk, OnErr};
+ghost use Rattle.std.specs.Prelude.{◌≡◌, ◌<◌, ◌≤◌, ◌^◌, ◌++◌, [], length, take, drop, OnOk, OnErr};
 ghost use Rattle.memchr.specs.Find.{IsFirstByte, is_byte};
 ghost use Rattle.tko_bytes.specs.Lines.{line_feed};
 
@@ -45,7 +45,8 @@ impl Buffer {
     }
 
     pub(crate) fn len(&self) -> usize
-        ensures { result ≡ length self.now }
+        ensures len { result ≡ length self.now }
+        ensures small { result < 2 ^ 63 }
     {
         self.bytes.len() - self.start
     }
@@ -62,6 +63,7 @@ impl Buffer {
     pub(crate) fn line_end(&mut self) -> Option<usize>
         ensures found { IsFirstByte (is_byte line_feed) self.old result }
         ensures kept { self.new ≡ self.old }
+        ensures small { length self.old < 2 ^ 63 }
     {
         match memchr(b'\n', &self.bytes[self.searched..]) {
             Some(at) => {
@@ -81,6 +83,14 @@ impl Buffer {
         ensures { result.now ≡ take len self.now }
     {
         &self.bytes[self.start..self.start + len]
+    }
+
+    /// What follows the first so many bytes.
+    pub(crate) fn behind(&self, len: usize) -> &[u8]
+        requires { len ≤ length self.now }
+        ensures { result.now ≡ drop len self.now }
+    {
+        &self.bytes[self.start + len..]
     }
 
     /// Removes the first so many bytes.

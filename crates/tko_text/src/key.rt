@@ -1,5 +1,5 @@
 //! What a value is stored under.
-ghost use Rattle.std.specs.Prelude.{◌≡◌, ◌↔◌, IfOk, IfSome, IsSome};
+ghost use Rattle.std.specs.Prelude.{◌≡◌, ◌↔◌, IfOk, IfSome, IsSome, IsTrue, is_some};
 
 use crate::NoMemory;
 use std::alloc::Global;
@@ -24,12 +24,38 @@ impl Model for Key {
 }
 
 impl Key {
-    ghost use Rattle.tko_text.specs.Keys.{IsKey};
+    ghost use Rattle.tko_text.specs.Keys.{IsKey, is_key};
+
+    /// The key that owns these bytes.
+    pub fn new(bytes: Vec<u8>) -> Key
+        requires { IsKey bytes.items }
+        ensures { result ≡ bytes.items }
+    {
+        Key { bytes }
+    }
+
+    /// Whether these bytes are a key.
+    pub fn fits(bytes: &[u8]) -> bool
+        ensures key { IsTrue result ↔ IsKey bytes.now }
+        ensures test { result ≡ is_key bytes.now }
+    {
+        is_key(bytes)
+    }
+
+    /// The bytes of the key.
+    pub fn into_bytes(self) -> Vec<u8>
+        ensures value { result.items ≡ self }
+        ensures key { IsKey self }
+    {
+        let Key { bytes } = self;
+        bytes
+    }
 
     /// The key of these bytes, where they are one.
     pub fn of(alloc: Global, bytes: &[u8]) -> Result<Option<Key>, NoMemory>
         ensures some { IfOk result (λ key. IsSome key ↔ IsKey bytes.now) }
         ensures value { IfOk result (λ key. IfSome key (λ key. key ≡ bytes.now)) }
+        ensures test { IfOk result (λ key. is_some key ≡ is_key bytes.now) }
     {
         if !is_key(bytes) {
             return Ok(None);

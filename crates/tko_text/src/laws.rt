@@ -1,5 +1,6 @@
 //! Laws of the grammar. Each is the contract of a function that does nothing.
-ghost use Rattle.tko_text.specs.Reading.{FeedingKeeps, OneReading, ReadAgain};
+ghost use Rattle.tko_text.specs.Printed.{ReadAgain};
+ghost use Rattle.tko_text.specs.Reading.{FeedingKeeps, OneReading};
 
 /// However the input is cut into pieces, the same items are read.
 pub fn any_cutting()
@@ -7,7 +8,8 @@ pub fn any_cutting()
     ensures one { OneReading }
 {}
 
-/// What `Request::write` prints is read as that request, whatever follows it.
+/// What `Request::write` prints is read as that request, whatever follows it, where its line has at
+/// most 65,536 bytes before its LF.
 pub fn read_again()
     ensures { ReadAgain }
 {}

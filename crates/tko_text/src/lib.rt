@@ -6,21 +6,29 @@
 #![tactic(auto)]
 
 mod buffer;
+mod data;
+mod expiry;
 mod fault;
+mod form;
 mod item;
 mod key;
+mod keys;
 mod laws;
 mod line;
+mod pending;
 mod reader;
 mod request;
 mod response;
+mod state;
+mod step;
 
 pub use fault::TextFault;
 pub use item::Item;
 pub use key::Key;
+pub use keys::Keys;
 pub use laws::{any_cutting, read_again};
 pub use reader::{FeedFault, Reader};
-pub use request::Request;
+pub use request::{Entry, Request, Verb};
 pub use response::{Data, ReadFault, Response, Text, Value, one_response};
 pub use tko_bytes::NoMemory;
 

@@ -1,63 +1,326 @@
-//! Request lines.
-ghost use Rattle.std.specs.Prelude.{◌≡◌, ◌≢◌, [], ◌∷◌, IfOk};
-ghost use Rattle.tko_text.specs.Commands.{Next, parsed_keys, parsed, parsed_words};
-ghost use Rattle.tko_bytes.specs.Lines.{content};
-ghost use Rattle.tko_text.specs.Reading.{Completes};
-ghost use Rattle.tko_text.specs.Requests.{Get};
-ghost use Rattle.tko_bytes.specs.Words.{words};
+//! Request lines, parsed word by word.
+ghost use Rattle.std.specs.Prelude.{◌≡◌, ◌≢◌, Some, None, IfOk, MatchOption, if◌then◌else◌};
+ghost use Rattle.tko_text.specs.Commands.{Announced, announced, announced_by, entry_with, keys_of, noreply, parsed, parsed_alone, parsed_form, parsed_stats, with_data};
+ghost use Rattle.tko_text.specs.Parsed.{IsWithinLimits, meaning, stored_by};
 
-use crate::{Item, Key, NoMemory, Request, TextFault};
+use crate::expiry::expiry_of;
+use crate::form::{Form, form_of};
+use crate::response::DATA_LIMIT;
+use crate::{Key, Keys, NoMemory, Request, TextFault, Verb};
 use std::alloc::Global;
-use tko_bytes::split_word;
+use tko_bytes::{Words, number};
 
 /// How many bytes a line may have before its LF, a CR counted.
 pub(crate) const LINE_LIMIT: usize = 65_536;
 
-/// The item of a line that holds these bytes.
-pub(crate) fn read_line(alloc: Global, line: &[u8]) -> Result<Item, NoMemory>
-    ensures item { IfOk result (λ item. Completes (parsed line.now) [] item Next) }
-    ensures short { IfOk result (λ item. item ≢ Item.Fault TextFault.LineTooLong) }
-{
-    match split_word(line) {
-        Some((word, rest)) => read_command(alloc, word, rest),
-        None => Ok(Item::Fault(TextFault::UnknownCommand)),
-    }
+/// The greatest flags.
+pub(crate) const FLAGS_LIMIT: u64 = 4_294_967_295;
+
+/// The greatest size, cas number or amount.
+pub(crate) const NUMBER_LIMIT: u64 = 18_446_744_073_709_551_615;
+
+/// The command word of a storage request.
+#[derive(Clone, Copy, Debug)]
+pub(crate) enum StoreWord {
+    Verb(Verb),
+    Cas(u64),
 }
 
-/// The item of a command word that these bytes follow.
-fn read_command(alloc: Global, word: &[u8], rest: &[u8]) -> Result<Item, NoMemory>
-    ensures item { IfOk result (λ item.
-        Completes (parsed_words (word.now ∷ words rest.now)) [] item Next) }
-    ensures short { IfOk result (λ item. item ≢ Item.Fault TextFault.LineTooLong) }
-{
-    if word == b"get".as_slice() {
-        read_get(alloc, rest)
-    } else {
-        Ok(Item::Fault(TextFault::UnknownCommand))
-    }
+/// A storage request without its data.
+#[derive(Debug, Drop)]
+pub(crate) struct Header {
+    pub word: StoreWord,
+    pub key: Key,
+    pub flags: u32,
+    pub expiry: i64,
+    pub size: usize,
+    pub noreply: bool,
 }
 
-/// The item of a `get` that these bytes follow.
-fn read_get(alloc: Global, rest: &[u8]) -> Result<Item, NoMemory>
-    ensures item { IfOk result (λ item. Completes (parsed_keys Get (words rest.now)) [] item Next) }
-    ensures short { IfOk result (λ item. item ≢ Item.Fault TextFault.LineTooLong) }
+/// What a line is by itself.
+#[derive(Debug, Drop)]
+pub(crate) enum ParsedLine {
+    /// A whole request.
+    Asks(Request),
+    /// A request that data complete.
+    AwaitsData(Header),
+    /// A fault, and the size of the data that are skipped with their CR LF.
+    Refused(TextFault, Option<u64>),
+}
+
+/// What a line announces of an entry.
+#[derive(Clone, Copy)]
+struct EntryWords<'a> {
+    key: &'a [u8],
+    flags: u32,
+    expiry: i64,
+    size: u64,
+}
+
+/// A fault after which the next line follows.
+fn refused(fault: TextFault) -> ParsedLine
+    ensures { result ≡ ParsedLine.Refused fault None }
 {
-    let Some((key, rest)) = split_word(rest) else {
-        return Ok(Item::Fault(TextFault::BadLine));
+    ParsedLine::Refused(fault, None)
+}
+
+/// The parsed line that holds these bytes.
+pub(crate) fn read_line(alloc: Global, line: &[u8]) -> Result<ParsedLine, NoMemory>
+    ensures is { IfOk result (λ found. parsed line.now ≡ meaning found) }
+    ensures fault { IfOk result IsWithinLimits }
+{
+    let mut words = Words::of(line);
+    let Some(word) = words.next() else {
+        return Ok(refused(TextFault::UnknownCommand));
     };
-    match split_word(rest) {
-        Some(_) => Ok(Item::Fault(TextFault::BadLine)),
-        None => get_of(alloc, key),
+    match form_of(word) {
+        Some(form) => read_form(alloc, form, words),
+        None => Ok(refused(TextFault::UnknownCommand)),
     }
 }
 
-/// The item of a `get` of one key.
-fn get_of(alloc: Global, key: &[u8]) -> Result<Item, NoMemory>
-    ensures item { IfOk result (λ item. Completes (parsed_keys Get (key.now ∷ [])) [] item Next) }
-    ensures short { IfOk result (λ item. item ≢ Item.Fault TextFault.LineTooLong) }
+/// The words that follow a command word of this form.
+fn read_form(alloc: Global, form: Form, words: Words) -> Result<ParsedLine, NoMemory>
+    ensures is { IfOk result (λ found. parsed_form form words.entry ≡ meaning found) }
+    ensures fault { IfOk result IsWithinLimits }
 {
+    match form {
+        Form::Get => match read_keys(alloc, words)? {
+            Ok(keys) => Ok(ParsedLine::Asks(Request::Get { keys })),
+            Err(fault) => Ok(refused(fault)),
+        },
+        Form::Gets => match read_keys(alloc, words)? {
+            Ok(keys) => Ok(ParsedLine::Asks(Request::Gets { keys })),
+            Err(fault) => Ok(refused(fault)),
+        },
+        Form::Store(verb) => stored(alloc, verb, words),
+        Form::Cas => compared(alloc, words),
+        Form::Delete => deleted(alloc, words),
+        Form::Incr => counted(alloc, false, words),
+        Form::Decr => counted(alloc, true, words),
+        Form::Touch => touched(alloc, words),
+        Form::Version => Ok(alone(Request::Version, words)),
+        Form::Quit => Ok(alone(Request::Quit, words)),
+        Form::Stats => Ok(stats(words)),
+    }
+}
+
+/// The keys that these words are: one key or more.
+fn read_keys(alloc: Global, mut words: Words) -> Result<Result<Keys, TextFault>, NoMemory>
+    ensures is { IfOk result (λ found. keys_of words.entry ≡ found) }
+    ensures fault { IfOk result (λ found. found ≢ Err TextFault.LineTooLong) }
+{
+    let mut keys = Vec::new(alloc);
+    while let Some(word) = words.next() {
+        match Key::of(alloc, word)? {
+            Some(key) => keys.push(key)?,
+            None => return Ok(Err(TextFault::BadKey)),
+        }
+    }
+    if keys.is_empty() {
+        return Ok(Err(TextFault::BadLine));
+    }
+    Ok(Ok(Keys::new(keys)))
+}
+
+/// `<key> <flags> <expiry> <bytes> [noreply]`
+fn stored(alloc: Global, verb: Verb, mut words: Words) -> Result<ParsedLine, NoMemory>
+    ensures is { IfOk result (λ found. parsed_form (Form.Store verb) words.entry ≡ meaning found) }
+    ensures fault { IfOk result IsWithinLimits }
+{
+    let Some(entry) = announced(&mut words) else {
+        return Ok(refused(TextFault::BadLine));
+    };
+    let Some(noreply) = noreply(words) else {
+        return Ok(refused(TextFault::BadLine));
+    };
+    with_data(alloc, StoreWord::Verb(verb), entry, noreply)
+}
+
+/// `<key> <flags> <expiry> <bytes> <cas> [noreply]`
+fn compared(alloc: Global, mut words: Words) -> Result<ParsedLine, NoMemory>
+    ensures is { IfOk result (λ found. parsed_form Form.Cas words.entry ≡ meaning found) }
+    ensures fault { IfOk result IsWithinLimits }
+{
+    let Some(entry) = announced(&mut words) else {
+        return Ok(refused(TextFault::BadLine));
+    };
+    let Some(unique) = words.next() else {
+        return Ok(refused(TextFault::BadLine));
+    };
+    let Some(unique) = number(unique, NUMBER_LIMIT) else {
+        return Ok(refused(TextFault::BadLine));
+    };
+    let Some(noreply) = noreply(words) else {
+        return Ok(refused(TextFault::BadLine));
+    };
+    with_data(alloc, StoreWord::Cas(unique), entry, noreply)
+}
+
+/// `<key> <flags> <expiry> <bytes>` at the front of the words.
+fn announced<'a>(words: &mut Words<'a>) -> Option<EntryWords<'a>>
+    ensures { MatchOption result (announced words.old ≡ None) (λ a.
+        announced words.old
+        ≡ Some (announced_by a.key.now a.flags a.expiry a.size, words.new)) }
+{
+    let key = words.next()?;
+    let flags = words.next()?;
+    let expiry = words.next()?;
+    let size = words.next()?;
+    Some(EntryWords {
+        key,
+        flags: number(flags, FLAGS_LIMIT)? as u32,
+        expiry: expiry_of(expiry)?,
+        size: number(size, NUMBER_LIMIT)?,
+    })
+}
+
+/// A storage request of these parts, which awaits its data.
+fn with_data(
+    alloc: Global,
+    word: StoreWord,
+    entry: EntryWords,
+    noreply: bool,
+) -> Result<ParsedLine, NoMemory>
+    ensures fault { IfOk result IsWithinLimits }
+    ensures is { IfOk result (λ found.
+        with_data entry.entry.key.now entry.entry.size (λ value. stored_by word
+        (entry_with (announced_by entry.entry.key.now entry.entry.flags entry.entry.expiry
+        entry.entry.size) value) noreply)
+        ≡ meaning found) }
+{
+    if !Key::fits(entry.key) {
+        return Ok(ParsedLine::Refused(TextFault::BadKey, Some(entry.size)));
+    }
+    if entry.size > DATA_LIMIT as u64 {
+        return Ok(ParsedLine::Refused(TextFault::TooLarge, Some(entry.size)));
+    }
+    let key = Key::new(Vec::from_slice(alloc, entry.key)?);
+    Ok(ParsedLine::AwaitsData(Header {
+        word,
+        key,
+        flags: entry.flags,
+        expiry: entry.expiry,
+        size: entry.size as usize,
+        noreply,
+    }))
+}
+
+/// `<key> [noreply]`
+fn deleted(alloc: Global, mut words: Words) -> Result<ParsedLine, NoMemory>
+    ensures is { IfOk result (λ found. parsed_form Form.Delete words.entry ≡ meaning found) }
+    ensures fault { IfOk result IsWithinLimits }
+{
+    let Some(key) = words.next() else {
+        return Ok(refused(TextFault::BadLine));
+    };
+    let Some(noreply) = noreply(words) else {
+        return Ok(refused(TextFault::BadLine));
+    };
     match Key::of(alloc, key)? {
-        Some(key) => Ok(Item::Request(Request::Get { key })),
-        None => Ok(Item::Fault(TextFault::BadKey)),
+        Some(key) => Ok(ParsedLine::Asks(Request::Delete { key, noreply })),
+        None => Ok(refused(TextFault::BadKey)),
+    }
+}
+
+/// `<key> <amount> [noreply]`, to count down or up.
+fn counted(alloc: Global, down: bool, mut words: Words) -> Result<ParsedLine, NoMemory>
+    ensures is { IfOk result (λ found.
+        parsed_form (if down then Form.Decr else Form.Incr) words.entry ≡ meaning found) }
+    ensures fault { IfOk result IsWithinLimits }
+{
+    let Some(key) = words.next() else {
+        return Ok(refused(TextFault::BadLine));
+    };
+    let Some(amount) = words.next() else {
+        return Ok(refused(TextFault::BadLine));
+    };
+    let Some(amount) = number(amount, NUMBER_LIMIT) else {
+        return Ok(refused(TextFault::BadLine));
+    };
+    let Some(noreply) = noreply(words) else {
+        return Ok(refused(TextFault::BadLine));
+    };
+    let Some(key) = Key::of(alloc, key)? else {
+        return Ok(refused(TextFault::BadKey));
+    };
+    if down {
+        Ok(ParsedLine::Asks(Request::Decr {
+            key,
+            amount,
+            noreply,
+        }))
+    } else {
+        Ok(ParsedLine::Asks(Request::Incr {
+            key,
+            amount,
+            noreply,
+        }))
+    }
+}
+
+/// `<key> <expiry> [noreply]`
+fn touched(alloc: Global, mut words: Words) -> Result<ParsedLine, NoMemory>
+    ensures is { IfOk result (λ found. parsed_form Form.Touch words.entry ≡ meaning found) }
+    ensures fault { IfOk result IsWithinLimits }
+{
+    let Some(key) = words.next() else {
+        return Ok(refused(TextFault::BadLine));
+    };
+    let Some(expiry) = words.next() else {
+        return Ok(refused(TextFault::BadLine));
+    };
+    let Some(expiry) = expiry_of(expiry) else {
+        return Ok(refused(TextFault::BadLine));
+    };
+    let Some(noreply) = noreply(words) else {
+        return Ok(refused(TextFault::BadLine));
+    };
+    match Key::of(alloc, key)? {
+        Some(key) => Ok(ParsedLine::Asks(Request::Touch {
+            key,
+            expiry,
+            noreply,
+        })),
+        None => Ok(refused(TextFault::BadKey)),
+    }
+}
+
+/// A request that no word follows.
+fn alone(request: Request, words: Words) -> ParsedLine
+    ensures is { parsed_alone request words.entry ≡ meaning result }
+    ensures fault { IsWithinLimits result }
+{
+    if words.is_done() {
+        ParsedLine::Asks(request)
+    } else {
+        refused(TextFault::BadLine)
+    }
+}
+
+/// The word `tko`.
+fn stats(mut words: Words) -> ParsedLine
+    ensures is { parsed_stats words.entry ≡ meaning result }
+    ensures fault { IsWithinLimits result }
+{
+    match words.next() {
+        Some(word) if word == b"tko".as_slice() && words.is_done() => {
+            ParsedLine::Asks(Request::StatsTko)
+        }
+        _ => refused(TextFault::UnknownCommand),
+    }
+}
+
+/// Whether `noreply` follows, where nothing else does.
+fn noreply(mut words: Words) -> Option<bool>
+    ensures { result ≡ noreply words.entry }
+{
+    let Some(word) = words.next() else {
+        return Some(false);
+    };
+    if words.is_done() && word == b"noreply".as_slice() {
+        Some(true)
+    } else {
+        None
     }
 }

@@ -1,13 +1,14 @@
 //! Reads items from bytes that come in any pieces.
 ghost use Rattle.std.specs.Prelude.{◌≡◌, ◌≢◌, ◌↔◌, length, IfOk, IfNone, IfSome, IsErrOf, OnOk, OnErr};
+ghost use Rattle.tko_text.specs.declared.fault.TextFault.{TextFault};
 
 use crate::buffer::Buffer;
-use crate::line::{LINE_LIMIT, read_line};
-use crate::{Item, NoMemory, TextFault};
+use crate::state::{State, feed_skipped, feed_skipped_line};
+use crate::step::{next_data, next_line};
+use crate::{Item, NoMemory};
 use std::alloc::{AllocError, Global};
 use std::marker::Model;
 use thiserror::Error;
-use tko_bytes::content;
 
 /// Why a piece was not taken.
 #[derive(Clone, Copy, Debug, PartialEq, Eq, Error)]
@@ -35,21 +36,22 @@ impl From<AllocError> for FeedFault {
 pub struct Reader {
     alloc: Global,
     buffer: Buffer,
-    failed: bool,
+    state: State,
 }
 
 impl Model for Reader {
-    ghost use Rattle.std.specs.Prelude.{if◌then◌else◌};
-    ghost use Rattle.tko_text.specs.Reading.{Reading, Next, Never};
+    ghost use Rattle.tko_text.specs.Reading.{Reading};
+    ghost use Rattle.tko_text.specs.States.{reading_of, IsState};
 
     ghost Value = { Reading };
 
-    ghost view = { λ r. record { after = (if r.failed then Never else Next); unread = r.buffer } };
+    ghost view = { λ r. reading_of r.state r.buffer };
+
+    ghost invariant = { λ r. IsState r.state r.buffer };
 }
 
 impl Reader {
-    ghost use Rattle.tko_text.specs.Reading.{start, fed, Emits, NeedsMore, Next, Never};
-    ghost use Rattle.tko_text.specs.Lines.{IsEndedAt, IsBeyond};
+    ghost use Rattle.tko_text.specs.Reading.{start, fed, Emits, NeedsMore, Never};
 
     /// A reader that has read nothing.
     pub fn new(alloc: Global) -> Reader
@@ -58,7 +60,7 @@ impl Reader {
         Reader {
             alloc,
             buffer: Buffer::new(alloc),
-            failed: false,
+            state: State::Line,
         }
     }
 
@@ -68,10 +70,16 @@ impl Reader {
         ensures failed { IsErrOf result FeedFault.Failed ↔ (self.old.after ≡ Never) }
         ensures err { OnErr result (self.new ≡ self.old) }
     {
-        if self.failed {
-            return Err(FeedFault::Failed);
+        match &mut self.state {
+            State::Line => self.buffer.push(piece)?,
+            State::Data(pending) => pending.data.extend_from_slice(piece)?,
+            State::Skip(count) => {
+                let count = *count;
+                self.state = feed_skipped(&mut self.buffer, count, piece)?;
+            }
+            State::SkipLine => self.state = feed_skipped_line(&mut self.buffer, piece)?,
+            State::Never => return Err(FeedFault::Failed),
         }
-        self.buffer.push(piece)?;
         Ok(())
     }
 
@@ -86,52 +94,22 @@ impl Reader {
         ensures err { OnErr result (self.new ≡ self.old) }
         ensures never { OnErr result (self.old.after ≢ Never) }
     {
-        if self.failed {
-            return Ok(None);
+        match &self.state {
+            State::Line => next_line(self.alloc, &mut self.state, &mut self.buffer),
+            State::Data(_) => next_data(&mut self.state, &mut self.buffer),
+            State::Skip(_) => Ok(None),
+            State::SkipLine => Ok(None),
+            State::Never => Ok(None),
         }
-        match self.buffer.line_end() {
-            Some(len) if len <= LINE_LIMIT => Ok(Some(self.read(len)?)),
-            Some(_) => Ok(Some(self.fail())),
-            None if self.buffer.len() > LINE_LIMIT => Ok(Some(self.fail())),
-            None => {
-                self.buffer.compact();
-                Ok(None)
-            }
-        }
-    }
-
-    /// The item of the line of so many bytes.
-    fn read(&mut self, len: usize) -> Result<Item, NoMemory>
-        requires next { self.old.after ≡ Next }
-        requires line { IsEndedAt self.old.unread len }
-        ensures ok { IfOk result (λ item. Emits self.old item self.new) }
-        ensures short { IfOk result (λ item. item ≢ Item.Fault TextFault.LineTooLong) }
-        ensures err { OnErr result (self.new ≡ self.old) }
-    {
-        let line = content(self.buffer.front(len));
-        let item = read_line(self.alloc, line)?;
-        self.buffer.consume(len + 1);
-        Ok(item)
-    }
-
-    /// The fault of a line past its limit, after which nothing is read.
-    fn fail(&mut self) -> Item
-        requires next { self.old.after ≡ Next }
-        requires line { IsBeyond self.old.unread }
-        ensures item { Emits self.old result self.new }
-        ensures after { self.new.after ≡ Never }
-    {
-        let len = self.buffer.len();
-        self.buffer.consume(len);
-        self.buffer.compact();
-        self.failed = true;
-        Item::Fault(TextFault::LineTooLong)
     }
 
     /// How many bytes have come of an item that isn't whole.
     pub fn unfinished(&self) -> usize
         ensures { result ≡ length self.now.unread }
     {
-        self.buffer.len()
+        match &self.state {
+            State::Data(pending) => pending.line.len() + pending.data.len(),
+            _ => self.buffer.len(),
+        }
     }
 }

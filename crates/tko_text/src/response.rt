@@ -8,8 +8,18 @@ use std::alloc::Global;
 /// An answer to a request.
 #[derive(Debug, Drop)]
 pub enum Response {
-    /// To a `get` of one key: no value or one.
+    /// To a `get` or `gets` of one key: no value or one.
     Values(Option<Value>),
+    Stored,
+    NotStored,
+    /// The cas number of a `cas` is no longer this one.
+    Exists,
+    Deleted,
+    Touched,
+    NotFound,
+    /// To `incr` and `decr`: the number that is stored now.
+    Number(u64),
+    Version(Text),
     /// The server doesn't know the command.
     Error,
     /// The request was wrong, as the text says.
@@ -53,11 +63,13 @@ impl Response {
 
 mod body;
 mod fault;
+mod kind;
 mod laws;
 mod line;
 mod reader;
 mod writer;
 
+pub(crate) use body::DATA_LIMIT;
 pub use body::{Data, Text, Value};
 pub use fault::ReadFault;
 pub use laws::one_response;

@@ -15,6 +15,8 @@ pub struct Value {
     pub key: Key,
     pub flags: u32,
     pub data: Data,
+    /// The cas number, where it was asked for.
+    pub unique: Option<u64>,
 }
 
 /// At most 1,048,576 bytes. Contracts see their list.
@@ -65,7 +67,7 @@ impl Data {
     }
 }
 
-/// The text of an error: bytes without LF. Contracts see their list.
+/// The text of an error or a version: bytes without LF. Contracts see their list.
 #[derive(Debug, Drop)]
 pub struct Text {
     bytes: Vec<u8>,

@@ -1,25 +1,25 @@
 //! Reads a response, a function a form.
-ghost use Rattle.std.specs.Prelude.{◌≡◌, ◌≢◌, ℕ, ◌≤◌, List, [], ◌∷◌, ◌++◌, None, drop, length, IfOk, MatchOption, MatchResult};
-ghost use Rattle.tko_bytes.specs.Words.{words};
+ghost use Rattle.std.specs.Prelude.{◌≡◌, ◌≢◌, ℕ, ◌≤◌, List, [], ◌∷◌, ◌++◌, Option, Some, None, drop, is_some, length, IfOk, MatchOption, MatchResult};
 ghost use Rattle.tko_text.specs.ResponseLines.{IsData, IsText};
-ghost use Rattle.tko_text.specs.ResponseFaults.{BodyFault, DataFault, EndFault, NoHead, NoResponseLine, SplitsBody, SplitsEnd, value_line};
-ghost use Rattle.tko_text.specs.Responses.{IsHead, ReadsResponse, Says, answer_of, block};
+ghost use Rattle.tko_text.specs.ResponseFaults.{BodyFault, DataFault, EndFault, NoHead, Misses, ReadsOf, SplitsBody, SplitsEnd, line_response, value_line, version_response, word_response};
+ghost use Rattle.tko_text.specs.ResponseKinds.{seen};
+ghost use Rattle.tko_text.specs.Responses.{IsCas, IsHead, ReadsResponse, block};
 
 use super::body::DATA_LIMIT;
+use super::kind::{Kind, kind_of, suits};
 use super::line::split_line;
 use super::{Data, ReadFault, Response, Text, Value};
+use crate::line::{FLAGS_LIMIT, NUMBER_LIMIT};
 use crate::{Key, NoMemory, Request};
 use std::alloc::Global;
-use tko_bytes::{number, split_word};
-
-/// The greatest flags of a value.
-const FLAGS_LIMIT: u64 = 4_294_967_295;
+use tko_bytes::{Words, number, split_word};
 
 /// What the first line of a value announces beside its key.
 #[derive(Clone, Copy, Debug)]
 struct Head {
     flags: u32,
     size: usize,
+    unique: Option<u64>,
 }
 
 /// The response at the front of the bytes, and how many bytes it takes.
@@ -31,31 +31,37 @@ pub(crate) fn read(
     ensures reads { ReadsResponse request.now bytes.now result }
     ensures within { IfOk result (λ found. found.1 ≤ length bytes.now) }
 {
-    match request {
-        Request::Get { key } => read_found(alloc, key, bytes),
+    match kind_of(request) {
+        Some(kind) => read_kind(alloc, kind, bytes),
+        None => Err(ReadFault::Unreadable),
     }
 }
 
-/// The response to a `get` of the key.
-fn read_found(alloc: Global, key: &Key, bytes: &[u8]) -> Result<(Response, usize), ReadFault>
-    ensures reads { ReadsResponse (Request.Get key.now) bytes.now result }
+/// The response to a request of the kind.
+fn read_kind(alloc: Global, kind: Kind, bytes: &[u8]) -> Result<(Response, usize), ReadFault>
+    ensures reads { ReadsOf (seen kind.entry) bytes.now result }
     ensures within { IfOk result (λ found. found.1 ≤ length bytes.now) }
 {
     let (word, arguments, rest) = split_line(bytes)?;
     if word == b"VALUE".as_slice() {
-        let (value, rest) = read_value(alloc, key, arguments, rest)?;
+        let (value, rest) = read_value(alloc, kind, arguments, rest)?;
         return Ok((Response::Values(Some(value)), bytes.len() - rest.len()));
     }
     let response = whole_line(alloc, word, arguments)?;
+    if !suits(kind, &response) {
+        return Err(ReadFault::Unreadable);
+    }
     Ok((response, bytes.len() - rest.len()))
 }
 
 /// The response that is one line of this first word.
+#[tactic(auto, unfolding(crate::specs::ResponseFaults::line_response))]
 fn whole_line(alloc: Global, word: &[u8], arguments: &[u8]) -> Result<Response, ReadFault>
     requires { IsText arguments.now }
     ensures { MatchResult result
-        (λ response. Says (record { word = word.now; rest = arguments.now }) (answer_of response))
-        (λ fault. NoResponseLine fault (record { word = word.now; rest = arguments.now })) }
+        (λ response. line_response (record { word = word.now; rest = arguments.now })
+        ≡ Some response)
+        (λ fault. Misses fault (line_response (record { word = word.now; rest = arguments.now }))) }
 {
     if word == b"CLIENT_ERROR".as_slice() {
         return Ok(Response::ClientError(copy_text(alloc, arguments)?));
@@ -63,16 +69,55 @@ fn whole_line(alloc: Global, word: &[u8], arguments: &[u8]) -> Result<Response, 
     if word == b"SERVER_ERROR".as_slice() {
         return Ok(Response::ServerError(copy_text(alloc, arguments)?));
     }
-    if split_word(arguments).is_some() {
+    if word == b"VERSION".as_slice() {
+        return version(alloc, arguments);
+    }
+    match Words::of(arguments).next() {
+        None => match word_response(word) {
+            Some(response) => Ok(response),
+            None => Err(ReadFault::Unreadable),
+        },
+        Some(_) => Err(ReadFault::Unreadable),
+    }
+}
+
+/// The version of this text, which has at least one byte.
+fn version(alloc: Global, arguments: &[u8]) -> Result<Response, ReadFault>
+    requires { IsText arguments.now }
+    ensures { MatchResult result
+        (λ response. version_response (drop 1 arguments.now) ≡ Some response)
+        (λ fault. Misses fault (version_response (drop 1 arguments.now))) }
+{
+    let text = copy_text(alloc, arguments)?;
+    if text.as_bytes().is_empty() {
         return Err(ReadFault::Unreadable);
     }
+    Ok(Response::Version(text))
+}
+
+/// The response that is this word alone.
+fn word_response(word: &[u8]) -> Option<Response>
+    ensures { result ≡ word_response word.now }
+{
     if word == b"END".as_slice() {
-        return Ok(Response::Values(None));
+        Some(Response::Values(None))
+    } else if word == b"STORED".as_slice() {
+        Some(Response::Stored)
+    } else if word == b"NOT_STORED".as_slice() {
+        Some(Response::NotStored)
+    } else if word == b"EXISTS".as_slice() {
+        Some(Response::Exists)
+    } else if word == b"DELETED".as_slice() {
+        Some(Response::Deleted)
+    } else if word == b"TOUCHED".as_slice() {
+        Some(Response::Touched)
+    } else if word == b"NOT_FOUND".as_slice() {
+        Some(Response::NotFound)
+    } else if word == b"ERROR".as_slice() {
+        Some(Response::Error)
+    } else {
+        Some(Response::Number(number(word, NUMBER_LIMIT)?))
     }
-    if word == b"ERROR".as_slice() {
-        return Ok(Response::Error);
-    }
-    Err(ReadFault::Unreadable)
 }
 
 /// The text that follows the first word: all but one space.
@@ -97,49 +142,63 @@ fn without_first(bytes: &[u8]) -> &[u8]
 /// What follows the word `VALUE`: the rest of its line, the data, and the line `END`.
 fn read_value<'a>(
     alloc: Global,
-    key: &Key,
+    kind: Kind,
     arguments: &[u8],
     rest: &'a [u8],
 ) -> Result<(Value, &'a [u8]), ReadFault>
     ensures { MatchResult result
-        (λ read. SplitsBody key.now (value_line arguments.now) rest.now read.0 read.1.now)
-        (λ fault. BodyFault fault key.now (value_line arguments.now) rest.now) }
+        (λ read. SplitsBody (seen kind.entry) (value_line arguments.now) rest.now read.0 read.1.now)
+        (λ fault. BodyFault fault (seen kind.entry) (value_line arguments.now) rest.now) }
 {
-    let Some(head) = value_head(arguments, key.as_bytes()) else {
+    let Kind::Retrieval { key, unique } = kind else {
+        return Err(ReadFault::Unreadable);
+    };
+    let Some(head) = value_head(arguments, key.as_bytes(), unique) else {
         return Err(ReadFault::Unreadable);
     };
     let (data, rest) = split_data(rest, head.size)?;
     let rest = split_end(rest)?;
-    Ok((copy_value(alloc, key, head.flags, data)?, rest))
+    Ok((copy_value(alloc, key, head, data)?, rest))
 }
 
 /// What the first line of a value of this key announces after the word `VALUE`.
-fn value_head(arguments: &[u8], key: &[u8]) -> Option<Head>
-    ensures { MatchOption result (NoHead (value_line arguments.now) key.now)
-        (λ head. IsHead (value_line arguments.now) key.now head.flags head.size None) }
+fn value_head(arguments: &[u8], key: &[u8], unique: bool) -> Option<Head>
+    ensures { MatchOption result (NoHead (value_line arguments.now) key.now unique)
+        (λ head. (is_some head.unique ≡ unique)
+        × IsHead (value_line arguments.now) key.now head.flags head.size head.unique) }
 {
-    let (found, flags, size) = three_words(arguments)?;
+    let mut words = Words::of(arguments);
+    let found = words.next()?;
+    let flags = words.next()?;
+    let size = words.next()?;
     if found != key {
         return None;
     }
     let flags = number(flags, FLAGS_LIMIT)? as u32;
     let size = number(size, DATA_LIMIT as u64)? as usize;
-    Some(Head { flags, size })
+    let unique = cas_number(words, unique)?;
+    Some(Head {
+        flags,
+        size,
+        unique,
+    })
 }
 
-/// The words of a line that has three.
-fn three_words(line: &[u8]) -> Option<(&[u8], &[u8], &[u8])>
+/// The cas number that the last words of a value's first line are, where it has one.
+fn cas_number(mut words: Words, unique: bool) -> Option<Option<u64>>
     ensures { MatchOption result
-        ((a b c : List ℕ) → words line.now ≢ a ∷ b ∷ c ∷ [])
-        (λ w. words line.now ≡ w.0.now ∷ w.1.now ∷ w.2.now ∷ []) }
+        ((cas : Option ℕ) → is_some cas ≡ unique → IsCas words.entry cas → ⊥)
+        (λ cas. (is_some cas ≡ unique) × IsCas words.entry cas) }
 {
-    let (first, line) = split_word(line)?;
-    let (second, line) = split_word(line)?;
-    let (third, line) = split_word(line)?;
-    match split_word(line) {
-        None => Some((first, second, third)),
-        Some(_) => None,
+    let cas = if unique {
+        Some(number(words.next()?, NUMBER_LIMIT)?)
+    } else {
+        None
+    };
+    if !words.is_done() {
+        return None;
     }
+    Some(cas)
 }
 
 /// So many bytes of data, and what follows their CR LF.
@@ -178,13 +237,19 @@ fn split_end(bytes: &[u8]) -> Result<&[u8], ReadFault>
     }
 }
 
-fn copy_value(alloc: Global, key: &Key, flags: u32, bytes: &[u8]) -> Result<Value, NoMemory>
+fn copy_value(alloc: Global, key: &Key, head: Head, bytes: &[u8]) -> Result<Value, NoMemory>
     requires { IsData bytes.now }
     ensures key { IfOk result (λ value. value.key ≡ key.now) }
-    ensures flags { IfOk result (λ value. value.flags ≡ flags) }
+    ensures flags { IfOk result (λ value. value.flags ≡ head.flags) }
     ensures bytes { IfOk result (λ value. value.data ≡ bytes.now) }
+    ensures unique { IfOk result (λ value. value.unique ≡ head.unique) }
 {
     let key = key.copy(alloc)?;
     let data = Data::new(Vec::from_slice(alloc, bytes)?);
-    Ok(Value { key, flags, data })
+    Ok(Value {
+        key,
+        flags: head.flags,
+        data,
+        unique: head.unique,
+    })
 }

@@ -1,20 +1,28 @@
 use super::*;
-use crate::Key;
+use crate::{Key, Keys};
 use std::process::Abort;
 use std::test::Fail;
 
-/// What is read of the bytes as the answer to `get a`: the written form and how many bytes it took,
-/// or the fault.
-fn check(
+fn key_a(alloc: Global) -> Result<Key, Fail> {
+    Ok(Key::of(alloc, b"a")?.ok_or("no key")?)
+}
+
+fn keys_a(alloc: Global) -> Result<Keys, Fail> {
+    let mut keys = Vec::new(alloc);
+    keys.push(key_a(alloc)?)?;
+    Ok(Keys::new(keys))
+}
+
+/// What is read of the bytes as the answer to the request: the written form and how many bytes it
+/// took, or the fault.
+fn check_answer(
     rt: &impl Abort,
     alloc: Global,
+    request: &Request,
     bytes: &[u8],
     written: Result<(&[u8], usize), ReadFault>,
 ) -> Result<(), Fail> {
-    let request = Request::Get {
-        key: Key::of(alloc, b"a")?.ok_or("no key")?,
-    };
-    match (Response::read(alloc, &request, bytes), written) {
+    match (Response::read(alloc, request, bytes), written) {
         (Ok((response, taken)), Ok((text, len))) => {
             assert_eq!(rt; response.write(alloc)?.as_slice(), text);
             assert_eq!(rt; taken, len);
@@ -23,6 +31,19 @@ fn check(
         _ => return Err("another answer".into()),
     }
     Ok(())
+}
+
+/// The same for `get a`.
+fn check(
+    rt: &impl Abort,
+    alloc: Global,
+    bytes: &[u8],
+    written: Result<(&[u8], usize), ReadFault>,
+) -> Result<(), Fail> {
+    let request = Request::Get {
+        keys: keys_a(alloc)?,
+    };
+    check_answer(rt, alloc, &request, bytes, written)
 }
 
 const WRITTEN: [&[u8]; 6] = [
@@ -111,6 +132,75 @@ fn wrong_ones_are_unreadable(rt: HostRuntime) -> Result<(), Fail> {
         check(&rt, rt.alloc(), bytes, Err(ReadFault::Unreadable))?;
     }
     Ok(())
+}
+
+/// A request that is answered by the first text, and by none of the others.
+type Row<'a> = (&'a Request, &'a [u8], [&'a [u8]; 3]);
+
+fn check_row(rt: &impl Abort, alloc: Global, row: Row) -> Result<(), Fail> {
+    let (request, read, unreadable) = row;
+    check_answer(rt, alloc, request, read, Ok((read, read.len())))?;
+    for bytes in unreadable {
+        check_answer(rt, alloc, request, bytes, Err(ReadFault::Unreadable))?;
+    }
+    Ok(())
+}
+
+#[test]
+fn each_kind_of_request_has_its_own_answers(rt: HostRuntime) -> Result<(), Fail> {
+    let alloc = rt.alloc();
+    let gets = Request::Gets {
+        keys: keys_a(alloc)?,
+    };
+    let delete = Request::Delete {
+        key: key_a(alloc)?,
+        noreply: false,
+    };
+    let incr = Request::Incr {
+        key: key_a(alloc)?,
+        amount: 1,
+        noreply: false,
+    };
+    let touch = Request::Touch {
+        key: key_a(alloc)?,
+        expiry: 0,
+        noreply: false,
+    };
+    let rows: [Row; 5] = [
+        (
+            &gets,
+            b"VALUE a 1 2 18446744073709551615\r\nxy\r\nEND\r\n",
+            [
+                b"VALUE a 1 2\r\n",
+                b"VALUE a 1 2 18446744073709551616\r\n",
+                b"VALUE a 1 2 3 4\r\n",
+            ],
+        ),
+        (
+            &delete,
+            b"DELETED\r\n",
+            [b"STORED\r\n", b"END\r\n", b"VALUE a 0 1\r\n"],
+        ),
+        (
+            &incr,
+            b"18446744073709551615\r\n",
+            [b"18446744073709551616\r\n", b"1 2\r\n", b"TOUCHED\r\n"],
+        ),
+        (
+            &touch,
+            b"NOT_FOUND\r\n",
+            [b"7\r\n", b"DELETED\r\n", b"TOUCHED x\r\n"],
+        ),
+        (
+            &Request::Version,
+            b"VERSION 1.6 x\r\n",
+            [b"VERSION\r\n", b"VERSION \r\n", b"NOT_FOUND\r\n"],
+        ),
+    ];
+    for row in rows {
+        check_row(&rt, alloc, row)?;
+    }
+    check_answer(&rt, alloc, &incr, b" 007  \n", Ok((b"7\r\n", 7)))
 }
 
 #[test]

@@ -1,6 +1,6 @@
 //! Writes a response.
 ghost use Rattle.std.specs.Prelude.{◌≡◌, ◌++◌, Some, OnOk, OnErr};
-ghost use Rattle.tko_text.specs.Responses.{found_of, response_text, value_text};
+ghost use Rattle.tko_text.specs.Responses.{response_text, value_with};
 
 use super::{Response, Value};
 use crate::NoMemory;
@@ -16,6 +16,14 @@ pub(crate) fn append_response(response: &Response, out: &mut Vec<u8>) -> Result<
     match response {
         Response::Values(None) => append(out, &[b"END\r\n"]),
         Response::Values(Some(value)) => append_value(value, out),
+        Response::Stored => append(out, &[b"STORED\r\n"]),
+        Response::NotStored => append(out, &[b"NOT_STORED\r\n"]),
+        Response::Exists => append(out, &[b"EXISTS\r\n"]),
+        Response::Deleted => append(out, &[b"DELETED\r\n"]),
+        Response::Touched => append(out, &[b"TOUCHED\r\n"]),
+        Response::NotFound => append(out, &[b"NOT_FOUND\r\n"]),
+        Response::Number(n) => append_number(*n, out),
+        Response::Version(text) => append(out, &[b"VERSION ", text.as_bytes(), b"\r\n"]),
         Response::Error => append(out, &[b"ERROR\r\n"]),
         Response::ClientError(text) => {
             append(out, &[b"CLIENT_ERROR ", text.as_bytes(), b"\r\n"])
@@ -26,11 +34,41 @@ pub(crate) fn append_response(response: &Response, out: &mut Vec<u8>) -> Result<
     }
 }
 
+/// Puts the line of a number at the end.
+#[tactic(auto, unfolding(crate::specs::Responses::response_text))]
+fn append_number(n: u64, out: &mut Vec<u8>) -> Result<(), NoMemory>
+    ensures ok { OnOk result (out.new.items ≡ out.old.items ++ response_text (Response.Number n)) }
+    ensures err { OnErr result (out.new.items ≡ out.old.items) }
+{
+    let mut digits = Buffer::new();
+    append(out, &[digits.format(n).as_bytes(), b"\r\n"])
+}
+
 /// Puts the written form of a value and the line `END` at the end.
 #[tactic(auto, unfolding(crate::specs::Responses::response_text))]
 fn append_value(value: &Value, out: &mut Vec<u8>) -> Result<(), NoMemory>
     ensures ok { OnOk result
         (out.new.items ≡ out.old.items ++ response_text (Response.Values (Some value.now))) }
+    ensures err { OnErr result (out.new.items ≡ out.old.items) }
+{
+    match value.unique {
+        None => append_found(value, b"", b"", out),
+        Some(unique) => {
+            let mut digits = Buffer::new();
+            append_found(value, b" ", digits.format(unique).as_bytes(), out)
+        }
+    }
+}
+
+/// The same with this space and cas number, or two empty texts.
+fn append_found<'a>(
+    value: &'a Value,
+    space: &'a [u8],
+    cas: &'a [u8],
+    out: &mut Vec<u8>,
+) -> Result<(), NoMemory>
+    ensures ok { OnOk result
+        (out.new.items ≡ out.old.items ++ value_with value.now (space.now ++ cas.now)) }
     ensures err { OnErr result (out.new.items ≡ out.old.items) }
 {
     let data = value.data.as_bytes();
@@ -42,6 +80,8 @@ fn append_value(value: &Value, out: &mut Vec<u8>) -> Result<(), NoMemory>
         flags.format(value.flags).as_bytes(),
         b" ",
         size.format(data.len()).as_bytes(),
+        space,
+        cas,
         b"\r\n",
         data,
         b"\r\n",

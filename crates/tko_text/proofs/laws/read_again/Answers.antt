@@ -1,4 +1,4 @@
-use Rattle.tko_text.proofs.PrintLemmas.{read_again}
+use Rattle.tko_text.proofs.ReadAgainLemmas.{read_again}
 use Rattle.tko_text.proofs.laws.read_again.Goals as goal
 
 pub returns : goal.returns

@@ -1,4 +1,4 @@
-use Rattle.std.proofs.Common.{◌∙◌, ap, sym, arith}
+use Rattle.std.proofs.Common.{◌∙◌, ap, arith}
 use Rattle.tko_text.specs.ResponseLines.{split_of}
 use Rattle.tko_text.proofs.ResponseLineLemmas.{line_found}
 use Rattle.tko_text.proofs.response.line.split_line.Goals as goal

@@ -1,0 +1,96 @@
+//! What a reader awaits.
+ghost use Rattle.std.specs.Prelude.{◌≡◌, ◌<◌, [], IfOk, OnErr};
+ghost use Rattle.tko_text.specs.Reading.{Pass, PassLine, passed};
+ghost use Rattle.tko_text.specs.States.{IsState, reading_of};
+
+use crate::buffer::Buffer;
+use crate::pending::Pending;
+use memchr::memchr;
+use std::alloc::AllocError;
+
+/// What a reader awaits. But for a line that is awaited, its buffer is empty.
+#[derive(Debug, Drop)]
+pub(crate) enum State {
+    /// A line, or the rest of one.
+    Line,
+    /// The data of a request.
+    Data(Pending),
+    /// So many bytes, which are skipped.
+    Skip(u128),
+    /// All bytes up to the first LF, which are skipped.
+    SkipLine,
+    /// Nothing, after a line too long.
+    Never,
+}
+
+/// The state once so many bytes of the input are skipped, of which a piece has come.
+pub(crate) fn feed_skipped(
+    buffer: &mut Buffer,
+    count: u128,
+    piece: &[u8],
+) -> Result<State, AllocError>
+    requires some { 0 < count }
+    requires empty { buffer.old ≡ [] }
+    ensures is { IfOk result (λ state. IsState state buffer.new) }
+    ensures ok { IfOk result (λ state.
+        reading_of state buffer.new ≡ passed (Pass count) piece.now) }
+    ensures err { OnErr result (buffer.new ≡ buffer.old) }
+{
+    if (piece.len() as u128) < count {
+        return Ok(State::Skip(count - piece.len() as u128));
+    }
+    buffer.push(&piece[count as usize..])?;
+    Ok(State::Line)
+}
+
+/// The state once the input up to its first LF is skipped, of which a piece has come.
+pub(crate) fn feed_skipped_line(buffer: &mut Buffer, piece: &[u8]) -> Result<State, AllocError>
+    requires { buffer.old ≡ [] }
+    ensures is { IfOk result (λ state. IsState state buffer.new) }
+    ensures ok { IfOk result (λ state. reading_of state buffer.new ≡ passed PassLine piece.now) }
+    ensures err { OnErr result (buffer.new ≡ buffer.old) }
+{
+    match memchr(b'\n', piece) {
+        Some(end) => {
+            buffer.push(&piece[end + 1..])?;
+            Ok(State::Line)
+        }
+        None => Ok(State::SkipLine),
+    }
+}
+
+/// The state once so many bytes are skipped, of which some may be unread.
+pub(crate) fn skip(buffer: &mut Buffer, count: u128) -> State
+    requires { 0 < count }
+    ensures is { IsState result buffer.new }
+    ensures reading { reading_of result buffer.new ≡ passed (Pass count) buffer.old }
+{
+    let len = buffer.len();
+    if (len as u128) < count {
+        buffer.consume(len);
+        buffer.compact();
+        State::Skip(count - len as u128)
+    } else {
+        buffer.consume(count as usize);
+        State::Line
+    }
+}
+
+/// The state once all bytes up to the first LF are skipped, of which some may be unread.
+pub(crate) fn skip_line(buffer: &mut Buffer) -> State
+    ensures is { IsState result buffer.new }
+    ensures reading { reading_of result buffer.new ≡ passed PassLine buffer.old }
+{
+    match buffer.line_end() {
+        Some(end) => {
+            buffer.consume(end + 1);
+            State::Line
+        }
+        None => {
+            let len = buffer.len();
+            buffer.consume(len);
+            buffer.compact();
+            State::SkipLine
+        }
+    }
+}
