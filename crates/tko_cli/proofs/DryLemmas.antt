@@ -1,6 +1,9 @@
 -- What a dry run begins with and does.
-use Rattle.std.proofs.Common.{◌≡◌, ℕ, List, length, Some, refl}
+use Rattle.std.proofs.Common.{◌≡◌, ℕ, List, [], length, replicate, Some, Option, refl, subst, sym}
+use Rattle.std.proofs.lemmas.List.{length-replicate}
+use Rattle.std.proofs.lemmas.List.FromFn.{length-map-range_with_len}
 use Rattle.tko_model.specs.Ranges.{first_fault}
+use Rattle.tko_model.specs.Tracker.{Tracker, opened}
 use Rattle.tko_model.specs.declared.plain.OpenFault.{OpenFault}
 use Rattle.tko_model.specs.declared.plain.OpenFault.TheVariants as open_fault
 use Rattle.tko_model.specs.declared.settings.SettingsFault.{SettingsFault}
@@ -8,19 +11,58 @@ use Rattle.tko_links.specs.declared.scripted.Script.{Script}
 use Rattle.tko_session.specs.declared.session.Report.{Report}
 use Rattle.tko_session.specs.Served.{Served}
 use Rattle.tko_session.specs.SessionState.{Reaches, sent_by}
+use Rattle.tko_pools.specs.Configs.{Configuration, in_order}
+use Rattle.tko_cli.specs.declared.fault.Fault.{Fault}
+use Rattle.tko_cli.specs.declared.fault.Fault.TheVariants as fault
 use Rattle.tko_cli.specs.declared.options.DryOptions.{DryOptions}
-use Rattle.tko_cli.specs.DryRuns.{Begins, DryFails, DryParts, IsDry, IsDryTurn, TrailsGo, sends_of, settings_of, words_in}
+use Rattle.tko_cli.specs.Configured.{ConfigOf, IsConfigured, IsUnset, NoConfig, scripted_names, settings_of}
+use Rattle.tko_cli.specs.DryRuns.{Begins, DryFails, DryParts, IsDry, IsDryTurn, IsOutside, TrailsGo, sends_of, words_in}
 use Rattle.tko_cli.specs.Faults.{fault_of_opening}
 use Rattle.tko_cli.specs.Outcomes.{AllAsk}
-use Rattle.tko_cli.proofs.TargetLemmas.{targets_are_linked, targets_are_tracked}
 
--- the targets are servers of the tracker and of the links
+-- without a configuration there are as many servers as the options say
+outside_alone : (options : DryOptions) (name : SettingsFault) (scripts : List Script) → AllAsk (words_in options) scripts
+    → IsUnset options name → IsOutside options name
+outside_alone options name scripts asked unset =
+    let names = scripted_names options.servers in
+    let count : length names ≡ options.servers = length-map-range_with_len _ 0 options.servers in
+    let P : Option (List ℕ) → Type 0 = λ json. ConfigOf json options.servers (in_order names) in
+    let Q : ℕ → Type 0 = λ n. first_fault (settings_of options n) ≡ Some name in
+    record {
+      scripts = scripts;
+      asked = asked;
+      config = in_order names;
+      configured = record { named = subst P (sym unset.alone) refl };
+      first = subst Q (sym count) unset.first;
+    }
+
+-- parts over the configuration that the options name
+pub begun : (options : DryOptions) (scripts : List Script) (config : Configuration) (tracker : Tracker) (parts : DryParts)
+    → AllAsk (words_in options) scripts → IsConfigured options config
+    → tracker ≡ opened (settings_of options (length config.addresses))
+    → parts ≡ record {
+      health = record { tracker = tracker; thread = 0 };
+      links = record { scripts = scripts; sends = replicate (length config.addresses) 0; requests = [] };
+      trails = [];
+      config = config;
+    }
+    → Begins options parts
+begun options scripts config tracker parts asked configured opens is = rw (is, opens) (record {
+  scripts = scripts;
+  asked = asked;
+  config = configured;
+  health = refl;
+  links = refl;
+  trails = refl;
+})
+
+-- the tracker and the links have the servers of the configuration
 pub begun_reaches : (options : DryOptions) (parts : DryParts) → Begins options parts
     → Reaches (λ health. length health.tracker.servers) (λ links. length links.sends) parts
 begun_reaches options parts begun =
     record {
-      health = targets_are_tracked parts.health (settings_of options) parts.targets.items begun.health begun.targets;
-      links = targets_are_linked parts.links begun.scripts options.servers parts.targets.items begun.links begun.targets;
+      health = rw begun.health (length-replicate (length parts.config.addresses) _);
+      links = rw begun.links (length-replicate (length parts.config.addresses) 0);
     }
 
 -- a session over these parts and the printing of its trails are a dry run
@@ -42,12 +84,37 @@ is_dry gives is_ended takes options old from new middle to before after report b
       trails = went;
     }
 
+-- the options name no configuration, so nothing was read or written
+pub not_configured : {I O : Type 0} (gives : I → List ℕ → I → Type 0) (read_failures : I → ℕ) (write_failures : O → ℕ)
+    (options : DryOptions) (old : I) (from : O) (scripts : List Script) (reason : Fault)
+    → AllAsk (words_in options) scripts → NoConfig options reason
+    → DryFails gives read_failures write_failures options old old from from reason
+not_configured gives read_failures write_failures options old from scripts (fault.Config flaw) asked flawed =
+    (record { scripts = scripts; asked = asked; flawed = flawed }, refl, refl)
+not_configured gives read_failures write_failures options old from scripts (fault.Settings name) asked unset =
+    (outside_alone options name scripts asked unset, refl, refl)
+not_configured gives read_failures write_failures options old from scripts fault.Memory asked none = tt
+not_configured gives read_failures write_failures options old from scripts fault.Read asked none = absurd none
+not_configured gives read_failures write_failures options old from scripts fault.Write asked none = absurd none
+not_configured gives read_failures write_failures options old from scripts fault.LineTooLong asked none = absurd none
+not_configured gives read_failures write_failures options old from scripts (fault.Outcomes number) asked none = absurd none
+not_configured gives read_failures write_failures options old from scripts (fault.Line number) asked none = absurd none
+not_configured gives read_failures write_failures options old from scripts fault.Check asked none = absurd none
+
 -- the tracker could not be opened, so nothing was read or written
 pub not_opened : {I O : Type 0} (gives : I → List ℕ → I → Type 0) (read_failures : I → ℕ) (write_failures : O → ℕ)
-    (options : DryOptions) (old : I) (from : O) (scripts : List Script) (cause : OpenFault)
-    → AllAsk (words_in options) scripts
-    → ((name : SettingsFault) → cause ≡ open_fault.Settings name → first_fault (settings_of options) ≡ Some name)
+    (options : DryOptions) (old : I) (from : O) (scripts : List Script) (config : Configuration) (cause : OpenFault)
+    → AllAsk (words_in options) scripts → IsConfigured options config
+    → ((name : SettingsFault) → cause ≡ open_fault.Settings name
+    → first_fault (settings_of options (length config.addresses)) ≡ Some name)
     → DryFails gives read_failures write_failures options old old from from (fault_of_opening cause)
-not_opened gives read_failures write_failures options old from scripts (open_fault.Settings name) asked first =
-    (record { scripts = scripts; asked = asked; first = first name refl }, refl, refl)
-not_opened gives read_failures write_failures options old from scripts open_fault.Memory asked first = tt
+not_opened gives read_failures write_failures options old from scripts config (open_fault.Settings name) asked configured first =
+    let outside : IsOutside options name = record {
+      scripts = scripts;
+      asked = asked;
+      config = config;
+      configured = configured;
+      first = first name refl;
+    } in
+    (outside, refl, refl)
+not_opened gives read_failures write_failures options old from scripts config open_fault.Memory asked configured first = tt

@@ -1,8 +1,8 @@
 -- What was written for a fault.
-use Rattle.std.proofs.Common.{ℕ, ◌<◌, List, ◌⊎◌, inl, inr, OnErr, OnOk, Result, Ok, Err}
+use Rattle.std.proofs.Common.{ℕ, ◌<◌, List, inl, inr, OnErr, OnOk, Result, Ok, Err}
 use Rattle.tko_cli.specs.declared.fault.Fault.{Fault}
 use Rattle.tko_cli.specs.declared.fault.Fault.TheVariants as fault
-use Rattle.tko_cli.specs.FaultLines.{IsFaultWritten, Written, Failed, HasLine, fault_bytes}
+use Rattle.tko_cli.specs.FaultLines.{IsFaultWritten, Written, Failed, HasLine}
 
 -- what holds where it is Ok
 pub on_ok : {T E : Type 0} {P Q : Type 0} (result : Result T E) → OnOk result P → (P → Q) → OnOk result Q

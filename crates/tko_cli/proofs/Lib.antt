@@ -1,5 +1,5 @@
 pub mod CommandLineLemmas
+pub mod ConfiguredLemmas
 pub mod DryLemmas
 pub mod FaultLineLemmas
 pub mod ReplayLemmas
-pub mod TargetLemmas

@@ -1,25 +1,25 @@
 -- What is printed of a schedule.
 use Rattle.std.proofs.Common.{◌≡◌, ℕ, ◌<◌, ◌≤◌, Bool, true, false, cond, ltb, List, length, ◌⊎◌, inl, inr, arith, Result, Ok, Err, refl, subst}
 use Rattle.std.proofs.lemmas.Bool.{ltb-false}
-use Rattle.tko_runs.specs.declared.fault.ScheduleFault.{ScheduleFault}
-use Rattle.tko_runs.specs.declared.fault.ScheduleFault.TheVariants as schedule_fault
-use Rattle.tko_runs.specs.declared.order.Placed.{Placed}
+use Rattle.tko_runs.specs.declared.schedule.fault.ScheduleFault.{ScheduleFault}
+use Rattle.tko_runs.specs.declared.schedule.fault.ScheduleFault.TheVariants as schedule_fault
+use Rattle.tko_runs.specs.declared.checking.order.Point.{Point}
 use Rattle.tko_runs.specs.Limits.{max_bytes}
 use Rattle.tko_runs.specs.Orders.{IsOrderOf}
 use Rattle.tko_runs.specs.Plays.{named_by}
 use Rattle.tko_runs.specs.Prints.{run_text}
 use Rattle.tko_runs.specs.Schedules.{Plan, reads}
-use Rattle.tko_runs.specs.Stories.{Story}
+use Rattle.tko_runs.specs.Runs.{RunData}
 use Rattle.tko_cli.specs.Readings.{IsText}
 use Rattle.tko_cli.specs.Replays.{IsReplay, Replays, most_read}
 
-pub is_replay : (text printed : List ℕ) (plan : Plan) (run : Story) (order : List Placed)
+pub is_replay : (text printed : List ℕ) (plan : Plan) (run : RunData) (order : List Point)
     → reads text ≡ Ok plan → run ≡ named_by plan
     → IsOrderOf run order → printed ≡ run_text run order
     → IsReplay text printed
 unfolding named_by
 is_replay text printed plan run order schedule named stands prints =
-    let P : Story → Type 0 = λ (story : Story). IsOrderOf story order in
+    let P : RunData → Type 0 = λ (it : RunData). IsOrderOf it order in
     record {
       plan = plan;
       order = order;

@@ -1,5 +1,5 @@
 -- The commands and options of the command line, as clap reads them, and the defaults.
-use Rattle.std.specs.Prelude.{◌≡◌, ℕ, Bool, true, false, pos, Some, List, [], ◌∷◌, codes}
+use Rattle.std.specs.Prelude.{◌≡◌, ℕ, true, false, pos, Some, [], ◌∷◌, codes}
 use Rattle.clap.specs.Simple.{on_top}
 use Rattle.clap.specs.Words.{App, Rule, Text, app_of, new_app, new_rule, with_rule, with_subcommand}
 use Rattle.clap.specs.declared.builder.action.ArgAction.TheVariants.{SetTrue}
@@ -32,6 +32,13 @@ number_option name default = record (new_rule name) {
   parser = Some (parser.Signed (pos 0) (pos max_number));
 }
 
+-- `--config JSON`, which may be left out
+abbrev pub config_option : Rule
+config_option = record (new_rule (codes "config")) {
+  long = Some (codes "config");
+  value_names = 1;
+}
+
 -- `--outcomes LIST`, empty by default
 abbrev pub outcomes_option : Rule
 outcomes_option = record (new_rule (codes "outcomes")) {
@@ -58,7 +65,8 @@ with_numbers app =
 
 abbrev pub dry_command : App
 dry_command =
-    with_rule (with_rule (with_numbers (new_app (codes "dry"))) outcomes_option) trail_option
+    with_rule (with_rule (with_rule (with_numbers (new_app (codes "dry")))
+    config_option) outcomes_option) trail_option
 
 abbrev pub replay_command : App
 replay_command = new_app (codes "replay")

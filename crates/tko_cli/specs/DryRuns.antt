@@ -1,8 +1,7 @@
 -- What a dry run starts with, what it reads and writes, and why it fails.
-use Rattle.std.specs.Prelude.{◌≡◌, ◌<◌, ℕ, Bool, true, false, Some, List, [], replicate, slice_index, string_bytes}
+use Rattle.std.specs.Prelude.{◌≡◌, ◌<◌, ℕ, Bool, true, false, Some, List, [], length, replicate, slice_index, string_bytes}
 use Rattle.tko_model.specs.Ranges.{first_fault}
 use Rattle.tko_model.specs.Tracker.{opened}
-use Rattle.tko_model.specs.declared.settings.Settings.{Settings}
 use Rattle.tko_model.specs.declared.settings.SettingsFault.{SettingsFault}
 use Rattle.tko_route.specs.declared.attempt.Attempt.{Attempt}
 use Rattle.tko_links.specs.declared.scripted.Script.{Script}
@@ -14,52 +13,54 @@ use Rattle.tko_session.specs.Served.{CameTooLong, Served}
 use Rattle.tko_session.specs.SessionState.{sent_by}
 use Rattle.tko_session.specs.TrailEvents.{Keeps}
 use Rattle.tko_session.specs.Turns.{Turn, IsTurn}
+use Rattle.tko_pools.specs.Configs.{Configuration}
+use Rattle.tko_cli.specs.Configured.{IsConfigured, IsFlawed, settings_of}
+use Rattle.tko_cli.specs.declared.fault.ConfigFlaw.{ConfigFlaw}
 use Rattle.tko_cli.specs.declared.fault.Fault.{Fault}
 use Rattle.tko_cli.specs.declared.fault.Fault.TheVariants as fault
 use Rattle.tko_cli.specs.declared.options.DryOptions.{DryOptions}
 use Rattle.tko_cli.specs.Outcomes.{AllAsk, first_bad, words_of}
-use Rattle.tko_cli.specs.Targets.{numbers_below}
 use Rattle.tko_cli.specs.Texts.{trails_text}
 
 -- a tracker of one thread, scripted servers, and the trails so far
 abbrev pub DryParts : Type 0
 DryParts = Parts OneThread ScriptedState (List (List Attempt))
 
--- how many threads the tracker has
-abbrev pub dry_threads : ℕ
-dry_threads = 4
-
--- the tracker's settings that the options name
-abbrev pub settings_of : DryOptions → Settings
-settings_of options = record {
-  servers = options.servers;
-  threads = dry_threads;
-  failures = options.failures;
-  limit = options.limit;
-  tries = options.tries;
-  opening_stamp = 0;
-}
-
 -- the words of the list of outcomes
 abbrev pub words_in : DryOptions → List (List ℕ)
 words_in options = words_of (string_bytes options.outcomes)
 
--- parts before the first request: a new tracker, used by thread 0, the scripts that the list of
--- outcomes asks for, nothing sent, no trail, and all servers as targets
+-- parts before the first request: the configuration that the options name, a new tracker of its
+-- servers, used by thread 0, the scripts that the list of outcomes asks for, nothing sent, no trail
 pub record Begins (options : DryOptions) (parts : DryParts) : Type 0 where
   pub scripts : List Script
   pub asked : AllAsk (words_in options) scripts
-  pub health : parts.health ≡ record { tracker = opened (settings_of options); thread = 0 }
-  pub links : parts.links
-      ≡ record { scripts = scripts; sends = replicate options.servers 0; requests = [] }
+  pub config : IsConfigured options parts.config
+  pub health : parts.health ≡ record {
+    tracker = opened (settings_of options (length parts.config.addresses));
+    thread = 0;
+  }
+  pub links : parts.links ≡ record {
+    scripts = scripts;
+    sends = replicate (length parts.config.addresses) 0;
+    requests = [];
+  }
   pub trails : parts.trails ≡ []
-  pub targets : parts.targets.items ≡ numbers_below options.servers
 
--- every word of the list is good, and this is the first setting that is outside its range
+-- every word of the list is good, the JSON is no configuration, and this is what is wrong with it
+pub record IsNoConfig (options : DryOptions) (flaw : ConfigFlaw) : Type 0 where
+  pub scripts : List Script
+  pub asked : AllAsk (words_in options) scripts
+  pub flawed : IsFlawed options flaw
+
+-- every word of the list is good, so is the configuration, and this is the first setting that is
+-- outside its range
 pub record IsOutside (options : DryOptions) (name : SettingsFault) : Type 0 where
   pub scripts : List Script
   pub asked : AllAsk (words_in options) scripts
-  pub first : first_fault (settings_of options) ≡ Some name
+  pub config : Configuration
+  pub configured : IsConfigured options config
+  pub first : first_fault (settings_of options (length config.addresses)) ≡ Some name
 
 -- the number of sends to a server
 abbrev pub sends_of : ScriptedState → ℕ → ℕ
@@ -97,6 +98,8 @@ module _ {I O : Type 0} (gives : I → List ℕ → I → Type 0)
   abbrev pub DryFails : DryOptions → I → I → O → O → Fault → Type 0
   DryFails options old new from to (fault.Outcomes number) =
       (first_bad (words_in options) ≡ Some number) × (new ≡ old) × (to ≡ from)
+  DryFails options old new from to (fault.Config flaw) =
+      IsNoConfig options flaw × (new ≡ old) × (to ≡ from)
   DryFails options old new from to (fault.Settings name) =
       IsOutside options name × (new ≡ old) × (to ≡ from)
   DryFails options old new from to fault.Read = read_failures old < read_failures new

@@ -6,10 +6,14 @@ use Rattle.tko_model.specs.declared.settings.SettingsFault.{SettingsFault}
 use Rattle.tko_model.specs.declared.settings.SettingsFault.TheVariants as setting
 use Rattle.tko_runs.specs.declared.checking.RunFault.{RunFault}
 use Rattle.tko_runs.specs.declared.checking.RunFault.TheVariants as run_fault
-use Rattle.tko_runs.specs.declared.fault.ScheduleFault.{ScheduleFault}
-use Rattle.tko_runs.specs.declared.fault.ScheduleFault.TheVariants as schedule_fault
+use Rattle.tko_runs.specs.declared.schedule.fault.ScheduleFault.{ScheduleFault}
+use Rattle.tko_runs.specs.declared.schedule.fault.ScheduleFault.TheVariants as schedule_fault
 use Rattle.tko_session.specs.declared.fault.SessionFault.{SessionFault}
 use Rattle.tko_session.specs.declared.fault.SessionFault.TheVariants as session_fault
+use Rattle.tko_pools.specs.declared.fault.ConfigFault.{ConfigFault}
+use Rattle.tko_pools.specs.declared.fault.ConfigFault.TheVariants as config_fault
+use Rattle.tko_cli.specs.declared.fault.ConfigFlaw.{ConfigFlaw}
+use Rattle.tko_cli.specs.declared.fault.ConfigFlaw.TheVariants as flaw
 use Rattle.tko_cli.specs.declared.fault.Fault.{Fault}
 use Rattle.tko_cli.specs.declared.fault.Fault.TheVariants as fault
 use Rattle.tko_cli.specs.declared.outcomes.OutcomesFault.{OutcomesFault}
@@ -26,6 +30,16 @@ setting_name setting.Limit = codes "limit"
 setting_name setting.Tries = codes "tries"
 setting_name setting.Stamp = codes "stamp"
 
+-- the word that names what is wrong with a configuration
+abbrev pub config_name : ConfigFlaw → List ℕ
+config_name flaw.Json = codes "json"
+config_name flaw.NoPools = codes "no-pools"
+config_name flaw.EmptyPool = codes "empty-pool"
+config_name flaw.Address = codes "address"
+config_name flaw.Route = codes "route"
+config_name flaw.NoSuchPool = codes "no-such-pool"
+config_name flaw.TooManyServers = codes "too-many-servers"
+
 -- the line of a fault, without its LF
 abbrev pub fault_line : Fault → List ℕ
 fault_line fault.Read = codes "fault: read"
@@ -33,6 +47,7 @@ fault_line fault.Write = codes "fault: write"
 fault_line fault.LineTooLong = codes "fault: line too long"
 fault_line fault.Memory = codes "fault: memory"
 fault_line (fault.Settings name) = codes "fault: settings " ++ setting_name name
+fault_line (fault.Config kind) = codes "fault: config " ++ config_name kind
 fault_line (fault.Outcomes number) = codes "fault: outcomes " ++ decimal number
 fault_line (fault.Line number) = codes "fault: schedule line " ++ decimal number
 fault_line fault.Check = codes "fault: check"
@@ -41,6 +56,17 @@ fault_line fault.Check = codes "fault: check"
 abbrev pub fault_of_outcomes : OutcomesFault → Fault
 fault_of_outcomes (outcomes_fault.Word number) = fault.Outcomes number
 fault_of_outcomes outcomes_fault.Memory = fault.Memory
+
+-- of a configuration
+abbrev pub fault_of_config : ConfigFault → Fault
+fault_of_config config_fault.Json = fault.Config flaw.Json
+fault_of_config config_fault.NoPools = fault.Config flaw.NoPools
+fault_of_config (config_fault.EmptyPool name) = fault.Config flaw.EmptyPool
+fault_of_config (config_fault.Address text) = fault.Config flaw.Address
+fault_of_config config_fault.Route = fault.Config flaw.Route
+fault_of_config (config_fault.NoSuchPool name) = fault.Config flaw.NoSuchPool
+fault_of_config config_fault.TooManyServers = fault.Config flaw.TooManyServers
+fault_of_config config_fault.Memory = fault.Memory
 
 -- of opening a tracker
 abbrev pub fault_of_opening : OpenFault → Fault

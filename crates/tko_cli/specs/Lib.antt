@@ -1,9 +1,9 @@
 pub mod CommandLine
+pub mod Configured
 pub mod DryRuns
 pub mod FaultLines
 pub mod Faults
 pub mod Outcomes
 pub mod Readings
 pub mod Replays
-pub mod Targets
 pub mod Texts

@@ -1,8 +1,9 @@
 -- The list of outcomes: words separated by commas, and what each asks of a server.
-use Rattle.std.specs.Prelude.{◌≡◌, ℕ, ◌==◌, Bool, ◌||◌, not, if◌then◌else◌, List, [], ◌∷◌, length, map, codes, Option, Some}
+use Rattle.std.specs.Prelude.{◌≡◌, ℕ, ◌==◌, Bool, ◌||◌, not, if◌then◌else◌, List, [], ◌∷◌, ◌++◌, length, take, drop, map, codes, Option, Some, None, is_some, option_map}
 use Rattle.std.specs.Borrow.{Bor}
 use Rattle.std.specs.List.{slice_split, position_from}
 use Rattle.std.specs.Str.{bytes_eq}
+use Rattle.tko_bytes.specs.Lines.{crlf}
 use Rattle.tko_links.specs.declared.scripted.Script.{Script}
 use Rattle.tko_links.specs.declared.scripted.Script.TheVariants as script
 use Rattle.tko_cli.specs.declared.outcomes.OutcomesFault.{OutcomesFault}
@@ -16,21 +17,43 @@ words_of list = if length list == 0 then [] else slice_split (λ byte. byte == 4
 abbrev pub texts_of : List (Bor (List ℕ)) → List (List ℕ)
 texts_of words = map (λ word. word.now) words
 
--- whether a word is one of the list's
+-- what follows a beginning of a word, where the word begins so
+abbrev pub text_after : List ℕ → List ℕ → Option (List ℕ)
+text_after front word =
+    let count = length front in
+    if bytes_eq (take count word) front then Some (drop count word) else None
+
+abbrev pub text_of_hit : List ℕ → Option (List ℕ)
+text_of_hit word = text_after (codes "hit:") word
+
+abbrev pub text_of_line : List ℕ → Option (List ℕ)
+text_of_line word = text_after (codes "line:") word
+
+-- the line that a word asks of a server: that of a miss, or the line of its text
+abbrev pub line_asked : List ℕ → Option (List ℕ)
+line_asked word =
+    if bytes_eq word (codes "miss") then Some (codes "END")
+    else text_of_line word
+
+-- whether a word is one of the list's; the texts of `hit:` and `line:` may be empty
 abbrev pub is_outcome : List ℕ → Bool
 is_outcome word =
     bytes_eq word (codes "refused")
-    || (bytes_eq word (codes "timeout") || bytes_eq word (codes "miss"))
+    || (bytes_eq word (codes "timeout")
+    || (is_some (text_of_hit word) || is_some (line_asked word)))
 
 -- the number of the first bad word, counted from 1
 abbrev pub first_bad : List (List ℕ) → Option ℕ
 first_bad words = position_from (λ word. not (is_outcome word)) 1 words
 
--- what a word asks of a server: to refuse, to be silent, or to answer a miss
+-- what a word asks of a server: to refuse, to be silent, to answer a value of the asked key, or to
+-- answer a line
 abbrev pub Asks : List ℕ → Script → Type 0
 Asks word script.Refused = word ≡ codes "refused"
 Asks word script.Timeout = word ≡ codes "timeout"
-Asks word (script.Bytes bytes) = (word ≡ codes "miss") × (bytes.items ≡ codes "END\r\n")
+Asks word (script.Hit text) = text_of_hit word ≡ Some text.items
+Asks word (script.Bytes bytes) =
+    option_map (λ line. line ++ crlf) (line_asked word) ≡ Some bytes.items
 
 -- each word asks for the script at its place
 abbrev pub AllAsk : List (List ℕ) → List Script → Type 0

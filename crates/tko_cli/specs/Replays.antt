@@ -2,9 +2,9 @@
 use Rattle.std.specs.Prelude.{◌≡◌, ◌<◌, ◌+◌, ℕ, List, Ok, Err}
 use Rattle.tko_cli.specs.declared.fault.Fault.{Fault}
 use Rattle.tko_cli.specs.declared.fault.Fault.TheVariants as fault
-use Rattle.tko_runs.specs.declared.fault.ScheduleFault.{ScheduleFault}
-use Rattle.tko_runs.specs.declared.fault.ScheduleFault.TheVariants as schedule_fault
-use Rattle.tko_runs.specs.declared.order.Placed.{Placed}
+use Rattle.tko_runs.specs.declared.schedule.fault.ScheduleFault.{ScheduleFault}
+use Rattle.tko_runs.specs.declared.schedule.fault.ScheduleFault.TheVariants as schedule_fault
+use Rattle.tko_runs.specs.declared.checking.order.Point.{Point}
 use Rattle.tko_runs.specs.Limits.{max_bytes}
 use Rattle.tko_runs.specs.Orders.{IsOrderOf}
 use Rattle.tko_runs.specs.Plays.{named_by}
@@ -20,7 +20,7 @@ most_read = max_bytes + 1
 -- takes effect
 pub record IsReplay (text printed : List ℕ) : Type 0 where
   pub plan : Plan
-  pub order : List Placed
+  pub order : List Point
   pub schedule : reads text ≡ Ok plan
   pub legal : IsOrderOf (named_by plan) order
   pub prints : printed ≡ run_text (named_by plan) order
@@ -58,3 +58,4 @@ module _ {I O : Type 0} (gives : I → List ℕ → I → Type 0) (is_ended : I 
   ReplayFails old new from to fault.Check = ⊥
   ReplayFails old new from to fault.LineTooLong = ⊥
   ReplayFails old new from to (fault.Outcomes number) = ⊥
+  ReplayFails old new from to (fault.Config flaw) = ⊥

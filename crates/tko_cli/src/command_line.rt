@@ -1,7 +1,7 @@
 //! The commands and options of the command line, and their defaults.
 ghost use Rattle.std.specs.Prelude.{◌≡◌, false, IfOk};
 ghost use Rattle.clap.specs.Words.{App, rule_of, with_rule};
-ghost use Rattle.tko_cli.specs.CommandLine.{ReadsAs, dry_command, number_option, outcomes_option, program_app, replay_command, trail_option, with_numbers};
+ghost use Rattle.tko_cli.specs.CommandLine.{ReadsAs, config_option, dry_command, number_option, outcomes_option, program_app, replay_command, trail_option, with_numbers};
 
 use clap::{Arg, ArgAction, Command, value_parser};
 use std::alloc::{AllocError, Global};
@@ -40,6 +40,7 @@ fn dry<'a>(alloc: Global) -> Result<Command<'a>, AllocError>
         "Answers requests on standard input from scripted servers",
     );
     with_numbers(alloc, dry)?
+        .arg(config(alloc))?
         .arg(outcomes(alloc))?
         .arg(trail(alloc))
 }
@@ -58,6 +59,16 @@ fn with_numbers<'a>(alloc: Global, command: Command<'a>) -> Result<Command<'a>, 
         .arg(number(alloc, "tries", DEFAULT_TRIES, tries))
 }
 
+fn config<'a>(alloc: Global) -> Arg<'a>
+    ensures rule { rule_of result ≡ config_option }
+    ensures local { result.global ≡ false }
+{
+    Arg::new(alloc, "config")
+        .long("config")
+        .value_name("JSON")
+        .help("The pools and the route; without it every key tries all servers in order")
+}
+
 fn outcomes<'a>(alloc: Global) -> Arg<'a>
     ensures rule { rule_of result ≡ outcomes_option }
     ensures local { result.global ≡ false }
@@ -66,7 +77,10 @@ fn outcomes<'a>(alloc: Global) -> Arg<'a>
         .long("outcomes")
         .value_name("LIST")
         .default_value("")
-        .help("What comes of each send: refused, timeout and miss, parted by commas; then refused")
+        .help(
+            "What comes of each send, parted by commas: refused, timeout, miss, hit:<text>, \
+             line:<text>; then refused",
+        )
 }
 
 fn trail<'a>(alloc: Global) -> Arg<'a>

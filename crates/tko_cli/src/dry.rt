@@ -1,11 +1,9 @@
 //! The command `dry`: a session over scripted servers.
-ghost use Rattle.std.specs.Prelude.{◌≡◌, IfOk, IfErr, OnOk};
-ghost use Rattle.tko_model.specs.Tracker.{opened};
-ghost use Rattle.tko_cli.specs.DryRuns.{Begins, DryFails, IsDry, settings_of, words_in};
-ghost use Rattle.tko_cli.specs.Outcomes.{AllAsk};
-ghost use Rattle.tko_cli.specs.Targets.{numbers_below};
+ghost use Rattle.std.specs.Prelude.{◌≡◌, ◌<◌, [], IfOk, IfErr, OnOk, length, replicate};
+ghost use Rattle.tko_cli.specs.DryRuns.{DryFails, IsDry};
 
 use crate::Fault;
+use crate::configured::config_of;
 use crate::options::DryOptions;
 use crate::outcomes::scripts_of;
 use crate::trail_lines::trail_lines;
@@ -14,6 +12,7 @@ use std::alloc::Global;
 use tko_bytes::NoMemory;
 use tko_links::{IoRuntime, Script, Scripted};
 use tko_model::Plain;
+use tko_pools::Config;
 use tko_route::PlainHealth;
 use tko_session::{Inlet, Kept, Outlet, Parts, serve};
 
@@ -33,8 +32,9 @@ pub(crate) fn dry<R: IoRuntime, I: Inlet, O: Outlet>(
         input.old input.new output.old output.new) }
 {
     let scripts = scripts_of(alloc, options.outcomes.as_str())?;
-    let tracker = Plain::open(alloc, options.settings())?;
-    let mut parts = parts_of(alloc, options, tracker, scripts)?;
+    let config = config_of(alloc, options)?;
+    let tracker = Plain::open(alloc, options.settings(config.servers()))?;
+    let mut parts = parts_of(alloc, config, tracker, scripts)?;
     serve(rt, alloc, input, output, &mut parts)?;
     if !options.trail {
         return Ok(());
@@ -44,33 +44,29 @@ pub(crate) fn dry<R: IoRuntime, I: Inlet, O: Outlet>(
     Ok(())
 }
 
-/// The parts that the options name, of their tracker and their scripts.
+/// The parts of this configuration, over its tracker and its scripts.
 fn parts_of(
     alloc: Global,
-    options: &DryOptions,
+    config: Config,
     tracker: Plain,
     scripts: Vec<Script>,
 ) -> Result<DryParts, NoMemory>
-    requires tracker { tracker ≡ opened (settings_of options.now) }
-    requires asked { AllAsk (words_in options.now) scripts.items }
-    ensures { IfOk result (Begins options.now) }
+    requires { 0 < tracker.settings.threads }
+    ensures { IfOk result (λ parts. parts ≡ record {
+      health = record { tracker = tracker; thread = 0 };
+      links = record {
+        scripts = scripts.items;
+        sends = replicate (length config.addresses) 0;
+        requests = [];
+      };
+      trails = [];
+      config = config;
+    }) }
 {
-    let servers = options.servers as usize;
     Ok(Parts {
         health: PlainHealth::new(tracker, 0),
-        links: Scripted::new(alloc, servers, scripts)?,
+        links: Scripted::new(alloc, config.addresses().len(), scripts)?,
         trails: Kept::new(alloc),
-        targets: targets_of(alloc, servers)?,
+        config,
     })
-}
-
-/// All servers, in the order of their numbers.
-fn targets_of(alloc: Global, servers: usize) -> Result<Vec<usize>, NoMemory>
-    ensures { IfOk result (λ targets. targets.items ≡ numbers_below servers) }
-{
-    let mut targets = Vec::new(alloc);
-    for server in 0..servers {
-        targets.push(server)?;
-    }
-    Ok(targets)
 }

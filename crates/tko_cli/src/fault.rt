@@ -1,6 +1,6 @@
 //! Why a command fails, and the line that reports it.
 ghost use Rattle.std.specs.Prelude.{◌≡◌};
-ghost use Rattle.tko_cli.specs.Faults.{setting_name};
+ghost use Rattle.tko_cli.specs.Faults.{config_name, setting_name};
 
 use crate::outcomes::OutcomesFault;
 use crate::reading::ReadFault;
@@ -10,6 +10,7 @@ use std::error::Error;
 use std::fmt;
 use tko_bytes::NoMemory;
 use tko_model::{OpenFault, SettingsFault};
+use tko_pools::ConfigFault;
 use tko_runs::{RunFault, ScheduleFault};
 use tko_session::SessionFault;
 
@@ -21,12 +22,26 @@ pub enum Fault {
     LineTooLong,
     Memory,
     Settings(SettingsFault),
+    /// What is wrong with the configuration.
+    Config(ConfigFlaw),
     /// The number of the first bad word of `--outcomes`, counted from 1.
     Outcomes(usize),
     /// The number of a schedule's first bad line, counted from 1; 0 where the text is too long.
     Line(u32),
     /// The check refuses the run that was played.
     Check,
+}
+
+/// What is wrong with a configuration, without the text in question.
+#[derive(Clone, Copy, Debug, PartialEq, Eq)]
+pub enum ConfigFlaw {
+    Json,
+    NoPools,
+    EmptyPool,
+    Address,
+    Route,
+    NoSuchPool,
+    TooManyServers,
 }
 
 impl fmt::Display for Fault {
@@ -44,6 +59,10 @@ impl fmt::Display for Fault {
             Fault::Settings(setting) => {
                 let name = setting_name(*setting);
                 write!(f, "fault: settings {name}")
+            }
+            Fault::Config(flaw) => {
+                let name = config_name(*flaw);
+                write!(f, "fault: config {name}")
             }
             Fault::Outcomes(number) => write!(f, "fault: outcomes {number}"),
             Fault::Line(number) => write!(f, "fault: schedule line {number}"),
@@ -65,6 +84,41 @@ fn setting_name(setting: SettingsFault) -> &'static str
         SettingsFault::Limit => "limit",
         SettingsFault::Tries => "tries",
         SettingsFault::Stamp => "stamp",
+    }
+}
+
+/// The word that names what is wrong with a configuration.
+fn config_name(flaw: ConfigFlaw) -> &'static str
+    ensures { result.now ≡ config_name flaw }
+{
+    match flaw {
+        ConfigFlaw::Json => "json",
+        ConfigFlaw::NoPools => "no-pools",
+        ConfigFlaw::EmptyPool => "empty-pool",
+        ConfigFlaw::Address => "address",
+        ConfigFlaw::Route => "route",
+        ConfigFlaw::NoSuchPool => "no-such-pool",
+        ConfigFlaw::TooManyServers => "too-many-servers",
+    }
+}
+
+impl From<ConfigFault> for Fault {
+    ghost use Rattle.tko_cli.specs.Faults.{fault_of_config};
+    ghost use Rattle.std.specs.Prelude.{◌≡◌};
+
+    ghost from_gives = { λ cause fault. fault ≡ fault_of_config cause };
+
+    fn from(cause: ConfigFault) -> Fault {
+        match cause {
+            ConfigFault::Json => Fault::Config(ConfigFlaw::Json),
+            ConfigFault::NoPools => Fault::Config(ConfigFlaw::NoPools),
+            ConfigFault::EmptyPool(_) => Fault::Config(ConfigFlaw::EmptyPool),
+            ConfigFault::Address(_) => Fault::Config(ConfigFlaw::Address),
+            ConfigFault::Route => Fault::Config(ConfigFlaw::Route),
+            ConfigFault::NoSuchPool(_) => Fault::Config(ConfigFlaw::NoSuchPool),
+            ConfigFault::TooManyServers => Fault::Config(ConfigFlaw::TooManyServers),
+            ConfigFault::Memory => Fault::Memory,
+        }
     }
 }
 
@@ -90,6 +144,17 @@ impl From<OutcomesFault> for Fault {
             OutcomesFault::Word(number) => Fault::Outcomes(number),
             OutcomesFault::Memory => Fault::Memory,
         }
+    }
+}
+
+impl From<SettingsFault> for Fault {
+    ghost use Rattle.std.specs.Prelude.{◌≡◌};
+    ghost use Rattle.tko_cli.specs.declared.fault.Fault.TheVariants as fault;
+
+    ghost from_gives = { λ cause result. result ≡ fault.Settings cause };
+
+    fn from(cause: SettingsFault) -> Fault {
+        Fault::Settings(cause)
     }
 }
 

@@ -18,8 +18,9 @@ Options:
       --failures <N>     How many soft failures in a row mark a server, 1 to 1000 [default: 3]
       --limit <N>        How many soft marks there may be at once, 0 to 256 [default: 40]
       --tries <N>        How many tries a call may lose to other threads, 1 to 1000 [default: 8]
-      --outcomes <LIST>  What comes of each send: refused, timeout and miss, parted by commas; \
-                         then refused [default: \"\"]
+      --config <JSON>    The pools and the route; without it every key tries all servers in order
+      --outcomes <LIST>  What comes of each send, parted by commas: refused, timeout, miss, \
+                         hit:<text>, line:<text>; then refused [default: \"\"]
       --trail            Prints one line an attempt after the replies
   -h, --help             Print help
 ";

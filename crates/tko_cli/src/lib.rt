@@ -7,6 +7,7 @@
 #![tactic(auto)]
 
 mod command_line;
+mod configured;
 mod dry;
 mod fault;
 mod options;
@@ -17,12 +18,14 @@ mod replay;
 mod trail_lines;
 mod writing;
 
-pub use fault::Fault;
+pub use fault::{ConfigFlaw, Fault};
 pub use program::command;
 
 #[cfg(test)]
 mod fault_tests;
 #[cfg(test)]
 mod replay_tests;
+#[cfg(test)]
+mod row_tests;
 #[cfg(test)]
 mod tests;

@@ -1,6 +1,6 @@
 //! The words of the command line.
 ghost use Rattle.std.specs.Prelude.{◌≡◌};
-ghost use Rattle.tko_cli.specs.DryRuns.{settings_of};
+ghost use Rattle.tko_cli.specs.Configured.{settings_of};
 
 use crate::command_line::program;
 use clap::error::ErrorKind;
@@ -25,6 +25,8 @@ pub(crate) struct DryOptions {
     pub failures: u32,
     pub limit: u32,
     pub tries: u32,
+    /// The JSON of the configuration.
+    pub config: Option<String>,
     pub outcomes: String,
     pub trail: bool,
 }
@@ -46,7 +48,12 @@ impl Options {
 impl DryOptions {
     fn of(alloc: Global, found: &ArgMatches<'_>) -> Result<DryOptions, AllocError> {
         let outcomes = found.get_str("outcomes").unwrap_or("");
+        let config = match found.get_str("config") {
+            Some(json) => Some(String::from_str(alloc, json)?),
+            None => None,
+        };
         Ok(DryOptions {
+            config,
             servers: number_of(found, "servers"),
             failures: number_of(found, "failures"),
             limit: number_of(found, "limit"),
@@ -56,12 +63,12 @@ impl DryOptions {
         })
     }
 
-    /// The settings of the tracker.
-    pub fn settings(&self) -> Settings
-        ensures { result ≡ settings_of self.now }
+    /// The settings of a tracker of so many servers.
+    pub fn settings(&self, servers: u32) -> Settings
+        ensures { result ≡ settings_of self.now servers }
     {
         Settings {
-            servers: self.servers,
+            servers,
             threads: THREADS,
             failures: self.failures,
             limit: self.limit,

@@ -1,6 +1,7 @@
 //! The list of `--outcomes`: what the servers do, one after another.
-ghost use Rattle.std.specs.Prelude.{◌≡◌, IfOk, IfErr, IfSome, IfNone, false};
-ghost use Rattle.tko_cli.specs.Outcomes.{AllAsk, Asks, Refuses, is_outcome, texts_of, words_of};
+ghost use Rattle.std.specs.Prelude.{◌≡◌, ◌++◌, IfOk, IfErr, IfSome, is_some, option_map};
+ghost use Rattle.tko_bytes.specs.Lines.{crlf};
+ghost use Rattle.tko_cli.specs.Outcomes.{AllAsk, Asks, Refuses, is_outcome, line_asked, text_of_hit, text_of_line, texts_of, words_of};
 
 use std::alloc::{AllocError, AllocFailed, Global};
 use tko_links::Script;
@@ -71,12 +72,50 @@ fn words_of(alloc: Global, list: &str) -> Result<Vec<&str>, AllocError>
 /// The script that a word asks for; None where it is no word of a list.
 fn script_of(alloc: Global, word: &str) -> Result<Option<Script>, AllocError>
     ensures some { IfOk result (λ script. IfSome script (Asks word.now)) }
-    ensures none { IfOk result (λ script. IfNone script (is_outcome word.now ≡ false)) }
+    ensures known { IfOk result (λ script. is_some script ≡ is_outcome word.now) }
 {
     Ok(match word {
         "refused" => Some(Script::Refused),
         "timeout" => Some(Script::Timeout),
-        "miss" => Some(Script::Bytes(Vec::from_slice(alloc, b"END\r\n")?)),
-        _ => None,
+        _ => match text_of_hit(word) {
+            Some(text) => Some(Script::Hit(Vec::from_slice(alloc, text.as_bytes())?)),
+            None => match line_asked(word) {
+                Some(line) => Some(Script::Bytes(line_of(alloc, line)?)),
+                None => None,
+            },
+        },
     })
+}
+
+/// The line that a word asks for: that of `miss`, or the text of `line:<text>`.
+fn line_asked(word: &str) -> Option<&str>
+    ensures { option_map (λ line. line.now) result ≡ line_asked word.now }
+{
+    match word {
+        "miss" => Some("END"),
+        _ => text_of_line(word),
+    }
+}
+
+/// The text of `hit:<text>`.
+fn text_of_hit(word: &str) -> Option<&str>
+    ensures { option_map (λ text. text.now) result ≡ text_of_hit word.now }
+{
+    word.strip_prefix("hit:")
+}
+
+/// The text of `line:<text>`.
+fn text_of_line(word: &str) -> Option<&str>
+    ensures { option_map (λ text. text.now) result ≡ text_of_line word.now }
+{
+    word.strip_prefix("line:")
+}
+
+/// A text and the end of its line.
+fn line_of(alloc: Global, text: &str) -> Result<Vec<u8>, AllocError>
+    ensures { IfOk result (λ line. line.items ≡ text.now ++ crlf) }
+{
+    let mut line = Vec::from_slice(alloc, text.as_bytes())?;
+    line.extend_from_slice(b"\r\n")?;
+    Ok(line)
 }

@@ -2,7 +2,6 @@
 
 use crate::fault_tests::fails;
 use crate::tests::{answers, ends_with, tape};
-use std::alloc::{AllocError, Global};
 use std::test::Fail;
 use tko_session::{Stop, Taped};
 
@@ -13,76 +12,11 @@ const HEADER: &str = "schedule 1\nservers 2\nthreads 2\nfailures 1\nlimit 1\ntri
 #[test]
 fn second_soft_mark_is_full(rt: HostRuntime) -> Result<(), Fail> {
     let lines = "begin 0 soft 0\nrun 0\nbegin 1 soft 1\nrun 1\n";
-    let run = "begin 0 soft 0\n1 0 whole server:0 done\nanswer 0 took-soft\n\
-        begin 1 soft 1\n2 1 whole server:1 done\nanswer 1 full\n\
-        call 1 at 1\ncall 2 at 2\nserver 0 soft:0@1\nserver 1 up:0@0\nsoft firm:1,held:0\nok\n";
-    let schedule = format!(in rt.alloc(); "{HEADER}{lines}")?;
-    answers(&rt, rt.alloc(), REPLAY, schedule.as_str(), run)?;
-    Ok(())
-}
-
-#[test]
-fn soft_mark_hardens(rt: HostRuntime) -> Result<(), Fail> {
-    let schedule = "schedule 1\nservers 1\nthreads 2\nfailures 1\nlimit 1\ntries 8\nstamp 0\n\
-        begin 0 soft 0\nrun 0\nbegin 1 hard 0\nrun 1\nbegin 0 hard 0\nrun 0\n";
-    let run = "begin 0 soft 0\n1 0 whole server:0 done\nanswer 0 took-soft\n\
-        begin 1 hard 0\n2 1 whole server:0 done\nanswer 1 already:soft:0\n\
-        begin 0 hard 0\n3 0 whole server:0 done\nanswer 0 hardened\n\
-        call 1 at 1\ncall 2 at 2\ncall 3 at 3\nserver 0 hard:0@2\nsoft firm:0,held:0\nok\n";
-    answers(&rt, rt.alloc(), REPLAY, schedule, run)?;
-    Ok(())
-}
-
-/// A header with one server, one thread and this opening stamp.
-fn opened_at(alloc: Global, stamp: u64) -> Result<String, AllocError> {
-    format!(in alloc;
-        "schedule 1\nservers 1\nthreads 1\nfailures 2\nlimit 1\ntries 8\nstamp {stamp}\n"
-    )
-}
-
-#[test]
-fn worn_stamp(rt: HostRuntime) -> Result<(), Fail> {
-    let header = opened_at(rt.alloc(), 2_251_799_813_685_240)?;
-    let schedule = format!(in rt.alloc();
-        "{header}begin 0 soft 0\nrun 0\nbegin 0 hard 0\nrun 0\n\
-        begin 0 look 0\nrun 0\nbegin 0 success 0\nrun 0\n"
-    )?;
-    let run = "begin 0 soft 0\n1 0 whole server:0 done\nanswer 0 worn\n\
-        begin 0 hard 0\n2 0 whole server:0 done\nanswer 0 worn\n\
-        begin 0 look 0\n3 0 whole server:0 done\nanswer 0 found:up:0\n\
-        begin 0 success 0\n4 0 whole server:0 done\nanswer 0 clean\n\
-        call 1 at 1\ncall 2 at 2\ncall 3 at 3\ncall 4 at 4\n\
-        server 0 up:0@2251799813685240\nsoft firm:0,held:0\nok\n";
-    answers(&rt, rt.alloc(), REPLAY, schedule.as_str(), run)?;
-    Ok(())
-}
-
-#[test]
-fn nearly_worn_stamp(rt: HostRuntime) -> Result<(), Fail> {
-    let header = opened_at(rt.alloc(), 2_251_799_813_685_239)?;
-    let schedule = format!(in rt.alloc();
-        "{header}begin 0 hard 0\nrun 0\n\
-        begin 0 success 0\nrun 0\nbegin 0 soft 0\nrun 0\n"
-    )?;
-    let run = "begin 0 hard 0\n1 0 whole server:0 done\nanswer 0 took-hard\n\
-        begin 0 success 0\n2 0 whole server:0 done\nanswer 0 unmarked:hard:0\n\
-        begin 0 soft 0\n3 0 whole server:0 done\nanswer 0 worn\n\
-        call 1 at 1\ncall 2 at 2\ncall 3 at 3\n\
-        server 0 up:0@2251799813685241\nsoft firm:0,held:0\nok\n";
-    answers(&rt, rt.alloc(), REPLAY, schedule.as_str(), run)?;
-    Ok(())
-}
-
-#[test]
-fn refused_begins_are_printed(rt: HostRuntime) -> Result<(), Fail> {
-    let lines =
-        "begin 9 soft 0\nstep 1 2\nbegin 0 look 2\nbegin 0 look 1\nbegin 0 look 1\nstep 0 2\n\
-        step 2 1\nrun 1\nrun 5\nbegin 1 release 0\n";
-    let run =
-        "begin 9 soft 0 refused no-thread\n- 1 idle\n- 1 idle\nbegin 0 look 2 refused no-server\n\
-        begin 0 look 1\nbegin 0 look 1 refused busy\n1 0 whole server:1 done\nanswer 0 found:up:0\n\
-        - 0 idle\n- 2 no-thread\nbegin 1 release 0\ncall 1 at 1\ncall 2 open\n\
-        server 0 up:0@0\nserver 1 up:0@0\nsoft firm:0,held:0\nok\n";
+    let run = "begin 0 soft 0\n1 0 look server:0 up:0@0\n2 0 look soft firm:0,held:0\n\
+        3 0 reserve soft won\n4 0 mark server:0 won\n5 0 shift soft done\nanswer 0 took-soft\n\
+        begin 1 soft 1\n6 1 look server:1 up:0@0\n7 1 look soft firm:1,held:0\n\
+        8 1 look server:1 up:0@0\nanswer 1 full\n\
+        call 1 at 4\ncall 2 at 8\nserver 0 soft:0@1\nserver 1 up:0@0\nsoft firm:1,held:0\nok\n";
     let schedule = format!(in rt.alloc(); "{HEADER}{lines}")?;
     answers(&rt, rt.alloc(), REPLAY, schedule.as_str(), run)?;
     Ok(())

@@ -1,8 +1,8 @@
 //! Ledgers: what the workers counted, and the sum of it.
 //!
 //! - `Kind`: what is counted; `Numbers`: a number for each kind.
-//! - `Book`: the totals of a ledger; `Share`: one worker's part of it. Each number is counted twice,
-//!   in the book and in the share of the worker that counted it.
+//! - `Book`: the totals of a ledger; `Share`: one worker's part of it. Each number is counted
+//!   twice, in the book and in the share of the worker that counted it.
 //! - `Totals`: what a book comes to once all its shares are back.
 #![tactic(auto)]
 

@@ -1,1 +1,2 @@
+mod HitLemmas
 mod ScriptedLemmas

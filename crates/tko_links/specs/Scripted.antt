@@ -1,6 +1,8 @@
 -- Links that play a list of scripts: what each script gives to a request, and what a send changes.
-use Rattle.std.specs.Prelude.{◌≡◌, ℕ, ◌+◌, List, [], ◌∷◌, ◌++◌, drop, length, map, slice_get, slice_index, slice_set, Option, Some, None, Result, Ok, Err}
+use Rattle.std.specs.Prelude.{◌≡◌, ℕ, ◌+◌, List, [], ◌∷◌, ◌++◌, codes, drop, length, map, slice_get, slice_index, slice_set, Option, Some, None, Result, Ok, Err}
+use Rattle.std.specs.Fmt.{decimal}
 use Rattle.tko_text.specs.declared.request.Request.{Request}
+use Rattle.tko_text.specs.declared.request.Request.TheVariants as request
 use Rattle.tko_text.specs.declared.response.fault.ReadFault.{ReadFault}
 use Rattle.tko_text.specs.declared.response.fault.ReadFault.TheVariants as fault
 use Rattle.tko_text.specs.declared.response.Response.{Response}
@@ -25,13 +27,36 @@ came_of (Err fault.Short) = Some outcome.Broken
 came_of (Err fault.Unreadable) = Some outcome.Broken
 came_of (Err fault.Memory) = None
 
+-- that comes of a request that these bytes answer
+abbrev pub Answers : List ℕ → Request → Option Outcome → Type 0
+Answers bytes request came =
+    (read : Result (Response × ℕ) ReadFault)
+    × ReadsResponse request bytes read × (came_of read ≡ came)
+
+-- a value of this key with flags 0 and this text of a cas number, and the line `END`
+abbrev pub hit_text : List ℕ → List ℕ → List ℕ → List ℕ
+hit_text key cas text =
+    codes "VALUE " ++ key ++ codes " 0 " ++ decimal (length text) ++ cas ++ codes "\r\n" ++ text
+    ++ codes "\r\nEND\r\n"
+
+-- that comes of a retrieval of these keys that such a value of its one key answers
+abbrev pub HitsKeys : List (List ℕ) → List ℕ → List ℕ → Request → Option Outcome → Type 0
+HitsKeys (key ∷ []) cas text request came = Answers (hit_text key cas text) request came
+HitsKeys _ cas text request came = came ≡ Some outcome.Broken
+
+-- that comes of a request that a value of its key answers; only `gets` gets a cas number, and a
+-- request that is no retrieval cannot read a value
+abbrev pub Hits : List ℕ → Request → Option Outcome → Type 0
+Hits text (request.Get keys) came = HitsKeys keys [] text (request.Get keys) came
+Hits text (request.Gets keys) came = HitsKeys keys (codes " 1") text (request.Gets keys) came
+Hits text _ came = came ≡ Some outcome.Broken
+
 -- this script gives that to a request
 abbrev pub Gives : Script → Request → Option Outcome → Type 0
 Gives script.Refused request came = came ≡ Some outcome.Refused
 Gives script.Timeout request came = came ≡ Some outcome.Timeout
-Gives (script.Bytes bytes) request came =
-    (read : Result (Response × ℕ) ReadFault)
-    × ReadsResponse request bytes.items read × (came_of read ≡ came)
+Gives (script.Bytes bytes) request came = Answers bytes.items request came
+Gives (script.Hit text) request came = Hits text.items request came
 
 -- the next script gives it; a used-up list refuses
 abbrev pub NextGives : Option Script → Request → Option Outcome → Type 0

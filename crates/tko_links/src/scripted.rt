@@ -1,14 +1,16 @@
 //! Links in memory, which play a list of scripts.
 ghost use Rattle.std.specs.Prelude.{◌≡◌, ◌<◌, [], true, false, IfOk, IfErr, OnErr, OnOk, length, replicate, slice_index};
 ghost use Rattle.tko_links.specs.Links.{most_sends, outcome_in};
-ghost use Rattle.tko_links.specs.Scripted.{IsPlayed};
+ghost use Rattle.tko_links.specs.Scripted.{Answers, Hits, HitsKeys, IsPlayed, hit_text};
 
 use crate::io_runtime::IoRuntime;
 use crate::links::{Links, NoMemory, Outcome};
+use itoa::Buffer;
 use std::alloc::Global;
 use std::marker::Model;
+use tko_bytes::append;
 use tko_model::Clear;
-use tko_text::{ReadFault, Request, Response};
+use tko_text::{Key, ReadFault, Request, Response};
 
 /// What comes of the next request, whatever it is.
 #[derive(Debug, Drop)]
@@ -17,6 +19,9 @@ pub enum Script {
     Timeout,
     /// The server answers these bytes, and then its end of the connection closes.
     Bytes(Vec<u8>),
+    /// The server answers a value of the asked key with these bytes, flags 0 and, where it was
+    /// asked for, cas number 1. Any request but a retrieval of one key cannot read the answer.
+    Hit(Vec<u8>),
 }
 
 /// The bytes of a request. Contracts see their list.
@@ -78,13 +83,96 @@ impl Script {
         match self {
             Script::Refused => Ok(Outcome::Refused),
             Script::Timeout => Ok(Outcome::Timeout),
-            Script::Bytes(bytes) => match Response::read(alloc, request, bytes.as_slice()) {
-                Ok((response, _)) => Ok(Outcome::Reply(response)),
-                Err(ReadFault::Short | ReadFault::Unreadable) => Ok(Outcome::Broken),
-                Err(ReadFault::Memory) => Err(NoMemory { sent: true }),
-            },
+            Script::Bytes(bytes) => read_answer(alloc, request, bytes.as_slice()),
+            Script::Hit(text) => hit(alloc, request, text.as_slice()),
         }
     }
+}
+
+/// What comes of a request that these bytes answer.
+fn read_answer(alloc: Global, request: &Request, bytes: &[u8]) -> Result<Outcome, NoMemory>
+    ensures came { Answers bytes.now request.now (outcome_in result) }
+    ensures sent { IfErr result (λ fault. fault ≡ record { sent = true }) }
+{
+    match Response::read(alloc, request, bytes) {
+        Ok((response, _)) => Ok(Outcome::Reply(response)),
+        Err(ReadFault::Short | ReadFault::Unreadable) => Ok(Outcome::Broken),
+        Err(ReadFault::Memory) => Err(NoMemory { sent: true }),
+    }
+}
+
+/// What comes of a request that a value of its key answers.
+fn hit(alloc: Global, request: &Request, text: &[u8]) -> Result<Outcome, NoMemory>
+    ensures came { Hits text.now request.now (outcome_in result) }
+    ensures sent { IfErr result (λ fault. fault ≡ record { sent = true }) }
+{
+    match request {
+        Request::Get { keys } => hit_of(alloc, request, keys.as_slice(), b"", text),
+        Request::Gets { keys } => hit_of(alloc, request, keys.as_slice(), b" 1", text),
+        _ => Ok(Outcome::Broken),
+    }
+}
+
+/// The same for a retrieval of these keys, with this text of a cas number.
+fn hit_of(
+    alloc: Global,
+    request: &Request,
+    keys: &[Key],
+    cas: &[u8],
+    text: &[u8],
+) -> Result<Outcome, NoMemory>
+    ensures came { HitsKeys keys.now cas.now text.now request.now (outcome_in result) }
+    ensures sent { IfErr result (λ fault. fault ≡ record { sent = true }) }
+{
+    match keys {
+        [key] => hit_key(alloc, request, key, cas, text),
+        _ => Ok(Outcome::Broken),
+    }
+}
+
+/// The same for this one key.
+fn hit_key(
+    alloc: Global,
+    request: &Request,
+    key: &Key,
+    cas: &[u8],
+    text: &[u8],
+) -> Result<Outcome, NoMemory>
+    ensures came { Answers (hit_text key.now cas.now text.now) request.now (outcome_in result) }
+    ensures sent { IfErr result (λ fault. fault ≡ record { sent = true }) }
+{
+    let Ok(bytes) = hit_text(alloc, key, cas, text) else {
+        return Err(NoMemory { sent: true });
+    };
+    read_answer(alloc, request, bytes.as_slice())
+}
+
+/// The bytes of a value and the line `END`.
+fn hit_text<'a>(
+    alloc: Global,
+    key: &'a Key,
+    cas: &'a [u8],
+    text: &'a [u8],
+) -> Result<Vec<u8>, tko_bytes::NoMemory>
+    ensures { IfOk result (λ bytes. bytes.items ≡ hit_text key.now cas.now text.now) }
+{
+    let mut size = Buffer::new();
+    let mut bytes = Vec::new(alloc);
+    let size = size.format(text.len()).as_bytes();
+    append(
+        &mut bytes,
+        &[
+            b"VALUE ",
+            key.as_bytes(),
+            b" 0 ",
+            size,
+            cas,
+            b"\r\n",
+            text,
+            b"\r\nEND\r\n",
+        ],
+    )?;
+    Ok(bytes)
 }
 
 impl Scripted {

@@ -8,11 +8,12 @@ use std::process::Abort;
 use std::sync::Wait;
 use std::test::Fail;
 use tko_model::{Look, Mark};
-use tko_text::{Key, Request, Response};
+use tko_text::{Key, Keys, Request, Response};
 
 fn get_a(rt: &impl Abort, alloc: Global) -> Result<Request, Fail> {
     let key = Key::of(alloc, b"a".as_slice())?.expect(rt, "a key");
-    Ok(Request::Get { key })
+    let keys = Keys::new(vec![in alloc; key]?);
+    Ok(Request::Get { keys })
 }
 
 /// Sends a request to server 1, which is up.

@@ -135,6 +135,13 @@ impl Config {
         self.addresses.texts()
     }
 
+    /// How many servers there are.
+    pub fn servers(&self) -> u32
+        ensures { result ≡ length self.now.addresses }
+    {
+        self.addresses.len() as u32
+    }
+
     /// The greatest expiry that a storage command keeps after its first target, in seconds; 0
     /// stands for any.
     pub fn failover_exptime(&self) -> u32

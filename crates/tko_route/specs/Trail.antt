@@ -1,5 +1,5 @@
 -- The trail of a request: its attempts at one target after another. Nothing here knows a loop.
-use Rattle.std.specs.Prelude.{◌≡◌, ℕ, ◌<◌, ◌-◌, Bool, true, false, MatchBool, ◌==◌, ◌⊎◌, List, [], ◌∷◌, ◌++◌, length, map, take, All, count_by, slice_get, slice_index, Option, Some, None, IsSome}
+use Rattle.std.specs.Prelude.{◌≡◌, ℕ, zero, suc, ◌<◌, ◌-◌, Bool, false, MatchBool, ◌==◌, ◌⊎◌, List, [], ◌∷◌, ◌++◌, length, map, take, All, count_by, slice_get, slice_index, Option, Some, None, IsSome}
 use Rattle.std.specs.Option.{option_and_then}
 use Rattle.tko_model.specs.declared.mark.Op.{Op}
 use Rattle.tko_model.specs.declared.mark.Op.TheVariants.{LookUp, SoftFailure, HardFailure, Success}
@@ -8,6 +8,7 @@ use Rattle.tko_model.specs.declared.mark.Reply.TheVariants as reply
 use Rattle.tko_model.specs.Records.{Gains, HealthItem, Called}
 use Rattle.tko_text.specs.declared.request.Request.{Request}
 use Rattle.tko_text.specs.declared.response.Response.{Response}
+use Rattle.tko_text.specs.SentRequests.{with_replaced_expiry}
 use Rattle.tko_links.specs.declared.links.Outcome.{Outcome}
 use Rattle.tko_links.specs.declared.links.Outcome.TheVariants as outcome
 use Rattle.tko_route.specs.declared.attempt.Attempt.{Attempt}
@@ -114,6 +115,35 @@ Attempted {H} steps exchanges sent request old (attempt.Sent server came answer)
 Attempted steps exchanges sent request old (attempt.Spent server) new =
     FoundUp steps old.0 server new.0 × (sent old.1 server ≡ most_sends) × (new.1 ≡ old.1)
 
+-- the form in which a request is sent to the target at a place of the list: the first target gets
+-- the request's own expiry, each later one the replaced expiry
+abbrev pub form_at : ℕ → Request → ℕ → Request
+form_at exptime request zero = request
+form_at exptime request (suc place) = with_replaced_expiry exptime request
+
+-- an attempt at the target at this place of the list
+pub record Placed : Type 0 where
+  pub place : ℕ
+  pub attempt : Attempt
+
+-- attempts at the targets from this place on, one after another
+abbrev pub placed_from : ℕ → List Attempt → List Placed
+placed_from place [] = []
+placed_from place (it ∷ trail) =
+    record { place = place; attempt = it } ∷ placed_from (suc place) trail
+
+-- one attempt, with the request in the form of its place
+abbrev pub AttemptedAt : {H L : Type 0} → (H → HealthItem → H → Type 0)
+    → (L → LinksItem → L → Type 0) → (L → ℕ → ℕ) → (ℕ → Request) → H × L → Placed → H × L → Type 0
+AttemptedAt steps exchanges sent form old it new =
+    Attempted steps exchanges sent (form it.place) old it.attempt new
+
+-- the attempts of a trail, from the first target of the list on
+pub record Attempts {H L : Type 0} (steps : H → HealthItem → H → Type 0)
+    (exchanges : L → LinksItem → L → Type 0) (sent : L → ℕ → ℕ) (form : ℕ → Request)
+    (old : H × L) (trail : List Attempt) (new : H × L) : Type 0 where
+  pub gains : Gains (AttemptedAt steps exchanges sent form) old (placed_from 0 trail) new
+
 -- an attempt at which memory ran out: a look-up found the server up; then, if the request was sent,
 -- that is one item without an outcome, and if it was not, the links did not change
 pub record RanOut {H L : Type 0} (steps : H → HealthItem → H → Type 0)
@@ -124,12 +154,13 @@ pub record RanOut {H L : Type 0} (steps : H → HealthItem → H → Type 0)
 
 -- these attempts were made, and then memory ran out at the next target
 pub record RanShort {H L : Type 0} (steps : H → HealthItem → H → Type 0)
-    (exchanges : L → LinksItem → L → Type 0) (sent : L → ℕ → ℕ) (request : Request)
+    (exchanges : L → LinksItem → L → Type 0) (sent : L → ℕ → ℕ) (form : ℕ → Request)
     (targets : List ℕ) (old : H × L) (trail : List Attempt) (was_sent : Bool) (new : H × L)
     : Type 0 where
   pub mid : H × L
-  pub made : Gains (Attempted steps exchanges sent request) old trail mid
-  pub last : RanOut steps exchanges request mid (next_target targets trail) was_sent new
+  pub made : Attempts steps exchanges sent form old trail mid
+  pub last :
+      RanOut steps exchanges (form (length trail)) mid (next_target targets trail) was_sent new
 
 -- memory ran out before the first attempt
 pub record NothingDone {S : Type 0} (old : S) (trail : List Attempt) (was_sent : Bool) (new : S)
@@ -140,8 +171,8 @@ pub record NothingDone {S : Type 0} (old : S) (trail : List Attempt) (was_sent :
 
 -- memory ran out: before the first attempt, or at the target after those of the trail
 abbrev pub CutShort : {H L : Type 0} → (H → HealthItem → H → Type 0)
-    → (L → LinksItem → L → Type 0) → (L → ℕ → ℕ) → Request → List ℕ → H × L → List Attempt → Bool
-    → H × L → Type 0
-CutShort steps exchanges sent request targets old trail was_sent new =
+    → (L → LinksItem → L → Type 0) → (L → ℕ → ℕ) → (ℕ → Request) → List ℕ → H × L → List Attempt
+    → Bool → H × L → Type 0
+CutShort steps exchanges sent form targets old trail was_sent new =
     NothingDone old trail was_sent new
-    ⊎ RanShort steps exchanges sent request targets old trail was_sent new
+    ⊎ RanShort steps exchanges sent form targets old trail was_sent new

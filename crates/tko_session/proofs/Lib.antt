@@ -1,6 +1,9 @@
+mod AnsweringLemmas
 mod ListLemmas
 mod NeverLemmas
+mod OutboxLemmas
 mod ResultLemmas
 mod ServedLemmas
+mod StatusLemmas
 mod TextFacts
 mod TurnLemmas

@@ -1,28 +1,32 @@
 -- Nothing is read after a line that is too long, and after no other item.
-use Rattle.std.proofs.Common.{◌≡◌, ◌≢◌, ℕ, ◌+◌, ◌-◌, Bool, true, false, List, [], ◌∷◌, cond, length, drop, Option, Some, None, refl, sym, ap, ◌∙◌}
+use Rattle.std.proofs.Common.{◌≡◌, ◌≢◌, ℕ, ◌+◌, ◌-◌, Bool, true, false, List, [], ◌∷◌, cond, length, drop, Option, Some, None, Ok, Err, refl, sym, ap, ◌∙◌}
 use Rattle.std.specs.Prelude.{unwrap_or, nat_le, ◌==◌}
 use Rattle.std.specs.Option.{option_and_then}
 use Rattle.std.specs.List.{list_all}
 use Rattle.std.specs.Str.{bytes_eq}
+use Rattle.std.specs.Prelude.{codes}
 use Rattle.tko_text.specs.declared.fault.TextFault.TheVariants.{UnknownCommand, BadKey, TooLarge, LineTooLong}
 use Rattle.tko_text.specs.declared.item.Item.{Item}
 use Rattle.tko_text.specs.declared.item.Item.TheVariants as item
-use Rattle.tko_text.specs.Commands.{ParsedLine, Asks, AwaitsData, Refused, Form, Keys, Stored, Compared, Deleted, Counted, Touched, Alone, Followed, bad_line, taken, is_within, noreply, with_key, with_data, parsed_keys, parsed_form, parsed_known, parsed_words, parsed, form_of}
+use Rattle.tko_text.specs.declared.request.Request.{Request}
+use Rattle.tko_text.specs.declared.request.Request.TheVariants as request
+use Rattle.tko_text.specs.declared.request.Verb.{Verb}
+use Rattle.tko_text.specs.declared.request.Verb.TheVariants.{Set, Add, Replace, Append, Prepend}
+use Rattle.tko_text.specs.Commands.{ParsedLine, Asks, AwaitsData, Refused, announced, asked_of, bad_line, compared, noreply, with_key, with_data, parsed_alone, parsed_compared, parsed_counted, parsed_deleted, parsed_keys, parsed_stats, parsed_stored, parsed_touched, parsed_known, parsed_words, parsed, form_of}
 use Rattle.tko_text.specs.Keys.{is_key}
+use Rattle.tko_text.specs.Limits.{data_limit, number_limit}
+use Rattle.tko_text.specs.Numbers.{expiry_of}
 use Rattle.tko_bytes.specs.Numbers.{number_of}
-use Rattle.tko_text.specs.Limits.{data_limit, flags_limit, number_limit}
-use Rattle.tko_text.specs.Numbers.{expiry}
 use Rattle.tko_bytes.specs.Lines.{line_feed, content}
-use Rattle.tko_text.specs.Requests.{Command}
-use Rattle.tko_text.specs.Reading.{After, Next, Pass, PassLine, Never, Reading, Completes, Decides, IsWrongEnd, by_line, by_length, passed, after_wrong, start, fed, Emits, EmitsEach, Gives}
+use Rattle.tko_text.specs.Reading.{After, Next, Pass, PassLine, Never, Reading, Completes, Decides, IsWrongEnd, by_line, by_length, passed, start, fed, Emits, EmitsEach, Gives}
 use Rattle.tko_bytes.specs.Words.{words}
-use Rattle.tko_session.specs.SessionState.{GoesOn, line_too_long}
+use Rattle.tko_session.specs.SessionState.{GoesOn, Continues, line_too_long}
 use Rattle.std.proofs.lemmas.List.Elements.{All-head, All-tail}
 
 -- a fault other than a line too long, after which reading goes on
 abbrev IsOrdinary : ParsedLine → Type 0
-IsOrdinary (Asks command) = Unit {0}
-IsOrdinary (AwaitsData size command) = Unit {0}
+IsOrdinary (Asks asked) = Unit {0}
+IsOrdinary (AwaitsData size asked) = Unit {0}
 IsOrdinary (Refused why onward) = (why ≢ LineTooLong) × (onward ≢ Never)
 
 either : (b : Bool) (one other : ParsedLine) → IsOrdinary one → IsOrdinary other → IsOrdinary (cond b one other)
@@ -48,56 +52,83 @@ and_then : {A : Type 0} (o : Option A) (f : A → Option ParsedLine) → ((a : A
 and_then None f each = bad_line_ordinary
 and_then (Some a) f each = each a
 
-key_ordinary : (key : List ℕ) (command : Command) → IsOrdinary (with_key key command)
-key_ordinary key command = either (is_key key) (Asks command) (Refused BadKey Next) tt bad_key_ordinary
+key_ordinary : (key : List ℕ) (asked : Request) → IsOrdinary (with_key key asked)
+key_ordinary key asked = either (is_key key) (Asks asked) (Refused BadKey Next) tt bad_key_ordinary
 
-data_ordinary : (key : List ℕ) (size : ℕ) (command : List ℕ → Command) → IsOrdinary (with_data key size command)
-data_ordinary key size command =
+data_ordinary : (key : List ℕ) (size : ℕ) (asked : List ℕ → Request) → IsOrdinary (with_data key size asked)
+data_ordinary key size asked =
     let large : ParsedLine = Refused TooLarge (Pass (size + 2)) in
-    let fits : ParsedLine = cond (nat_le size data_limit) (AwaitsData size command) large in
-    let fits_ordinary : IsOrdinary fits = either (nat_le size data_limit) (AwaitsData size command) large tt (too_large_ordinary (size + 2)) in
+    let fits : ParsedLine = cond (nat_le size data_limit) (AwaitsData size asked) large in
+    let fits_ordinary : IsOrdinary fits = either (nat_le size data_limit) (AwaitsData size asked) large tt (too_large_ordinary (size + 2)) in
     either (is_key key) fits (Refused BadKey (Pass (size + 2))) fits_ordinary (bad_data_ordinary (size + 2))
 
-keys_ordinary : (command : List (List ℕ) → Command) (keys : List (List ℕ)) → IsOrdinary (parsed_keys command keys)
-keys_ordinary command [] = bad_line_ordinary
-keys_ordinary command (key ∷ keys) =
-    let all = key ∷ keys in
-    let are_keys : ParsedLine = cond (list_all is_key all) (Asks (command all)) (Refused BadKey Next) in
-    let ordinary : IsOrdinary are_keys = either (list_all is_key all) (Asks (command all)) (Refused BadKey Next) tt bad_key_ordinary in
-    either (is_within taken.most_keys (length all)) are_keys bad_line ordinary bad_line_ordinary
+keys_ordinary : (asked : List (List ℕ) → Request) (keys : List (List ℕ)) → IsOrdinary (parsed_keys asked keys)
+keys_ordinary asked [] = bad_line_ordinary
+keys_ordinary asked (key ∷ keys) =
+    elim (list_all is_key (key ∷ keys)) as (λ v. IsOrdinary (asked_of asked (cond v (Ok (key ∷ keys)) (Err BadKey)))) [ true ↦ tt | false ↦ bad_key_ordinary ]
 
-form_ordinary : (form : Form) (arguments : List (List ℕ)) → IsOrdinary (parsed_form form arguments)
-form_ordinary (Keys command) keys = keys_ordinary command keys
-form_ordinary (Stored verb) (key ∷ flags ∷ until ∷ bytes ∷ rest) =
-    and_then (number_of flags_limit flags) _ (λ f. and_then (expiry until) _ (λ e.
-    and_then (number_of number_limit bytes) _ (λ size. and_then (noreply rest) _ (λ quiet. data_ordinary key size _))))
-form_ordinary (Stored verb) _ = bad_line_ordinary
-form_ordinary Compared (key ∷ flags ∷ until ∷ bytes ∷ cas ∷ rest) =
-    and_then (number_of flags_limit flags) _ (λ f. and_then (expiry until) _ (λ e.
-    and_then (number_of number_limit bytes) _ (λ size. and_then (number_of number_limit cas) _ (λ unique.
-    and_then (noreply rest) _ (λ quiet. data_ordinary key size _)))))
-form_ordinary Compared _ = bad_line_ordinary
-form_ordinary Deleted [] = bad_line_ordinary
-form_ordinary Deleted (key ∷ rest) = and_then (noreply rest) _ (λ quiet. key_ordinary key _)
-form_ordinary (Counted command) (key ∷ amount ∷ rest) =
+stored_ordinary : (verb : Verb) (arguments : List (List ℕ)) → IsOrdinary (unwrap_or (parsed_stored verb arguments) bad_line)
+stored_ordinary verb arguments =
+    and_then (announced arguments) _ (λ a. and_then (noreply a.1) _ (λ quiet. data_ordinary a.0.key a.0.size _))
+
+compared_ordinary : (arguments : List (List ℕ)) → IsOrdinary (unwrap_or (parsed_compared arguments) bad_line)
+compared_ordinary arguments =
+    and_then (announced arguments) _ (λ a. and_then (compared a.1) _ (λ c. data_ordinary a.0.key a.0.size _))
+
+deleted_ordinary : (arguments : List (List ℕ)) → IsOrdinary (unwrap_or (parsed_deleted arguments) bad_line)
+deleted_ordinary [] = bad_line_ordinary
+deleted_ordinary (key ∷ rest) = and_then (noreply rest) _ (λ quiet. key_ordinary key _)
+
+counted_ordinary : (asked : List ℕ → ℕ → Bool → Request) (arguments : List (List ℕ))
+    → IsOrdinary (unwrap_or (parsed_counted asked arguments) bad_line)
+counted_ordinary asked [] = bad_line_ordinary
+counted_ordinary asked (key ∷ []) = bad_line_ordinary
+counted_ordinary asked (key ∷ amount ∷ rest) =
     and_then (number_of number_limit amount) _ (λ n. and_then (noreply rest) _ (λ quiet. key_ordinary key _))
-form_ordinary (Counted command) _ = bad_line_ordinary
-form_ordinary Touched (key ∷ until ∷ rest) =
-    and_then (expiry until) _ (λ e. and_then (noreply rest) _ (λ quiet. key_ordinary key _))
-form_ordinary Touched _ = bad_line_ordinary
-form_ordinary (Alone command) [] = tt
-form_ordinary (Alone command) (word ∷ words) = bad_line_ordinary
-form_ordinary (Followed second command) (word ∷ []) =
-    either (bytes_eq word second) (Asks command) (Refused UnknownCommand Next) tt unknown_ordinary
-form_ordinary (Followed second command) _ = unknown_ordinary
 
-known_ordinary : (form : Option Form) (arguments : List (List ℕ)) → IsOrdinary (parsed_known form arguments)
-known_ordinary None arguments = unknown_ordinary
-known_ordinary (Some form) arguments = form_ordinary form arguments
+touched_ordinary : (arguments : List (List ℕ)) → IsOrdinary (unwrap_or (parsed_touched arguments) bad_line)
+touched_ordinary [] = bad_line_ordinary
+touched_ordinary (key ∷ []) = bad_line_ordinary
+touched_ordinary (key ∷ until ∷ rest) =
+    and_then (expiry_of until) _ (λ e. and_then (noreply rest) _ (λ quiet. key_ordinary key _))
+
+alone_ordinary : (asked : Request) (arguments : List (List ℕ)) → IsOrdinary (parsed_alone asked arguments)
+alone_ordinary asked [] = tt
+alone_ordinary asked (word ∷ words) = bad_line_ordinary
+
+stats_ordinary : (arguments : List (List ℕ)) → IsOrdinary (parsed_stats arguments)
+stats_ordinary [] = unknown_ordinary
+stats_ordinary (word ∷ []) =
+    either (bytes_eq word (codes "tko")) (Asks request.StatsTko) (Refused UnknownCommand Next) tt unknown_ordinary
+stats_ordinary (word ∷ other ∷ words) = unknown_ordinary
+
+-- a property of both cases of a test
+pick : {A : Type 0} (P : A → Type 0) (b : Bool) (one other : A) → P one → P other → P (cond b one other)
+pick P b one other first second = elim b as (λ v. P (cond v one other)) [ true ↦ first | false ↦ second ]
+
+word_ordinary : (word : List ℕ) (arguments : List (List ℕ)) → IsOrdinary (parsed_known (form_of word) arguments)
+unfolding form_of
+word_ordinary word arguments =
+    pick (λ at. IsOrdinary (parsed_known at arguments)) (bytes_eq word (codes "get")) _ _ (keys_ordinary request.Get arguments) (
+    pick (λ at. IsOrdinary (parsed_known at arguments)) (bytes_eq word (codes "gets")) _ _ (keys_ordinary request.Gets arguments) (
+    pick (λ at. IsOrdinary (parsed_known at arguments)) (bytes_eq word (codes "set")) _ _ (stored_ordinary Set arguments) (
+    pick (λ at. IsOrdinary (parsed_known at arguments)) (bytes_eq word (codes "add")) _ _ (stored_ordinary Add arguments) (
+    pick (λ at. IsOrdinary (parsed_known at arguments)) (bytes_eq word (codes "replace")) _ _ (stored_ordinary Replace arguments) (
+    pick (λ at. IsOrdinary (parsed_known at arguments)) (bytes_eq word (codes "append")) _ _ (stored_ordinary Append arguments) (
+    pick (λ at. IsOrdinary (parsed_known at arguments)) (bytes_eq word (codes "prepend")) _ _ (stored_ordinary Prepend arguments) (
+    pick (λ at. IsOrdinary (parsed_known at arguments)) (bytes_eq word (codes "cas")) _ _ (compared_ordinary arguments) (
+    pick (λ at. IsOrdinary (parsed_known at arguments)) (bytes_eq word (codes "delete")) _ _ (deleted_ordinary arguments) (
+    pick (λ at. IsOrdinary (parsed_known at arguments)) (bytes_eq word (codes "incr")) _ _ (counted_ordinary request.Incr arguments) (
+    pick (λ at. IsOrdinary (parsed_known at arguments)) (bytes_eq word (codes "decr")) _ _ (counted_ordinary request.Decr arguments) (
+    pick (λ at. IsOrdinary (parsed_known at arguments)) (bytes_eq word (codes "touch")) _ _ (touched_ordinary arguments) (
+    pick (λ at. IsOrdinary (parsed_known at arguments)) (bytes_eq word (codes "version")) _ _ (alone_ordinary request.Version arguments) (
+    pick (λ at. IsOrdinary (parsed_known at arguments)) (bytes_eq word (codes "quit")) _ _ (alone_ordinary request.Quit arguments) (
+    pick (λ at. IsOrdinary (parsed_known at arguments)) (bytes_eq word (codes "stats")) _ _ (stats_ordinary arguments) (
+    unknown_ordinary)))))))))))))))
 
 words_ordinary : (words : List (List ℕ)) → IsOrdinary (parsed_words words)
 words_ordinary [] = unknown_ordinary
-words_ordinary (word ∷ arguments) = known_ordinary (form_of word) arguments
+words_ordinary (word ∷ arguments) = word_ordinary word arguments
 
 wrong_end_goes_on : (end : List ℕ) (after : After) → IsWrongEnd end after → after ≢ Never
 wrong_end_goes_on (b ∷ []) after (wrong, is) = λ never.
@@ -163,7 +194,7 @@ each_goes_on : (from : Reading) (items : List Item) (to : Reading) → from.afte
     → GoesOn items → to.after ≢ Never
 each_goes_on from [] to reads is goes = λ never. reads (sym (ap (λ (r : Reading). r.after) is) ∙ never)
 each_goes_on from (told ∷ items) to reads (mid, tells, each) goes =
-    each_goes_on mid items to (goes_on_reading from told mid tells (All-head (λ item. item ≢ line_too_long) told items goes)) each (All-tail (λ item. item ≢ line_too_long) told items goes)
+    each_goes_on mid items to (goes_on_reading from told mid tells (All-head Continues told items goes).read) each (All-tail Continues told items goes)
 
 -- reading goes on after items of which none is a line too long
 pub reading_goes_on : (bytes : List ℕ) (items : List Item) (to : Reading) → Gives (fed start bytes) items to

@@ -17,3 +17,8 @@ both_ok (Err e) a p f = tt
 pub either_way : {T E Q : Type 0} {P : T → Type 0} (r : Result T E) → IfOk r P → OnErr r Q → ((x : T) → P x → Q) → Q
 either_way (Ok x) p q f = f x p
 either_way (Err e) p q f = q
+
+-- what follows from a fact at an Ok
+pub on_ok : {T E A B : Type 0} (r : Result T E) → OnOk r A → (A → B) → OnOk r B
+on_ok (Ok x) a f = f a
+on_ok (Err e) a f = tt

@@ -1,20 +1,20 @@
 -- Laws of a whole session: nothing yet, one delivery more, one piece more, the end.
 use Rattle.std.proofs.Common.{◌≡◌, ◌≢◌, ℕ, ◌+◌, ◌<◌, ◌^◌, List, [], ◌++◌, length, refl, sym, ap, subst, ◌∙◌, append_assoc, append-nil, length-append, arith, add-zero}
 use Rattle.tko_model.proofs.RecordLemmas.{gains_append, gains_none}
-use Rattle.tko_text.specs.Reading.{Reading, Reads, Gives, NeedsMore, Never, fed, start}
+use Rattle.tko_text.specs.Reading.{Gives, Never, start}
 use Rattle.tko_text.proofs.CuttingLemmas.{fed-fed}
 use Rattle.tko_text.proofs.GivesLemmas.{Gives-append, Gives-fed, Gives-none}
 use Rattle.tko_text.proofs.ReadingLemmas.{NeedsMore-failed}
 use Rattle.tko_session.specs.declared.session.Progress.{Progress}
-use Rattle.tko_session.specs.declared.session.Progress.TheVariants.{More, NeedsInput, LineTooLong}
+use Rattle.tko_session.specs.declared.session.Progress.TheVariants.{More, NeedsInput, LineTooLong, Quit}
 use Rattle.tko_session.specs.declared.session.Report.{Report}
-use Rattle.tko_session.specs.Io.{Writes, WritesPart, capped}
+use Rattle.tko_session.specs.Io.{Writes, capped}
 use Rattle.tko_session.specs.Turns.{Turn}
-use Rattle.tko_session.specs.SessionState.{SessionState, Turned, Answered, AnsweredPart, ProgressIs, fed_state, fresh, items_of, text_of}
-use Rattle.tko_session.specs.Served.{CameTooLong, Delivered, DeliveredPart, Served, ServedSoFar, StoppedByLine, StoppedByRead, StoppedByWrite, StoppedEarly, Transcript}
+use Rattle.tko_session.specs.SessionState.{SessionState, Answered, AnsweredPart, fed_state, fresh, items_of, text_of}
+use Rattle.tko_session.specs.Served.{CameTooLong, Delivered, DeliveredPart, Served, ServedSoFar, StoppedByLine, StoppedByRead, StoppedByWrite, StoppedEarly, Transcript, at_end_of_input, at_quit}
 use Rattle.tko_session.proofs.NeverLemmas.{reading_goes_on}
 use Rattle.tko_session.proofs.TextFacts.{open_start}
-use Rattle.tko_session.proofs.TurnLemmas.{capped-more, goes_on-none, items-append, text-append, turned_append, turned_none, turns_progress}
+use Rattle.tko_session.proofs.TurnLemmas.{capped-more, goes_on-none, in_session, in_session_of, items-append, text-append, turned_append, turned_none, turns_in_session, turns_progress}
 
 module _ {O : Type 0} {takes : O → List ℕ → O → Type 0} where
   -- two writes are one
@@ -55,6 +55,7 @@ module _ {W : Type 0} {step : W → Turn → W → Type 0} {sent : W → ℕ →
     reached = after;
     gives = answered.turned.gives;
     gains = answered.turned.gains;
+    in_session = in_session progress (items_of answered.turns) new.reading answered.progress_is;
     outbox = answered.outbox;
   }
 
@@ -68,6 +69,7 @@ module _ {O W : Type 0} {takes : O → List ℕ → O → Type 0} {step : W → 
     reached = world;
     gives = Gives-none at.reading;
     gains = gains_none world;
+    in_session = in_session_of [] goes_on-none;
     front = [];
     unwritten = [];
     text = refl;
@@ -85,6 +87,7 @@ module _ {O W : Type 0} {takes : O → List ℕ → O → Type 0} {step : W → 
     reached = part.reached;
     gives = part.gives;
     gains = part.gains;
+    in_session = part.in_session;
     front = front;
     unwritten = unwritten;
     text = sym (part.outbox ∙ ap (λ xs. xs ++ text_of part.turns) empty) ∙ split;
@@ -164,6 +167,7 @@ module _ {O W : Type 0} {takes : O → List ℕ → O → Type 0} {step : W → 
     reached = after;
     gives = delivered.turned.gives;
     gains = delivered.turned.gains;
+    in_session = in_session progress (items_of delivered.turns) new.reading delivered.progress_is;
     front = text_of delivered.turns;
     unwritten = [];
     text = sym (append-nil (text_of delivered.turns));
@@ -183,6 +187,7 @@ module _ {O W : Type 0} {takes : O → List ℕ → O → Type 0} {step : W → 
         let gives = Gives-append _ _ _ _ _ first.turned.gives back.gives in
         subst (λ items. Gives old.reading items back.left) (sym (items-append first.turns back.turns)) gives;
     gains = gains_append first.turned.gains back.gains;
+    in_session = turns_in_session first.turns back.turns first.progress_is back.in_session;
     front = text_of first.turns ++ back.front;
     unwritten = back.unwritten;
     text =
@@ -236,14 +241,14 @@ module _ {I O W : Type 0} {gives : I → List ℕ → I → Type 0} {takes : O �
   }
 
   abbrev transcript : {progress : Progress} {reader reader' : I} {writer writer' : O} {written : ℕ} {parts parts' : W} {at : SessionState}
-      → ServedSoFar gives takes step sent progress reader writer parts at reader' writer' written parts' → NeedsMore at.reading
+      → ServedSoFar gives takes step sent progress reader writer parts at reader' writer' written parts'
       → Transcript gives takes step sent reader writer parts reader' writer' parts'
-  transcript {at} so_far none = record {
+  transcript {at} so_far = record {
     bytes = so_far.bytes;
     turns = so_far.delivered.turns;
     left = at.reading;
     input = so_far.input;
-    reads = record { gives = so_far.delivered.turned.gives; open_end = none };
+    items = so_far.delivered.turned.gives;
     gains = so_far.delivered.turned.gains;
     sends = so_far.delivered.turned.sends;
     output = so_far.delivered.output.output;
@@ -255,11 +260,20 @@ module _ {I O W : Type 0} {gives : I → List ℕ → I → Type 0} {takes : O �
       → report.requests ≡ at.requests → report.unfinished ≡ length at.reading.unread → report.requests < 2 ^ 64
       → Served gives takes step sent is_ended reader writer parts report reader' writer' parts'
   served is_ended report so_far ended requests unfinished fits = record {
-    transcript = transcript so_far so_far.delivered.progress_is.1;
-    ended = ended;
-    goes_on = so_far.delivered.progress_is.0;
+    transcript = transcript so_far;
+    ending = at_end_of_input ended so_far.delivered.progress_is.0 so_far.delivered.progress_is.1 unfinished;
     requests = omega (arith, so_far.delivered.turned.requests);
-    unfinished = unfinished;
+  }
+
+  -- `quit` ended the session
+  pub served_quit : (is_ended : I → Type 0) {reader reader' : I} {writer writer' : O} {written : ℕ} {parts parts' : W} {at : SessionState} (report : Report)
+      → ServedSoFar gives takes step sent Quit reader writer parts at reader' writer' written parts'
+      → report.requests ≡ at.requests → report.unfinished ≡ 0 → report.requests < 2 ^ 64
+      → Served gives takes step sent is_ended reader writer parts report reader' writer' parts'
+  served_quit is_ended report so_far requests unfinished fits = record {
+    transcript = transcript so_far;
+    ending = at_quit so_far.delivered.progress_is unfinished;
+    requests = omega (arith, so_far.delivered.turned.requests);
   }
 
   -- the reader failed
@@ -267,8 +281,9 @@ module _ {I O W : Type 0} {gives : I → List ℕ → I → Type 0} {takes : O �
       → ServedSoFar gives takes step sent NeedsInput reader writer parts at reader' writer' written parts'
       → StoppedByRead gives takes step sent reader writer parts reader' writer' parts'
   stopped_by_read so_far = record {
-    transcript = transcript so_far so_far.delivered.progress_is.1;
+    transcript = transcript so_far;
     goes_on = so_far.delivered.progress_is.0;
+    open_end = so_far.delivered.progress_is.1;
   }
 
   -- a line too long came
@@ -276,8 +291,9 @@ module _ {I O W : Type 0} {gives : I → List ℕ → I → Type 0} {takes : O �
       → ServedSoFar gives takes step sent LineTooLong reader writer parts at reader' writer' written parts'
       → StoppedByLine gives takes step sent reader writer parts reader' writer' parts'
   stopped_by_line {at} so_far = record {
-    transcript = transcript so_far (NeedsMore-failed at.reading so_far.delivered.progress_is.1);
+    transcript = transcript so_far;
     ends = so_far.delivered.progress_is.0;
+    open_end = NeedsMore-failed at.reading so_far.delivered.progress_is.1;
   }
 
   pub came_too_long : {reader reader' : I} {writer writer' : O} {written : ℕ} {parts parts' : W} {at : SessionState}
@@ -288,7 +304,7 @@ module _ {I O W : Type 0} {gives : I → List ℕ → I → Type 0} {takes : O �
         items = items_of stopped.transcript.turns;
         left = stopped.transcript.left;
         input = stopped.transcript.input;
-        reads = stopped.transcript.reads;
+        reads = record { gives = stopped.transcript.items; open_end = stopped.open_end };
         ends = stopped.ends;
       }
 
@@ -310,6 +326,7 @@ module _ {I O W : Type 0} {gives : I → List ℕ → I → Type 0} {takes : O �
           input = goes_in reader reader' reader'' so_far.bytes piece so_far.input read;
           items = subst (λ from. Gives from (items_of all.turns) all.left) (fed-fed start so_far.bytes piece) all.gives;
           gains = all.gains;
+          in_session = all.in_session;
           front = all.front;
           unwritten = all.unwritten;
           text = all.text;
@@ -329,6 +346,7 @@ module _ {I O W : Type 0} {gives : I → List ℕ → I → Type 0} {takes : O �
     input = nothing_in;
     items = Gives-none start;
     gains = gains_none parts;
+    in_session = in_session_of [] goes_on-none;
     front = [];
     unwritten = [];
     text = refl;

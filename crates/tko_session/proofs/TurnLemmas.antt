@@ -1,5 +1,5 @@
 -- Laws of turns: none, one, these and then those.
-use Rattle.std.proofs.Common.{◌≡◌, ◌≢◌, ℕ, ◌+◌, ◌<◌, length, length-append, List, [], ◌∷◌, ◌++◌, refl, sym, ap, subst, ◌∙◌, append_assoc, append-nil, arith, All, count_by, sum_by, add-zero, cond}
+use Rattle.std.proofs.Common.{◌≡◌, ◌≢◌, ℕ, ◌+◌, ◌<◌, length, length-append, List, [], ◌∷◌, ◌++◌, refl, sym, ap, subst, ◌∙◌, append_assoc, append-nil, arith, count_by, sum_by, add-zero, cond}
 use Rattle.std.proofs.lemmas.Grind.{flat_map-append}
 use Rattle.std.proofs.lemmas.List.{map-append}
 use Rattle.std.proofs.lemmas.List.Sums.{sum_by-append}
@@ -11,18 +11,20 @@ use Rattle.tko_text.specs.declared.item.Item.TheVariants as item
 use Rattle.tko_text.specs.declared.fault.TextFault.{TextFault}
 use Rattle.tko_text.specs.declared.fault.TextFault.TheVariants as fault
 use Rattle.tko_text.specs.declared.request.Request.{Request}
+use Rattle.tko_text.specs.declared.request.Request.TheVariants as asked
 use Rattle.tko_text.specs.Requests.{fault_text}
 use Rattle.tko_links.specs.Links.{LinksItem}
 use Rattle.tko_session.specs.declared.parts.Parts.{Parts}
 use Rattle.tko_session.specs.TrailEvents.{TrailEvent}
 use Rattle.tko_text.specs.Reading.{Reading, Gives, NeedsMore, Emits}
 use Rattle.tko_route.specs.Trail.{sends_in}
-use Rattle.tko_session.specs.Turns.{Turn, IsTurn, reply_text}
+use Rattle.tko_session.specs.Replies.{trails_in}
+use Rattle.tko_session.specs.Turns.{Turn, IsTurn}
 use Rattle.tko_session.specs.declared.session.Progress.{Progress}
 use Rattle.tko_session.specs.declared.session.Progress.TheVariants.{More, NeedsInput}
 use Rattle.tko_session.specs.declared.session.Progress.TheVariants as progress
 use Rattle.tko_session.specs.Io.{capped}
-use Rattle.tko_session.specs.SessionState.{SessionState, Turned, Answered, AnsweredPart, Replied, EndsTooLong, GoesOn, ProgressIs, BeginBelowBound, progress_after, reply_bound, sent_by, is_request, items_of, text_of, trails_of, requests_in, sends_to, line_too_long}
+use Rattle.tko_session.specs.SessionState.{SessionState, Turned, Answered, AnsweredPart, Replied, Continues, EndsWith, GoesOn, InSession, ProgressIs, BeginBelowBound, progress_after, progress_of, reply_bound, sent_by, is_request, items_of, text_of, trails_of, requests_in, sends_to, line_too_long, quit}
 use Rattle.tko_text.proofs.GivesLemmas.{Gives-none, Gives-one, Gives-append}
 use Rattle.tko_session.proofs.NeverLemmas.{ends_reading}
 
@@ -35,7 +37,7 @@ text-append turns more = flat_map-append (λ turn. turn.text) turns more
 pub sends-append : (server : ℕ) (turns more : List Turn)
     → sends_to server (trails_of (turns ++ more)) ≡ sends_to server (trails_of turns) + sends_to server (trails_of more)
 sends-append server turns more =
-    ap (sum_by (sends_in server)) (flat_map-append (λ turn. turn.trails) turns more)
+    ap (sum_by (sends_in server)) (flat_map-append (λ turn. trails_in turn.routed) turns more)
     ∙ sum_by-append (sends_in server) (trails_of turns) (trails_of more)
 
 pub requests-append : (turns more : List Turn)
@@ -57,36 +59,89 @@ begin-append waiting (turn ∷ turns) more (below, front) back =
     (below, begin-append (waiting + length turn.text) turns more front (subst (λ n. BeginBelowBound n more) sum back))
 
 goes_on-append : (items more : List Item) → GoesOn items → GoesOn more → GoesOn (items ++ more)
-goes_on-append items more front back = All-append (λ item. item ≢ line_too_long) items more front back
+goes_on-append items more front back = All-append Continues items more front back
+
+-- the last of the later items is the last of all
+ends-append : (last : Item) (items more : List Item) → GoesOn items → EndsWith last more → EndsWith last (items ++ more)
+ends-append last items more front ends = record {
+  before = items ++ ends.before;
+  parts = ap (λ xs. items ++ xs) ends.parts ∙ sym (append_assoc items ends.before (last ∷ []));
+  goes_on = goes_on-append items ends.before front ends.goes_on;
+}
 
 -- what the later items say of progress, all say
 pub progress-append : (progress : Progress) (items more : List Item) (reading : Reading) → GoesOn items
     → ProgressIs progress more reading → ProgressIs progress (items ++ more) reading
 progress-append progress.More items more reading front back = goes_on-append items more front back
 progress-append progress.NeedsInput items more reading front (back, none) = (goes_on-append items more front back, none)
-progress-append progress.LineTooLong items more reading front (ends, never) = (
-  record {
-    before = items ++ ends.before;
-    parts = ap (λ xs. items ++ xs) ends.parts ∙ sym (append_assoc items ends.before (line_too_long ∷ []));
-    goes_on = goes_on-append items ends.before front ends.goes_on;
-  },
-  never,
-)
+progress-append progress.LineTooLong items more reading front (ends, never) = (ends-append line_too_long items more front ends, never)
+progress-append progress.Quit items more reading front ends = ends-append quit items more front ends
 
 -- no item, and the session may go on
 pub goes_on-none : GoesOn []
-goes_on-none = All-nil (λ item. item ≢ line_too_long)
+goes_on-none = All-nil Continues
 
 -- the progress after the reply to a fault
 fault_progress : (fault : TextFault) (from to : Reading) → Emits from (item.Fault fault) to
     → ProgressIs (progress_after fault) (item.Fault fault ∷ []) to
 fault_progress fault.LineTooLong from to tells =
     (record { before = []; parts = refl; goes_on = goes_on-none }, ends_reading from line_too_long to tells refl)
-fault_progress fault.UnknownCommand from to tells = All-cons _ _ [] (λ same. cc) goes_on-none
-fault_progress fault.BadLine from to tells = All-cons _ _ [] (λ same. cc) goes_on-none
-fault_progress fault.BadKey from to tells = All-cons _ _ [] (λ same. cc) goes_on-none
-fault_progress fault.BadChunk from to tells = All-cons _ _ [] (λ same. cc) goes_on-none
-fault_progress fault.TooLarge from to tells = All-cons _ _ [] (λ same. cc) goes_on-none
+fault_progress fault.UnknownCommand from to tells = All-cons Continues _ [] (record { read = λ same. cc; asked = λ same. cc }) goes_on-none
+fault_progress fault.BadLine from to tells = All-cons Continues _ [] (record { read = λ same. cc; asked = λ same. cc }) goes_on-none
+fault_progress fault.BadKey from to tells = All-cons Continues _ [] (record { read = λ same. cc; asked = λ same. cc }) goes_on-none
+fault_progress fault.BadChunk from to tells = All-cons Continues _ [] (record { read = λ same. cc; asked = λ same. cc }) goes_on-none
+fault_progress fault.TooLarge from to tells = All-cons Continues _ [] (record { read = λ same. cc; asked = λ same. cc }) goes_on-none
+
+-- one request is one item
+request-of : (it other : Request) → item.Request it ≡ item.Request other → it ≡ other
+request-of it other same = cc
+
+pub in_session_of : (items : List Item) → GoesOn items → InSession items
+in_session_of items goes = record { before = items; last = []; parts = sym (append-nil items); goes_on = goes; one = omega arith }
+
+in_session_ended : (last : Item) (items : List Item) → EndsWith last items → InSession items
+in_session_ended last items ends = record { before = ends.before; last = last ∷ []; parts = ends.parts; goes_on = ends.goes_on; one = omega arith }
+
+-- the session goes on after this request
+goes_on-one : (it : Request) → it ≢ asked.Quit → GoesOn (item.Request it ∷ [])
+goes_on-one it other =
+    All-cons Continues (item.Request it) [] (record { read = λ same. cc; asked = λ same. other (request-of it asked.Quit same) })
+    goes_on-none
+
+-- the progress after the reply to a request
+pub request_progress : (it : Request) (to : Reading) → ProgressIs (progress_of it) (item.Request it ∷ []) to
+request_progress asked.Quit to = record { before = []; parts = refl; goes_on = goes_on-none }
+request_progress (asked.Get keys) to = goes_on-one _ (λ same. cc)
+request_progress (asked.Gets keys) to = goes_on-one _ (λ same. cc)
+request_progress (asked.Store verb entry noreply) to = goes_on-one _ (λ same. cc)
+request_progress (asked.Cas entry unique noreply) to = goes_on-one _ (λ same. cc)
+request_progress (asked.Delete key noreply) to = goes_on-one _ (λ same. cc)
+request_progress (asked.Incr key amount noreply) to = goes_on-one _ (λ same. cc)
+request_progress (asked.Decr key amount noreply) to = goes_on-one _ (λ same. cc)
+request_progress (asked.Touch key expiry noreply) to = goes_on-one _ (λ same. cc)
+request_progress asked.Version to = goes_on-one _ (λ same. cc)
+request_progress asked.StatsTko to = goes_on-one _ (λ same. cc)
+
+-- items of a session that goes on, or that the last one ends
+pub in_session : (at : Progress) (items : List Item) (to : Reading) → ProgressIs at items to → InSession items
+in_session progress.More items to goes = in_session_of items goes
+in_session progress.NeedsInput items to (goes, none) = in_session_of items goes
+in_session progress.LineTooLong items to (ends, never) = in_session_ended line_too_long items ends
+in_session progress.Quit items to ends = in_session_ended quit items ends
+
+pub in_session-append : (items more : List Item) → GoesOn items → InSession more → InSession (items ++ more)
+in_session-append items more front back = record {
+  before = items ++ back.before;
+  last = back.last;
+  parts = ap (λ xs. items ++ xs) back.parts ∙ sym (append_assoc items back.before back.last);
+  goes_on = goes_on-append items back.before front back.goes_on;
+  one = back.one;
+}
+
+pub turns_in_session : (turns more : List Turn) → GoesOn (items_of turns) → InSession (items_of more)
+    → InSession (items_of (turns ++ more))
+turns_in_session turns more front back =
+    subst InSession (sym (items-append turns more)) (in_session-append (items_of turns) (items_of more) front back)
 
 -- progress of turns that come after others
 pub turns_progress : (progress : Progress) (turns more : List Turn) (reading : Reading) → GoesOn (items_of turns)
@@ -111,6 +166,7 @@ module _ {W : Type 0} {step : W → Turn → W → Type 0} where
     reached = world;
     gives = Gives-none old.reading;
     gains = gains_none world;
+    in_session = in_session_of [] goes_on-none;
     outbox = same ∙ sym (append-nil old.outbox);
   }
 
@@ -182,6 +238,7 @@ module _ {W : Type 0} {step : W → Turn → W → Type 0} {sent : W → ℕ →
         let gives = Gives-append _ _ _ _ _ front.turned.gives back.gives in
         subst (λ items. Gives old.reading items back.left) (sym (items-append front.turns back.turns)) gives;
     gains = gains_append front.turned.gains back.gains;
+    in_session = turns_in_session front.turns back.turns front.progress_is back.in_session;
     outbox = waiting-append old.outbox mid.outbox new.outbox front.turns back.turns front.outbox back.outbox;
   }
 
@@ -193,7 +250,7 @@ module _ {H L T : Type 0} {steps : H → HealthItem → H → Type 0} {exchanges
       → length old.outbox < reply_bound
       → Answered (IsTurn steps exchanges sent records) (sent_by sent) progress old world new world
   answered_fault old mid new world fault progress told same e is room = record {
-    turns = (record { item = item.Fault fault; trails = []; text = fault_text fault }) ∷ [];
+    turns = (record { item = item.Fault fault; routed = []; text = fault_text fault }) ∷ [];
     turned = record {
       gives = subst (λ to. Gives old.reading (item.Fault fault ∷ []) to) (sym (ap (λ s. s.reading) e)) (Gives-one _ _ _ told);
       gains = gains_one (refl, refl, refl);
@@ -211,21 +268,25 @@ module _ {H L T : Type 0} {steps : H → HealthItem → H → Type 0} {exchanges
   }
 
   -- a request that was replied to is a turn
-  pub answered_request : (old mid new : SessionState) (before after : Parts H L T) (request : Request)
-      → Emits old.reading (item.Request request) mid.reading → mid ≡ record old { reading = mid.reading }
-      → Replied steps exchanges sent records mid before request new after → length old.outbox < reply_bound
-      → Answered (IsTurn steps exchanges sent records) (sent_by sent) More old before new after
-  answered_request old mid new before after request told same replied room = record {
-    turns = (record { item = item.Request request; trails = replied.trail ∷ []; text = reply_text replied.trail }) ∷ [];
+  pub answered_request : (old mid new : SessionState) (before after : Parts H L T) (it : Request) (progress : Progress)
+      → Emits old.reading (item.Request it) mid.reading → mid ≡ record old { reading = mid.reading }
+      → Replied steps exchanges sent records mid before it new after → progress ≡ progress_of it
+      → length old.outbox < reply_bound
+      → Answered (IsTurn steps exchanges sent records) (sent_by sent) progress old before new after
+  answered_request old mid new before after it progress told same replied is room = record {
+    turns = (record { item = item.Request it; routed = replied.routed; text = replied.text }) ∷ [];
     turned = record {
-      gives = subst (λ to. Gives old.reading (item.Request request ∷ []) to) (sym replied.reading) (Gives-one _ _ _ told);
-      gains = gains_one (replied.trail, replied.routed, refl, refl);
-      sends = λ server. omega (arith, replied.sends server);
+      gives = subst (λ to. Gives old.reading (item.Request it ∷ []) to) (sym replied.reading) (Gives-one _ _ _ told);
+      gains = gains_one replied.becomes;
+      sends = λ server.
+          replied.sends server
+          ∙ ap (λ trails. sent before.links server + sends_to server trails) (sym (append-nil (trails_in replied.routed)));
       requests = replied.requests ∙ ap (λ s. capped (s.requests + 1)) same;
     };
     outbox =
-        replied.outbox ∙ ap (λ s. s.outbox ++ reply_text replied.trail) same
-        ∙ ap (λ text. old.outbox ++ text) (sym (append-nil (reply_text replied.trail)));
+        replied.outbox ∙ ap (λ s. s.outbox ++ replied.text) same
+        ∙ ap (λ text. old.outbox ++ text) (sym (append-nil replied.text));
     begin = (room, tt);
-    progress_is = All-cons (λ it. it ≢ line_too_long) (item.Request request) [] (λ same. cc) goes_on-none;
+    progress_is =
+        subst (λ p. ProgressIs p (item.Request it ∷ []) new.reading) (sym is) (request_progress it new.reading);
   }

@@ -1,7 +1,10 @@
+pub mod Answering
 pub mod Faults
 pub mod Io
+pub mod Replies
 pub mod Served
 pub mod SessionState
+pub mod Status
 pub mod Tape
 pub mod TrailEvents
 pub mod Turns

@@ -2,12 +2,20 @@
 use Rattle.std.specs.Prelude.{◌≡◌, ℕ, ◌+◌, List, [], ◌++◌, length}
 use Rattle.tko_model.specs.Records.{Gains}
 use Rattle.tko_text.specs.declared.item.Item.{Item}
-use Rattle.tko_text.specs.Reading.{Reading, Reads, Gives, start, fed}
+use Rattle.tko_text.specs.Reading.{Reading, Reads, Gives, NeedsMore, start, fed}
 use Rattle.tko_session.specs.declared.session.Progress.{Progress}
 use Rattle.tko_session.specs.declared.session.Report.{Report}
 use Rattle.tko_session.specs.Io.{Writes, capped}
 use Rattle.tko_session.specs.Turns.{Turn}
-use Rattle.tko_session.specs.SessionState.{SessionState, Turned, EndsTooLong, GoesOn, ProgressIs, fresh, fed_state, items_of, text_of, trails_of, requests_in, sends_to}
+use Rattle.tko_session.specs.SessionState.{SessionState, Turned, EndsWith, GoesOn, InSession, ProgressIs, fresh, fed_state, line_too_long, quit, items_of, text_of, trails_of, requests_in, sends_to}
+
+-- how a session comes to its end without a fault, after these items, and how many bytes of an item
+-- are then unfinished
+pub data Ending (is_ended : Type 0) (items : List Item) (left : Reading) (unfinished : ℕ)
+    : Type 0 where
+  at_end_of_input : is_ended → GoesOn items → NeedsMore left → unfinished ≡ length left.unread
+      → Ending is_ended items left unfinished
+  at_quit : EndsWith quit items → unfinished ≡ 0 → Ending is_ended items left unfinished
 
 module _ {I O W : Type 0} (gives : I → List ℕ → I → Type 0) (takes : O → List ℕ → O → Type 0)
     (step : W → Turn → W → Type 0) (sent : W → ℕ → ℕ) where
@@ -18,32 +26,33 @@ module _ {I O W : Type 0} (gives : I → List ℕ → I → Type 0) (takes : O �
     pub turns : List Turn
     pub left : Reading
     pub input : gives reader bytes reader'
-    pub reads : Reads bytes (items_of turns) left
+    pub items : Gives (fed start bytes) (items_of turns) left
     pub gains : Gains step parts turns parts'
     pub sends : (server : ℕ)
         → sent parts' server ≡ sent parts server + sends_to server (trails_of turns)
     pub output : takes writer (text_of turns) writer'
 
-  -- the input was read to its end, and everything in it was answered
+  -- everything was answered up to the end of the input, or to the `quit` that ended the session
   pub record Served (is_ended : I → Type 0) (reader : I) (writer : O) (parts : W) (report : Report)
       (reader' : I) (writer' : O) (parts' : W) : Type 0 where
     pub transcript : Transcript reader writer parts reader' writer' parts'
-    pub ended : is_ended reader'
-    pub goes_on : GoesOn (items_of transcript.turns)
+    pub ending : Ending (is_ended reader') (items_of transcript.turns) transcript.left
+        report.unfinished
     pub requests : report.requests ≡ capped (requests_in (items_of transcript.turns))
-    pub unfinished : report.unfinished ≡ length transcript.left.unread
 
   -- the reader failed, and everything that was read was answered
   pub record StoppedByRead (reader : I) (writer : O) (parts : W)
       (reader' : I) (writer' : O) (parts' : W) : Type 0 where
     pub transcript : Transcript reader writer parts reader' writer' parts'
     pub goes_on : GoesOn (items_of transcript.turns)
+    pub open_end : NeedsMore transcript.left
 
   -- the last item that was read is a line too long, and everything was answered, that line too
   pub record StoppedByLine (reader : I) (writer : O) (parts : W)
       (reader' : I) (writer' : O) (parts' : W) : Type 0 where
     pub transcript : Transcript reader writer parts reader' writer' parts'
-    pub ends : EndsTooLong (items_of transcript.turns)
+    pub ends : EndsWith line_too_long (items_of transcript.turns)
+    pub open_end : NeedsMore transcript.left
 
   -- the first items that were read were answered, and the front of their text was written; what was
   -- done for the item behind them is not said
@@ -56,6 +65,7 @@ module _ {I O W : Type 0} (gives : I → List ℕ → I → Type 0) (takes : O �
     pub input : gives reader bytes reader'
     pub items : Gives (fed start bytes) (items_of turns) left
     pub gains : Gains step parts turns reached
+    pub in_session : InSession (items_of turns)
     pub front : List ℕ
     pub unwritten : List ℕ
     pub text : text_of turns ≡ front ++ unwritten
@@ -75,7 +85,7 @@ pub record CameTooLong {I : Type 0} (gives : I → List ℕ → I → Type 0)
   pub left : Reading
   pub input : gives reader bytes reader'
   pub reads : Reads bytes items left
-  pub ends : EndsTooLong items
+  pub ends : EndsWith line_too_long items
 
 -- turns went from the one state to the other, and all their text was written and counted
 pub record Delivered {O W : Type 0} (takes : O → List ℕ → O → Type 0)
@@ -98,6 +108,7 @@ pub record DeliveredPart {O W : Type 0} (takes : O → List ℕ → O → Type 0
   pub reached : W
   pub gives : Gives old.reading (items_of turns) left
   pub gains : Gains step before turns reached
+  pub in_session : InSession (items_of turns)
   pub front : List ℕ
   pub unwritten : List ℕ
   pub text : text_of turns ≡ front ++ unwritten

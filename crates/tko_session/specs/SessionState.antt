@@ -1,11 +1,12 @@
 -- A session between two pieces, and the turns that lead from one state to another.
-use Rattle.std.specs.Prelude.{◌≡◌, ◌≢◌, ◌<◌, ℕ, ◌+◌, Bool, true, false, List, [], ◌∷◌, ◌++◌, All, length, map, count_by, sum_by, flat_map}
+use Rattle.std.specs.Prelude.{◌≡◌, ◌≢◌, ◌<◌, ◌≤◌, ℕ, ◌+◌, Bool, true, false, List, [], ◌∷◌, ◌++◌, All, length, map, count_by, sum_by, flat_map}
 use Rattle.tko_model.specs.Records.{Gains, HealthItem}
 use Rattle.tko_text.specs.declared.item.Item.{Item}
 use Rattle.tko_text.specs.declared.item.Item.TheVariants as item
 use Rattle.tko_text.specs.declared.fault.TextFault.{TextFault}
 use Rattle.tko_text.specs.declared.fault.TextFault.TheVariants.{LineTooLong}
 use Rattle.tko_text.specs.declared.request.Request.{Request}
+use Rattle.tko_text.specs.declared.request.Request.TheVariants.{Quit}
 use Rattle.tko_text.specs.Reading.{Reading, Never, Gives, NeedsMore, start, fed}
 use Rattle.tko_route.specs.declared.attempt.Attempt.{Attempt}
 use Rattle.tko_links.specs.Links.{LinksItem}
@@ -15,7 +16,8 @@ use Rattle.tko_session.specs.declared.session.Progress.{Progress}
 use Rattle.tko_session.specs.declared.session.Progress.TheVariants as progress
 use Rattle.tko_session.specs.Io.{capped}
 use Rattle.tko_session.specs.TrailEvents.{TrailEvent}
-use Rattle.tko_session.specs.Turns.{Turn, IsRouted, reply_text}
+use Rattle.tko_session.specs.Replies.{RoutedKey, trails_in}
+use Rattle.tko_session.specs.Turns.{Turn, Becomes}
 
 -- how far the input was read, the replies that wait to be written, and the number of requests
 pub record SessionState : Type 0 where
@@ -39,6 +41,10 @@ reply_bound = 65536
 abbrev pub line_too_long : Item
 line_too_long = item.Fault LineTooLong
 
+-- the request that ends a session
+abbrev pub quit : Item
+quit = item.Request Quit
+
 abbrev pub is_request : Item → Bool
 is_request (item.Request request) = true
 is_request (item.Fault fault) = false
@@ -51,7 +57,7 @@ abbrev pub text_of : List Turn → List ℕ
 text_of turns = flat_map (λ turn. turn.text) turns
 
 abbrev pub trails_of : List Turn → List (List Attempt)
-trails_of turns = flat_map (λ turn. turn.trails) turns
+trails_of turns = flat_map (λ turn. trails_in turn.routed) turns
 
 -- how many items are requests
 abbrev pub requests_in : List Item → ℕ
@@ -61,22 +67,37 @@ requests_in items = count_by is_request items
 abbrev pub sends_to : ℕ → List (List Attempt) → ℕ
 sends_to server trails = sum_by (sends_in server) trails
 
--- no item is a line that is too long
-abbrev pub GoesOn : List Item → Type 0
-GoesOn items = All (λ item. item ≢ line_too_long) items
+-- the session goes on after an item
+pub record Continues (it : Item) : Type 0 where
+  pub read : it ≢ line_too_long
+  pub asked : it ≢ quit
 
--- the last item is a line that is too long, and no other is
-pub record EndsTooLong (items : List Item) : Type 0 where
+-- the session goes on after each of these items
+abbrev pub GoesOn : List Item → Type 0
+GoesOn items = All Continues items
+
+-- the last item is this one, and the session goes on after each of the others
+pub record EndsWith (last : Item) (items : List Item) : Type 0 where
   pub before : List Item
-  pub parts : items ≡ before ++ line_too_long ∷ []
+  pub parts : items ≡ before ++ last ∷ []
   pub goes_on : GoesOn before
+
+-- no item comes after one that ends the session
+pub record InSession (items : List Item) : Type 0 where
+  pub before : List Item
+  pub last : List Item
+  pub parts : items ≡ before ++ last
+  pub goes_on : GoesOn before
+  pub one : length last ≤ 1
 
 -- how a session stands after these items: there may be more, all that are decided were answered, or
 -- the last one ended the session
 abbrev pub ProgressIs : Progress → List Item → Reading → Type 0
 ProgressIs progress.More items reading = GoesOn items
 ProgressIs progress.NeedsInput items reading = GoesOn items × NeedsMore reading
-ProgressIs progress.LineTooLong items reading = EndsTooLong items × (reading.after ≡ Never)
+ProgressIs progress.LineTooLong items reading =
+    EndsWith line_too_long items × (reading.after ≡ Never)
+ProgressIs progress.Quit items reading = EndsWith quit items
 
 -- how a session stands after the reply to a fault
 abbrev pub progress_after : TextFault → Progress
@@ -89,28 +110,39 @@ BeginBelowBound waiting [] = Unit {0}
 BeginBelowBound waiting (turn ∷ turns) =
     (waiting < reply_bound) × BeginBelowBound (waiting + length turn.text) turns
 
--- each target is a server of the health and of the links
+-- the progress after the reply to a request
+abbrev pub progress_of : Request → Progress
+progress_of Quit = progress.Quit
+progress_of _ = progress.More
+
+-- the progress after all items of a piece, where `quit` ended the session or did not
+abbrev pub pause_of : Bool → Progress
+pause_of true = progress.Quit
+pause_of false = progress.NeedsInput
+
+-- the health and the links have the servers of the configuration
 pub record Reaches {H L T : Type 0} (servers : H → ℕ) (linked : L → ℕ)
     (parts : Parts H L T) : Type 0 where
-  pub health : All (λ target. target < servers parts.health) parts.targets.items
-  pub links : All (λ target. target < linked parts.links) parts.targets.items
+  pub health : servers parts.health ≡ length parts.config.addresses
+  pub links : linked parts.links ≡ length parts.config.addresses
 
 -- how often each server was sent to
 abbrev pub sent_by : {H L T : Type 0} → (L → ℕ → ℕ) → Parts H L T → ℕ → ℕ
 sent_by sent parts server = sent parts.links server
 
--- a request was answered: one more, and the reply after its trail at the end of the outbox
+-- a request was recorded and answered: one more, and its reply at the end of the outbox
 pub record Replied {H L T : Type 0} (steps : H → HealthItem → H → Type 0)
     (exchanges : L → LinksItem → L → Type 0) (sent : L → ℕ → ℕ)
     (records : T → TrailEvent → T → Type 0)
     (old : SessionState) (before : Parts H L T) (request : Request)
     (new : SessionState) (after : Parts H L T) : Type 0 where
-  pub trail : List Attempt
-  pub routed : IsRouted steps exchanges sent records before request trail after
+  pub routed : List RoutedKey
+  pub text : List ℕ
+  pub becomes : Becomes steps exchanges sent records before (item.Request request) routed text after
   pub sends : (server : ℕ)
-      → sent after.links server ≡ sent before.links server + sends_in server trail
+      → sent after.links server ≡ sent before.links server + sends_to server (trails_in routed)
   pub reading : new.reading ≡ old.reading
-  pub outbox : new.outbox ≡ old.outbox ++ reply_text trail
+  pub outbox : new.outbox ≡ old.outbox ++ text
   pub requests : capped new.requests ≡ capped (old.requests + 1)
 
 module _ {W : Type 0} (step : W → Turn → W → Type 0) (sent : W → ℕ → ℕ) where
@@ -140,4 +172,5 @@ pub record AnsweredPart {W : Type 0} (step : W → Turn → W → Type 0)
   pub reached : W
   pub gives : Gives old.reading (items_of turns) left
   pub gains : Gains step before turns reached
+  pub in_session : InSession (items_of turns)
   pub outbox : new.outbox ≡ old.outbox ++ text_of turns

@@ -1,63 +1,95 @@
 -- What becomes of one item: the parts that it changes, and the text that goes to the client.
-use Rattle.std.specs.Prelude.{◌≡◌, ℕ, List, [], ◌∷◌, ◌++◌, codes, Option, Some, None}
+use Rattle.std.specs.Prelude.{◌≡◌, ◌<◌, ℕ, List, [], ◌∷◌, length}
 use Rattle.tko_model.specs.Records.{HealthItem, Gains}
 use Rattle.tko_text.specs.declared.item.Item.{Item}
 use Rattle.tko_text.specs.declared.item.Item.TheVariants as item
 use Rattle.tko_text.specs.declared.request.Request.{Request}
-use Rattle.tko_text.specs.declared.response.Response.{Response}
+use Rattle.tko_text.specs.declared.request.Request.TheVariants.{Get, Gets, Store, Cas, Delete, Incr, Decr, Touch, Version, Quit, StatsTko}
 use Rattle.tko_text.specs.Requests.{fault_text}
-use Rattle.tko_text.specs.Responses.{response_text}
-use Rattle.tko_route.specs.declared.attempt.Attempt.{Attempt}
+use Rattle.tko_text.specs.SentRequests.{without_noreply}
 use Rattle.tko_links.specs.Links.{LinksItem}
-use Rattle.tko_route.specs.Trail.{IsTrail, Attempted, answer_of}
+use Rattle.tko_pools.specs.Configs.{Configuration, targets_of}
+use Rattle.tko_route.specs.Trail.{IsTrail, Attempts, form_at}
 use Rattle.tko_session.specs.declared.parts.Parts.{Parts}
+use Rattle.tko_session.specs.Replies.{IsReply, RoutedKey, version_text, written}
+use Rattle.tko_session.specs.Status.{IsStatus}
 use Rattle.tko_session.specs.TrailEvents.{TrailEvent, Asked, Tried}
 
--- an item, the trails that it took, and the text of its reply
+-- an item, the keys that were routed for it, and the text of its reply
 pub record Turn : Type 0 where
   pub item : Item
-  pub trails : List (List Attempt)
+  pub routed : List RoutedKey
   pub text : List ℕ
 
--- `SERVER_ERROR no server` CR LF
-abbrev pub no_server : List ℕ
-no_server = codes "SERVER_ERROR no server" ++ 13 ∷ 10 ∷ []
+-- the keys of a request, each of which is routed; a request without a key is not routed
+abbrev pub request_keys : Request → List (List ℕ)
+request_keys (Get keys) = keys
+request_keys (Gets keys) = keys
+request_keys (Store verb entry noreply) = entry.key ∷ []
+request_keys (Cas entry unique noreply) = entry.key ∷ []
+request_keys (Delete key noreply) = key ∷ []
+request_keys (Incr key amount noreply) = key ∷ []
+request_keys (Decr key amount noreply) = key ∷ []
+request_keys (Touch key expiry noreply) = key ∷ []
+request_keys Version = []
+request_keys Quit = []
+request_keys StatsTko = []
 
-abbrev pub text_of_answer : Option Response → List ℕ
-text_of_answer (Some response) = response_text response
-text_of_answer None = no_server
+-- the request that is routed for a key: of several keys each is asked for by itself
+abbrev pub request_for : Request → List ℕ → Request
+request_for (Get keys) key = Get (key ∷ [])
+request_for (Gets keys) key = Gets (key ∷ [])
+request_for request key = request
 
--- the reply after a trail: the response of its last attempt, or that no server answered
-abbrev pub reply_text : List Attempt → List ℕ
-reply_text trail = text_of_answer (answer_of trail)
-
--- the trails object recorded the request, and then its trail
-pub record IsRecorded {T : Type 0} (records : T → TrailEvent → T → Type 0)
-    (old : T) (request : Request) (trail : List Attempt) (new : T) : Type 0 where
-  pub between : T
-  pub asked : records old (Asked request) between
-  pub tried : records between (Tried trail) new
+-- the forms in which the request for a key is sent, by the places of the targets
+abbrev pub forms : Configuration → Request → List ℕ → ℕ → Request
+forms config request key =
+    form_at config.failover_exptime (without_noreply (request_for request key))
 
 module _ {H L T : Type 0} (steps : H → HealthItem → H → Type 0)
     (exchanges : L → LinksItem → L → Type 0) (sent : L → ℕ → ℕ)
     (records : T → TrailEvent → T → Type 0) where
-  -- a request took this trail over the targets
-  pub record IsRouted (old : Parts H L T) (request : Request) (trail : List Attempt)
+  -- a key of a request took this trail over the targets of the key, and the trail was recorded
+  pub record IsKeyRouted (request : Request) (old : Parts H L T) (routed : RoutedKey)
       (new : Parts H L T) : Type 0 where
-    pub tried : IsTrail old.targets.items trail
-    pub attempts : Gains (Attempted steps exchanges sent request)
-        (old.health, old.links) trail (new.health, new.links)
-    pub recorded : IsRecorded records old.trails request trail new.trails
-    pub targets : new.targets ≡ old.targets
+    pub tried : IsTrail (targets_of old.config routed.key) routed.trail
+    pub attempts : Attempts steps exchanges sent (forms old.config request routed.key)
+        (old.health, old.links) routed.trail (new.health, new.links)
+    pub recorded : records old.trails (Tried routed.trail) new.trails
+    pub config : new.config ≡ old.config
 
-  -- a fault gives its text and changes nothing; a request takes one trail, and gives the reply
-  -- after it
-  abbrev pub Becomes : Parts H L T → Item → List (List Attempt) → List ℕ → Parts H L T → Type 0
-  Becomes old (item.Fault fault) trails text new =
-      (trails ≡ []) × (text ≡ fault_text fault) × (new ≡ old)
-  Becomes old (item.Request request) trails text new =
-      (trail : List Attempt) × IsRouted old request trail new
-      × (trails ≡ trail ∷ []) × (text ≡ reply_text trail)
+  -- a request without a key is answered by the proxy itself
+  abbrev pub AnswersItself : Request → Parts H L T → List ℕ → Parts H L T → Type 0
+  AnswersItself Version old text new = (text ≡ version_text) × (new ≡ old)
+  AnswersItself Quit old text new = (text ≡ []) × (new ≡ old)
+  AnswersItself StatsTko old text new =
+      IsStatus steps old.config.addresses old.health text new.health
+      × (new ≡ record old { health = new.health })
+  AnswersItself _ old text new = ⊥
+
+  -- the keys of a request were routed, one after another, and gave this text
+  pub record AnswersByKeys (request : Request) (old : Parts H L T) (routed : List RoutedKey)
+      (text : List ℕ) (new : Parts H L T) : Type 0 where
+    pub some : 0 < length (request_keys request)
+    pub each : Gains (IsKeyRouted request) old routed new
+    pub reply : List ℕ
+    pub is_reply : IsReply (request_keys request) routed reply
+    pub is_written : text ≡ written request reply
+
+  -- what becomes of a request once it was recorded
+  pub data Answers (request : Request) (old : Parts H L T) (routed : List RoutedKey)
+      (text : List ℕ) (new : Parts H L T) : Type 0 where
+    itself : routed ≡ [] → AnswersItself request old text new
+        → Answers request old routed text new
+    by_keys : AnswersByKeys request old routed text new → Answers request old routed text new
+
+  -- a fault gives its text and changes nothing; a request is recorded, and then answered
+  abbrev pub Becomes : Parts H L T → Item → List RoutedKey → List ℕ → Parts H L T → Type 0
+  Becomes old (item.Fault fault) routed text new =
+      (routed ≡ []) × (text ≡ fault_text fault) × (new ≡ old)
+  Becomes old (item.Request request) routed text new =
+      (told : T) × records old.trails (Asked request) told
+      × Answers request (record old { trails = told }) routed text new
 
   abbrev pub IsTurn : Parts H L T → Turn → Parts H L T → Type 0
-  IsTurn old turn new = Becomes old turn.item turn.trails turn.text new
+  IsTurn old turn new = Becomes old turn.item turn.routed turn.text new

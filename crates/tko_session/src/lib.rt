@@ -7,16 +7,20 @@
 //!   knows no socket.
 //! - `serve`: reads a piece, gives it to the session, and writes the replies; `piece_buffer`,
 //!   `read_piece` and `write_all` are its steps.
+//! - `status`: the mark of each server as text.
 #![tactic(auto)]
 
+mod answering;
 mod fault;
 mod io;
 mod outbox;
 mod parts;
 mod pieces;
 mod piped;
+mod requests;
 mod serving;
 mod session;
+mod status_text;
 mod stop_counts;
 mod taped;
 mod trails;
@@ -29,6 +33,7 @@ pub use pieces::{piece_buffer, read_piece};
 pub use piped::Piped;
 pub use serving::serve;
 pub use session::{Progress, Report, Session};
+pub use status_text::status;
 pub use taped::Taped;
 pub use trails::{Kept, Trails};
 pub use writing::write_all;

@@ -1,55 +1,76 @@
 //! What a session works on.
-ghost use Rattle.std.specs.Prelude.{◌≡◌, ◌+◌, ℕ, IfOk};
-ghost use Rattle.tko_model.specs.Records.{Gains};
-ghost use Rattle.tko_route.specs.Trail.{Attempted, IsTrail, sends_in};
+ghost use Rattle.std.specs.Prelude.{◌≡◌, ◌∷◌, [], List, ℕ, IfOk, OnOk};
+ghost use Rattle.tko_pools.specs.Configs.{AreServers, targets_of};
+ghost use Rattle.tko_session.specs.Answering.{IsTried};
 ghost use Rattle.tko_session.specs.SessionState.{Reaches};
+ghost use Rattle.tko_session.specs.Turns.{request_keys};
 
+use crate::requests::first_key;
 use std::alloc::Global;
+use tko_bytes::NoMemory;
 use tko_links::{IoRuntime, Links};
-use tko_route::{Health, RouteFault, Routed, route};
+use tko_pools::Config;
+use tko_route::{Health, Routed, route};
 use tko_text::Request;
 
-/// What replaces a request's expiry at the targets after the first: a `get` has none.
-const NO_EXPIRY: u32 = 0;
-
-/// The health of the servers, the links to them, what records the trails, and the servers that are
-/// tried, in order.
+/// The health of the servers, the links to them, what records the trails, and the configuration,
+/// which chooses the targets of each key.
 #[derive(Drop)]
 pub struct Parts<H, L, T> {
     pub health: H,
     pub links: L,
     pub trails: T,
-    pub targets: Vec<usize>,
+    pub config: Config,
 }
 
 impl<H: Health, L: Links, T> Parts<H, L, T> {
-    /// Sends a request to one target after another, until one answers.
+    /// Sends a request of one key to one target of the key after another, until one answers. The
+    /// targets are put into a list, in place of what it held.
     pub(crate) fn route<R: IoRuntime>(
         &mut self,
         rt: &R,
         alloc: Global,
-        request: &Request,
-    ) -> Result<Routed, RouteFault>
+        targets: &mut Vec<usize>,
+        request: &mut Request,
+    ) -> Result<Routed, NoMemory>
         requires reach { Reaches H.servers L.servers self.old }
-        ensures trail { IfOk result (λ routed. IsTrail self.old.targets.items routed.trail) }
-        ensures attempts { IfOk result (λ routed.
-            Gains (Attempted H.steps L.exchanges L.sent request.now)
-            (self.old.health, self.old.links) routed.trail (self.new.health, self.new.links)) }
-        ensures sends { IfOk result (λ routed. (server : ℕ) →
-            L.sent self.new.links server
-            ≡ L.sent self.old.links server + sends_in server routed.trail) }
-        ensures others { self.new
-            ≡ record self.old { health = self.new.health; links = self.new.links } }
+        ensures tried { IfOk result (λ routed. (key : List ℕ) → request_keys request.old ≡ key ∷ []
+            → IsTried H.steps L.exchanges L.sent request.old key
+            self.old routed.trail self.new) }
         ensures reach { Reaches H.servers L.servers self.new }
     {
-        route(
+        find_targets(&self.config, request, targets)?;
+        let exptime = self.config.failover_exptime();
+        let Ok(routed) = route(
             rt,
             alloc,
             &mut self.health,
             &mut self.links,
-            &self.targets,
+            targets,
             request,
-            NO_EXPIRY,
-        )
+            exptime,
+        ) else {
+            return Err(NoMemory);
+        };
+        Ok(routed)
+    }
+}
+
+/// Puts the targets of a request's first key into a list, in place of what it held.
+fn find_targets(
+    config: &Config,
+    request: &Request,
+    targets: &mut Vec<usize>,
+) -> Result<(), NoMemory>
+    ensures ok { OnOk result ((key : List ℕ) → request_keys request.now ≡ key ∷ []
+        → targets.new.items ≡ targets_of config.now key) }
+    ensures within { AreServers config.now targets.new.items }
+{
+    match first_key(request) {
+        Some(key) => config.replace_targets(key.as_bytes(), targets),
+        None => {
+            targets.clear();
+            Ok(())
+        }
     }
 }

@@ -3,7 +3,7 @@ ghost use Rattle.std.specs.Prelude.{◌≡◌, ◌≢◌, ◌<◌, ℕ, [], Err,
 ghost use Rattle.tko_text.specs.Reading.{Never};
 ghost use Rattle.tko_session.specs.Io.{capped};
 ghost use Rattle.tko_session.specs.Turns.{IsTurn};
-ghost use Rattle.tko_session.specs.SessionState.{Reaches, fed_state, sent_by};
+ghost use Rattle.tko_session.specs.SessionState.{Reaches, fed_state, pause_of, sent_by};
 ghost use Rattle.tko_session.specs.Served.{CameTooLong, Delivered, DeliveredPart, Served, StoppedByLine, StoppedByRead, StoppedByWrite, StoppedEarly};
 
 use crate::{
@@ -14,7 +14,7 @@ use std::alloc::Global;
 use tko_links::{IoRuntime, Links};
 use tko_route::Health;
 
-/// Serves one client, from the first byte of its input to the end.
+/// Serves one client, from the first byte of its input to the end or to `quit`.
 pub fn serve<R: IoRuntime, I: Inlet, O: Outlet, H: Health, L: Links, T: Trails>(
     rt: &R,
     alloc: Global,
@@ -61,7 +61,7 @@ pub fn serve<R: IoRuntime, I: Inlet, O: Outlet, H: Health, L: Links, T: Trails>(
         if ended {
             return Ok(session.report());
         }
-        serve_piece(
+        let quit = serve_piece(
             rt,
             alloc,
             &mut session,
@@ -70,12 +70,15 @@ pub fn serve<R: IoRuntime, I: Inlet, O: Outlet, H: Health, L: Links, T: Trails>(
             &buffer[..count],
             &mut written,
         )?;
+        if quit {
+            return Ok(session.report_after_quit());
+        }
     }
     unreachable!()
 }
 
 /// Gives a piece to the session, and writes the replies to all that it completes, also where the
-/// session then ends.
+/// session then ends. Returns whether `quit` ended it.
 fn serve_piece<R: IoRuntime, O: Outlet, H: Health, L: Links, T: Trails>(
     rt: &R,
     alloc: Global,
@@ -84,12 +87,12 @@ fn serve_piece<R: IoRuntime, O: Outlet, H: Health, L: Links, T: Trails>(
     parts: &mut Parts<H, L, T>,
     piece: &[u8],
     written: &mut u64,
-) -> Result<(), SessionFault>
+) -> Result<bool, SessionFault>
     requires reach { Reaches H.servers L.servers parts.old }
     requires outbox { session.old.outbox ≡ [] }
     requires reads { session.old.reading.after ≢ Never }
-    ensures ok { OnOk result (Delivered O.takes
-        (IsTurn H.steps L.exchanges L.sent T.records) (sent_by L.sent) Progress.NeedsInput
+    ensures ok { IfOk result (λ quit. Delivered O.takes
+        (IsTurn H.steps L.exchanges L.sent T.records) (sent_by L.sent) (pause_of quit)
         (fed_state session.old piece.now) writer.old written.old parts.old
         session.new writer.new written.new parts.new) }
     ensures too_long { IsErrOf result SessionFault.LineTooLong → Delivered O.takes
@@ -111,8 +114,9 @@ fn serve_piece<R: IoRuntime, O: Outlet, H: Health, L: Links, T: Trails>(
     for _ in rt.forever() {
         match deliver(rt, alloc, session, writer, parts, written)? {
             Progress::More => {}
-            Progress::NeedsInput => return Ok(()),
+            Progress::NeedsInput => return Ok(false),
             Progress::LineTooLong => return Err(SessionFault::LineTooLong),
+            Progress::Quit => return Ok(true),
         }
     }
     unreachable!()

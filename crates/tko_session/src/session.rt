@@ -4,8 +4,9 @@ ghost use Rattle.std.specs.Option.{option_copied};
 ghost use Rattle.tko_text.specs.Reading.{Emits, NeedsMore, Never, fed};
 ghost use Rattle.tko_text.specs.Requests.{fault_text};
 ghost use Rattle.tko_session.specs.Turns.{IsTurn};
-ghost use Rattle.tko_session.specs.SessionState.{Answered, AnsweredPart, Reaches, Replied, fed_state, fresh, progress_after, reply_bound, sent_by};
+ghost use Rattle.tko_session.specs.SessionState.{Answered, AnsweredPart, Reaches, Replied, fed_state, fresh, progress_after, progress_of, reply_bound, sent_by};
 
+use crate::answering::answer;
 use crate::outbox::Outbox;
 use crate::{Parts, Trails};
 use std::alloc::Global;
@@ -33,15 +34,18 @@ pub enum Progress {
     NeedsInput,
     /// The last item was a line too long, after which nothing is read.
     LineTooLong,
+    /// The last item was `quit`: the session is over, and nothing that follows is to be answered.
+    Quit,
 }
 
 /// One client's session: the reader of its bytes, the replies that wait to be written, and the
-/// number of its requests.
+/// number of its requests. It keeps the room for a key's targets, which contracts do not see.
 #[derive(Drop)]
 pub struct Session {
     reader: Reader,
     outbox: Outbox,
     requests: u64,
+    targets: Vec<usize>,
 }
 
 impl Model for Session {
@@ -64,6 +68,7 @@ impl Session {
             reader: Reader::new(alloc),
             outbox: Outbox::new(alloc),
             requests: 0,
+            targets: Vec::new(alloc),
         }
     }
 
@@ -89,6 +94,17 @@ impl Session {
         Report {
             requests: self.requests,
             unfinished: self.reader.unfinished() as u64,
+        }
+    }
+
+    /// What it came to, if `quit` ended it. What follows `quit` is no part of the session.
+    pub fn report_after_quit(&self) -> Report
+        ensures requests { result.requests ≡ self.now.requests }
+        ensures unfinished { result.unfinished ≡ 0 }
+    {
+        Report {
+            requests: self.requests,
+            unfinished: 0,
         }
     }
 
@@ -127,6 +143,7 @@ impl Session {
                 Progress::More => {}
                 Progress::NeedsInput => return Ok(Progress::NeedsInput),
                 Progress::LineTooLong => return Ok(Progress::LineTooLong),
+                Progress::Quit => return Ok(Progress::Quit),
             }
         }
         unreachable!()
@@ -151,10 +168,7 @@ impl Session {
         match self.next()? {
             None => Ok(Progress::NeedsInput),
             Some(Item::Fault(fault)) => self.answer_fault(fault),
-            Some(Item::Request(request)) => {
-                self.answer_request(rt, alloc, parts, &request)?;
-                Ok(Progress::More)
-            }
+            Some(Item::Request(request)) => self.answer_request(rt, alloc, parts, request),
         }
     }
 
@@ -186,31 +200,46 @@ impl Session {
         }
     }
 
-    /// Routes a request, and answers with the last attempt's response.
+    /// Records a request and answers it.
     fn answer_request<R: IoRuntime, H: Health, L: Links, T: Trails>(
         &mut self,
         rt: &R,
         alloc: Global,
         parts: &mut Parts<H, L, T>,
-        request: &Request,
-    ) -> Result<(), NoMemory>
+        request: Request,
+    ) -> Result<Progress, NoMemory>
         requires reach { Reaches H.servers L.servers parts.old }
         ensures ok { OnOk result (Replied H.steps L.exchanges L.sent T.records
-            self.old parts.old request.now self.new parts.new) }
+            self.old parts.old request self.new parts.new) }
+        ensures progress { IfOk result (λ progress. progress ≡ progress_of request) }
         ensures err { OnErr result (self.new ≡ self.old) }
         ensures reach { Reaches H.servers L.servers parts.new }
     {
-        parts.trails.request(rt, request)?;
-        let Ok(routed) = parts.route(rt, alloc, request) else {
-            return Err(NoMemory);
-        };
+        parts.trails.request(rt, &request)?;
+        let progress = progress_of(&request);
         let waiting = self.outbox.len();
-        self.outbox.append_reply(routed.response())?;
-        if parts.trails.trail(rt, routed.trail).is_err() {
+        let Ok(()) = answer(
+            rt,
+            alloc,
+            parts,
+            &mut self.targets,
+            &mut self.outbox,
+            request,
+        ) else {
             self.outbox.truncate(waiting);
             return Err(NoMemory);
-        }
+        };
         self.requests = self.requests.saturating_add(1);
-        Ok(())
+        Ok(progress)
+    }
+}
+
+/// How far a session is once it answered this request.
+fn progress_of(request: &Request) -> Progress
+    ensures { result ≡ progress_of request.now }
+{
+    match request {
+        Request::Quit => Progress::Quit,
+        _ => Progress::More,
     }
 }

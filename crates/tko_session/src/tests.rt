@@ -1,4 +1,5 @@
 //! Sessions over memory and scripted servers.
+ghost use Rattle.std.specs.Prelude.{◌≡◌, IfOk, length};
 
 use crate::{
     Inlet, Kept, Outlet, Parts, Piped, Progress, Report, Session, SessionFault, Stop, Taped, serve,
@@ -11,6 +12,7 @@ use std::sync::Wait;
 use std::test::Fail;
 use tko_links::{Links, Script, Scripted};
 use tko_model::{Mark, Plain, Settings};
+use tko_pools::Config;
 use tko_route::{Attempt, PlainHealth};
 
 const SETTINGS: Settings = Settings {
@@ -32,11 +34,13 @@ const MISSES: &[u8] = b"END\r\nEND\r\n";
 
 type Scripts = Vec<Script>;
 
-/// What a session came to, how often each server was sent to, and the trails.
+/// What a session came to, how often each server was sent to, the bytes of all requests sent, and
+/// the trails.
 #[derive(Drop)]
 struct Ran {
     result: Result<Report, SessionFault>,
     sends: Vec<u64>,
+    sent: Vec<u8>,
     trails: Kept,
 }
 
@@ -69,6 +73,16 @@ fn value_of(alloc: Global, len: usize) -> Result<Vec<u8>, Fail> {
     Ok(bytes)
 }
 
+/// Two servers, both of them targets of every key.
+fn config(alloc: Global) -> Result<Config, Fail>
+    ensures { IfOk result (λ config. length config.addresses ≡ 2) }
+{
+    let mut addresses = Vec::new(alloc);
+    addresses.push(String::from_str(alloc, "dry:0")?)?;
+    addresses.push(String::from_str(alloc, "dry:1")?)?;
+    Ok(Config::in_order(alloc, addresses)?)
+}
+
 /// A session over two servers with these scripts, both targets.
 fn run<R: Wait + Net<Stream = TcpStream>, I: Inlet, O: Outlet>(
     rt: &R,
@@ -81,16 +95,21 @@ fn run<R: Wait + Net<Stream = TcpStream>, I: Inlet, O: Outlet>(
         health: PlainHealth::new(Plain::open(alloc, SETTINGS)?, 0),
         links: Scripted::new(alloc, 2, scripts)?,
         trails: Kept::new(alloc),
-        targets: vec![in alloc; 0, 1]?,
+        config: config(alloc)?,
     };
     let result = serve(rt, alloc, reader, writer, &mut parts);
     let mut sends = Vec::new(alloc);
-    for target in &parts.targets {
+    for target in &parts.config.targets(alloc, b"a".as_slice())? {
         sends.push(parts.links.sends(*target))?;
+    }
+    let mut sent = Vec::new(alloc);
+    for request in parts.links.requests() {
+        sent.extend_from_slice(request.as_bytes())?;
     }
     Ok(Ran {
         result,
         sends,
+        sent,
         trails: parts.trails,
     })
 }
@@ -139,6 +158,171 @@ fn marked_server_is_skipped(rt: HostRuntime) -> Result<(), Fail> {
                 [Attempt::Skipped(0, Mark::Hard(0)), Attempt::Sent(1, _, _)]
             )
         );
+    }
+    Ok(())
+}
+
+/// A session of this input, with these answers of the servers one after another. An empty one
+/// stands for a refused connection.
+struct Row<'a> {
+    input: &'a [u8],
+    answers: &'a [&'a [u8]],
+    output: &'a [u8],
+    sent: &'a [u8],
+    trails: usize,
+    requests: u64,
+    unfinished: u64,
+}
+
+const ROWS: [Row<'static>; 11] = [
+    // Keys are routed one by one, up to the first without a list of values.
+    Row {
+        input: b"get a b\r\n",
+        answers: &[b"VALUE a 0 1\r\nx\r\nEND\r\n", b"END\r\n"],
+        output: b"VALUE a 0 1\r\nx\r\nEND\r\n",
+        sent: b"get a\r\nget b\r\n",
+        trails: 2,
+        requests: 1,
+        unfinished: 0,
+    },
+    Row {
+        input: b"get a b c\r\n",
+        answers: &[b"VALUE a 0 1\r\nx\r\nEND\r\n", b"SERVER_ERROR busy\r\n"],
+        output: b"SERVER_ERROR busy\r\n",
+        sent: b"get a\r\nget b\r\n",
+        trails: 2,
+        requests: 1,
+        unfinished: 0,
+    },
+    Row {
+        input: b"get a b\r\nstats tko\r\n",
+        answers: &[b"VALUE a 0 1\r\nx\r\nEND\r\n", b"", b""],
+        output: b"SERVER_ERROR no server\r\nSTAT dry:0 hard:0\r\nSTAT dry:1 hard:0\r\nEND\r\n",
+        sent: b"get a\r\nget b\r\nget b\r\n",
+        trails: 2,
+        requests: 2,
+        unfinished: 0,
+    },
+    // Values keep their cas numbers.
+    Row {
+        input: b"gets a b\r\n",
+        answers: &[
+            b"VALUE a 0 1 1\r\nx\r\nEND\r\n",
+            b"VALUE b 0 2 1\r\nyz\r\nEND\r\n",
+        ],
+        output: b"VALUE a 0 1 1\r\nx\r\nVALUE b 0 2 1\r\nyz\r\nEND\r\n",
+        sent: b"gets a\r\ngets b\r\n",
+        trails: 2,
+        requests: 1,
+        unfinished: 0,
+    },
+    // A silent request is sent as an ordinary one, and its reply is not written.
+    Row {
+        input: b"set a 0 0 1 noreply\r\nx\r\n",
+        answers: &[b"STORED\r\n"],
+        output: b"",
+        sent: b"set a 0 0 1\r\nx\r\n",
+        trails: 1,
+        requests: 1,
+        unfinished: 0,
+    },
+    // The expiry is replaced after the first target.
+    Row {
+        input: b"set a 0 0 1\r\nx\r\n",
+        answers: &[b"", b"STORED\r\n"],
+        output: b"STORED\r\n",
+        sent: b"set a 0 0 1\r\nx\r\nset a 0 60 1\r\nx\r\n",
+        trails: 1,
+        requests: 1,
+        unfinished: 0,
+    },
+    // Lenient spellings are printed plainly.
+    Row {
+        input: b"incr  a 007\n",
+        answers: &[b"7\r\n"],
+        output: b"7\r\n",
+        sent: b"incr a 7\r\n",
+        trails: 1,
+        requests: 1,
+        unfinished: 0,
+    },
+    // Faults are answered, and are no requests; what the proxy answers itself is one.
+    Row {
+        input: b"set a 0 0 1 norply\r\nx\r\nversion\r\n",
+        answers: &[],
+        output: b"CLIENT_ERROR bad command line format\r\nERROR\r\nVERSION tkoproxy 1\r\n",
+        sent: b"",
+        trails: 0,
+        requests: 1,
+        unfinished: 0,
+    },
+    // Nothing is read after `quit`.
+    Row {
+        input: b"version\r\nquit\r\nversion\r\nget",
+        answers: &[],
+        output: b"VERSION tkoproxy 1\r\n",
+        sent: b"",
+        trails: 0,
+        requests: 2,
+        unfinished: 0,
+    },
+    // The end of input may cut an item.
+    Row {
+        input: b"get a",
+        answers: &[],
+        output: b"",
+        sent: b"",
+        trails: 0,
+        requests: 0,
+        unfinished: 5,
+    },
+    Row {
+        input: b"set a 0 0 5\r\nhe",
+        answers: &[],
+        output: b"",
+        sent: b"",
+        trails: 0,
+        requests: 0,
+        unfinished: 15,
+    },
+];
+
+/// Whether the row comes to what it says, where so many bytes are read at once.
+fn holds<R: Wait + Net<Stream = TcpStream>>(
+    rt: &R,
+    alloc: Global,
+    row: &Row<'_>,
+    piece: usize,
+) -> Result<bool, Fail> {
+    let mut scripts = Vec::new(alloc);
+    for answer in row.answers {
+        if answer.is_empty() {
+            scripts.push(Script::Refused)?;
+        } else {
+            scripts.push(Script::Bytes(answer.to_vec(alloc)?))?;
+        }
+    }
+    let mut reader = Taped::new(row.input.to_vec(alloc)?, piece.max(1), Vec::new(alloc));
+    let mut writer = blank(alloc);
+    let ran = run(rt, alloc, &mut reader, &mut writer, scripts)?;
+    let report = Report {
+        requests: row.requests,
+        unfinished: row.unfinished,
+    };
+    Ok(
+        ran.result == Ok(report)
+            && writer.bytes() == row.output
+            && ran.sent.as_slice() == row.sent
+            && ran.trails.trails().len() == row.trails,
+    )
+}
+
+#[test]
+fn any_cutting_gives_the_same(rt: HostRuntime) -> Result<(), Fail> {
+    for piece in [4096, 1] {
+        for row in &ROWS {
+            assert!(rt; holds(&rt, rt.alloc(), row, piece)?);
+        }
     }
     Ok(())
 }
@@ -240,7 +424,7 @@ fn two_answers<R: Wait + Net<Stream = TcpStream>>(
         health: PlainHealth::new(Plain::open(alloc, SETTINGS)?, 0),
         links: Scripted::new(alloc, 2, scripts)?,
         trails: Kept::new(alloc),
-        targets: vec![in alloc; 0, 1]?,
+        config: config(alloc)?,
     };
     let mut session = Session::new(alloc);
     session.take(TWICE).ok().ok_or("not taken")?;

@@ -9,7 +9,7 @@ use tko_links::IoRuntime;
 use tko_route::Trail;
 use tko_text::Request;
 
-/// Records each item that isn't a fault, and then the trail of its routed request.
+/// Records each item that isn't a fault, and then the trail of each of its keys.
 pub trait Trails {
     ghost use Rattle.tko_session.specs.TrailEvents.{TrailEvent};
 

@@ -8,7 +8,7 @@ use std::sync::Wait;
 use std::test::Fail;
 use tko_links::{Script, Scripted};
 use tko_model::{Plain, Settings};
-use tko_text::{Key, Request, Response};
+use tko_text::{Key, Keys, Request, Response};
 
 /// Servers, bytes of the key and bytes of the value.
 const SIZES: [(u32, usize, usize); 2] = [(1, 1, 0), (256, 250, 1_048_576)];
@@ -71,7 +71,7 @@ fn ask_all<R: Wait + Net<Stream = TcpStream>>(
     health: &mut PlainHealth,
     links: &mut Scripted,
     targets: &[usize],
-    request: &Request,
+    request: &mut Request,
 ) -> Result<Routed, RouteFault>
     requires links { length links.old.sends ≡ length health.old.tracker.servers }
     requires targets { All (λ target. target < length health.old.tracker.servers) targets.now }
@@ -96,7 +96,9 @@ fn every_size_up_to_the_limits_is_routed(rt: HostRuntime) -> Result<(), Fail> {
         let mut links = links_of(alloc, servers, scripts)?;
         let mut health = health_of(alloc, servers)?;
         let key = Key::of(alloc, key.as_slice())?.expect(&rt, "a key");
-        let request = Request::Get { key };
+        let mut request = Request::Get {
+            keys: Keys::new(vec![in alloc; key]?),
+        };
         let targets: Vec<usize> = (0..servers as usize).collect(alloc)?;
         assert!(rt; are_below(targets.as_slice(), servers as usize));
         let routed = ask_all(
@@ -105,7 +107,7 @@ fn every_size_up_to_the_limits_is_routed(rt: HostRuntime) -> Result<(), Fail> {
             &mut health,
             &mut links,
             targets.as_slice(),
-            &request,
+            &mut request,
         )
         .expect(&rt, "memory");
         assert_eq!(rt; routed.trail.attempts().len(), servers as usize);

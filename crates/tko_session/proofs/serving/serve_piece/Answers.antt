@@ -40,3 +40,8 @@ pub returns-in-LineTooLong-clause-err : goal.returns-in-LineTooLong-clause-err
 returns-in-LineTooLong-clause-err g c =
     let last = rw c.in-LineTooLong.is at c.in_ok-deliver.ensures.ok in
     delivered_part (delivered_append g.met.O.Outlet.goes_on c.loop.invariant.0 last)
+
+pub returns-in-Quit-clause-ok : goal.returns-in-Quit-clause-ok
+returns-in-Quit-clause-ok g c =
+    let last = rw c.in-Quit.is at c.in_ok-deliver.ensures.ok in
+    delivered_append g.met.O.Outlet.goes_on c.loop.invariant.0 last

@@ -1,5 +1,4 @@
-use Rattle.std.proofs.Common.{[], length, take, ◌∙◌, ap, subst, arith, length-take, length-drop, append-nil}
-use Rattle.tko_session.specs.Io.{Writes}
+use Rattle.std.proofs.Common.{◌∙◌, arith, length-take, length-drop}
 use Rattle.tko_session.proofs.ListLemmas.{take-next}
 use Rattle.tko_session.proofs.ServedLemmas.{writes_some, writes_failed}
 use Rattle.tko_session.proofs.writing.write_all.Goals as goal

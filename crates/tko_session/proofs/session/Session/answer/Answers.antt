@@ -23,3 +23,8 @@ pub returns-in-LineTooLong-clause-ok : goal.returns-in-LineTooLong-clause-ok
 returns-in-LineTooLong-clause-ok g c =
     let last = rw c.in-LineTooLong.is at c.in_ok-answer_next.ensures.ok in
     answered_append c.loop.invariant.0 last
+
+pub returns-in-Quit-clause-ok : goal.returns-in-Quit-clause-ok
+returns-in-Quit-clause-ok g c =
+    let last = rw c.in-Quit.is at c.in_ok-answer_next.ensures.ok in
+    answered_append c.loop.invariant.0 last

@@ -1,0 +1,65 @@
+-- The configuration of a dry run, and why there is none.
+use Rattle.std.specs.Prelude.{◌≡◌, ℕ, List, ◌++◌, map, codes, decimal, Option, Some, None, option_map, string_bytes}
+use Rattle.tko_model.specs.Ranges.{first_fault}
+use Rattle.tko_model.specs.declared.settings.Settings.{Settings}
+use Rattle.tko_model.specs.declared.settings.SettingsFault.{SettingsFault}
+use Rattle.tko_pools.specs.Configs.{Configuration, Means, Refuses, in_order, numbers_below}
+use Rattle.tko_pools.specs.declared.fault.ConfigFault.{ConfigFault}
+use Rattle.tko_cli.specs.declared.fault.ConfigFlaw.{ConfigFlaw}
+use Rattle.tko_cli.specs.declared.fault.Fault.{Fault}
+use Rattle.tko_cli.specs.declared.fault.Fault.TheVariants as fault
+use Rattle.tko_cli.specs.declared.options.DryOptions.{DryOptions}
+use Rattle.tko_cli.specs.Faults.{fault_of_config}
+
+-- how many threads the tracker has
+abbrev pub dry_threads : ℕ
+dry_threads = 4
+
+-- the settings that the options name, of a tracker of so many servers
+abbrev pub settings_of : DryOptions → ℕ → Settings
+settings_of options servers = record {
+  servers = servers;
+  threads = dry_threads;
+  failures = options.failures;
+  limit = options.limit;
+  tries = options.tries;
+  opening_stamp = 0;
+}
+
+-- the JSON of the configuration, if the options have one
+abbrev pub json_in : DryOptions → Option (List ℕ)
+json_in options = option_map string_bytes options.config
+
+-- the names of so many servers that no configuration names
+abbrev pub scripted_names : ℕ → List (List ℕ)
+scripted_names servers = map (λ server. codes "dry:" ++ decimal server) (numbers_below servers)
+
+-- the configuration of this JSON, or without one that of so many servers, which every key tries in
+-- order
+abbrev pub ConfigOf : Option (List ℕ) → ℕ → Configuration → Type 0
+ConfigOf None servers config = config ≡ in_order (scripted_names servers)
+ConfigOf (Some json) servers config = Means json config
+
+-- the configuration that the options name
+pub record IsConfigured (options : DryOptions) (config : Configuration) : Type 0 where
+  pub named : ConfigOf (json_in options) options.servers config
+
+-- the JSON is no configuration, for this reason
+pub record IsFlawed (options : DryOptions) (flaw : ConfigFlaw) : Type 0 where
+  pub json : List ℕ
+  pub given : json_in options ≡ Some json
+  pub cause : ConfigFault
+  pub refuses : Refuses json cause
+  pub named : fault_of_config cause ≡ fault.Config flaw
+
+-- without a configuration, this setting is the first one outside its range
+pub record IsUnset (options : DryOptions) (name : SettingsFault) : Type 0 where
+  pub alone : json_in options ≡ None
+  pub first : first_fault (settings_of options options.servers) ≡ Some name
+
+-- why the options name no configuration
+abbrev pub NoConfig : DryOptions → Fault → Type 0
+NoConfig options (fault.Config flaw) = IsFlawed options flaw
+NoConfig options (fault.Settings name) = IsUnset options name
+NoConfig options fault.Memory = Unit {0}
+NoConfig options _ = ⊥

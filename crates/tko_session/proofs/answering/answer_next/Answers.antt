@@ -1,0 +1,18 @@
+use Rattle.std.proofs.Common.{refl}
+use Rattle.tko_session.proofs.ResultLemmas.{on_err}
+use Rattle.tko_session.proofs.AnsweringLemmas.{is_next, next_replied}
+use Rattle.tko_session.proofs.OutboxLemmas.{extends_front, extends_next}
+use Rattle.tko_session.proofs.answering.answer_next.Goals as goal
+
+pub returns-in_err-routed-clause-err : goal.returns-in_err-routed-clause-err
+returns-in_err-routed-clause-err g c = on_err _ (extends_front c.args.waiting c.args.outbox.now)
+
+pub returns-in_err-trail-clause-err : goal.returns-in_err-trail-clause-err
+returns-in_err-trail-clause-err g c =
+    on_err _ (extends_next c.in_ok-listed.listed c.args.waiting c.args.outbox.now c.append_next.new.self _ _ c.in_ok-listed.ensures.ok)
+
+pub returns-clause-ok : goal.returns-clause-ok
+returns-clause-ok g c = λ key is.
+    let listed = c.in_ok-listed.ensures in
+    is_next _ key _ c.in_ok-listed.listed c.in_ok-routed.routed.trail is (c.in_ok-routed.ensures.tried key is) c.in_ok-trail.ensures refl
+    (next_replied c.in_ok-listed.listed c.args.waiting _ key c.in_ok-routed.routed.trail c.args.outbox.now c.append_next.new.self listed.listed listed.ok c.response.ensures)

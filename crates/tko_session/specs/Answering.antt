@@ -1,0 +1,66 @@
+-- The steps in which a session answers a request.
+use Rattle.std.specs.Prelude.{◌≡◌, ℕ, ◌+◌, Bool, true, false, List, [], ◌∷◌, ◌++◌, MatchBool, take}
+use Rattle.tko_model.specs.Records.{HealthItem}
+use Rattle.tko_text.specs.declared.request.Request.{Request}
+use Rattle.tko_text.specs.declared.request.Request.TheVariants.{Get, Gets}
+use Rattle.tko_text.specs.SentRequests.{without_noreply}
+use Rattle.tko_links.specs.Links.{LinksItem}
+use Rattle.tko_pools.specs.Configs.{targets_of}
+use Rattle.tko_route.specs.declared.attempt.Attempt.{Attempt}
+use Rattle.tko_route.specs.Trail.{IsTrail, Attempts, form_at, sends_in}
+use Rattle.tko_session.specs.declared.parts.Parts.{Parts}
+use Rattle.tko_session.specs.Replies.{RoutedKey, HasValues, joined, reply_text, trails_in}
+use Rattle.tko_session.specs.SessionState.{sends_to}
+use Rattle.tko_session.specs.TrailEvents.{TrailEvent}
+use Rattle.tko_session.specs.Turns.{Answers, IsKeyRouted}
+
+-- a request for the values of these keys, with their cas numbers or without
+abbrev pub retrieval : List (List ℕ) → Bool → Request
+retrieval keys true = Gets keys
+retrieval keys false = Get keys
+
+-- bytes were put at the end
+pub record Extends (old new : List ℕ) : Type 0 where
+  pub more : List ℕ
+  pub is : new ≡ old ++ more
+
+module _ {H L T : Type 0} (steps : H → HealthItem → H → Type 0)
+    (exchanges : L → LinksItem → L → Type 0) (sent : L → ℕ → ℕ) where
+  -- a request of this one key took this trail, which is not recorded yet
+  pub record IsTried (request : Request) (key : List ℕ) (old : Parts H L T)
+      (trail : List Attempt) (new : Parts H L T) : Type 0 where
+    pub tried : IsTrail (targets_of old.config key) trail
+    pub attempts : Attempts steps exchanges sent
+        (form_at old.config.failover_exptime (without_noreply request))
+        (old.health, old.links) trail (new.health, new.links)
+    pub sends : (server : ℕ)
+        → sent new.links server ≡ sent old.links server + sends_in server trail
+    pub others : new ≡ record old { health = new.health; links = new.links }
+
+module _ {H L T : Type 0} (steps : H → HealthItem → H → Type 0)
+    (exchanges : L → LinksItem → L → Type 0) (sent : L → ℕ → ℕ)
+    (records : T → TrailEvent → T → Type 0) where
+  -- a request was answered, and its reply is at the end of the outbox
+  pub record AnsweredInto (request : Request) (old : Parts H L T) (outbox : List ℕ)
+      (new : Parts H L T) (outbox' : List ℕ) : Type 0 where
+    pub routed : List RoutedKey
+    pub text : List ℕ
+    pub answers : Answers steps exchanges sent records request old routed text new
+    pub sends : (server : ℕ)
+        → sent new.links server ≡ sent old.links server + sends_to server (trails_in routed)
+    pub appended : outbox' ≡ outbox ++ text
+
+  -- the next of several keys was routed by this request, after so many bytes waited before the
+  -- first key: its values are at the end of the outbox, or its whole reply follows those bytes
+  pub record IsNext (request : Request) (key : List ℕ) (waiting : ℕ) (listed : Bool)
+      (old : Parts H L T) (outbox : List ℕ) (new : Parts H L T) (outbox' : List ℕ) : Type 0 where
+    pub trail : List Attempt
+    pub routed : IsKeyRouted steps exchanges sent records request old
+        (record { key = key; trail = trail }) new
+    pub sends : (server : ℕ)
+        → sent new.links server ≡ sent old.links server + sends_in server trail
+    pub replied : MatchBool listed
+        (HasValues (record { key = key; trail = trail })
+        × (outbox' ≡ outbox ++ joined (record { key = key; trail = trail } ∷ [])))
+        (¬ (HasValues (record { key = key; trail = trail }))
+        × (outbox' ≡ take waiting outbox ++ reply_text trail))

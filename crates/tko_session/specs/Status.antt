@@ -1,0 +1,52 @@
+-- The status text: what a look-up of each server found.
+use Rattle.std.specs.Prelude.{◌≡◌, ℕ, ◌+◌, List, [], ◌∷◌, ◌++◌, codes, map, flat_map}
+use Rattle.tko_model.specs.declared.look.Look.{Look}
+use Rattle.tko_model.specs.declared.look.Look.TheVariants as look
+use Rattle.tko_model.specs.declared.mark.Mark.{Mark}
+use Rattle.tko_model.specs.declared.mark.Mark.TheVariants as mark
+use Rattle.tko_model.specs.Records.{HealthItem, Gains}
+use Rattle.tko_model.specs.Texts.{mark_text}
+use Rattle.tko_route.specs.Health.{look_item}
+
+-- the address of a server, and what its look-up found
+pub record Looked : Type 0 where
+  pub address : List ℕ
+  pub found : Look
+
+-- the mark of a server, as a look-up found it
+abbrev pub mark_of : Look → Mark
+mark_of (look.Up count clear) = mark.Up count
+mark_of (look.Marked found) = found
+
+-- `STAT <address> <mark>` CR LF
+abbrev pub mark_line : List ℕ → Mark → List ℕ
+mark_line address found =
+    codes "STAT " ++ address ++ codes " " ++ mark_text found ++ codes "\r\n"
+
+abbrev pub status_line : Looked → List ℕ
+status_line server = mark_line server.address (mark_of server.found)
+
+abbrev pub addresses_in : List Looked → List (List ℕ)
+addresses_in servers = map (λ server. server.address) servers
+
+-- the look-ups of servers, which are numbered from this number on
+abbrev pub looks_from : ℕ → List Looked → List HealthItem
+looks_from number [] = []
+looks_from number (server ∷ servers) =
+    look_item number server.found ∷ looks_from (number + 1) servers
+
+-- each server was looked up once, in number order, and the text has the line of each and `END`
+pub record IsStatus {H : Type 0} (steps : H → HealthItem → H → Type 0)
+    (addresses : List (List ℕ)) (old : H) (text : List ℕ) (new : H) : Type 0 where
+  pub servers : List Looked
+  pub all : addresses_in servers ≡ addresses
+  pub looks : Gains steps old (looks_from 0 servers) new
+  pub lines : text ≡ flat_map status_line servers ++ codes "END\r\n"
+
+-- such a text was put at the end of a buffer
+pub record IsStatusAfter {H : Type 0} (steps : H → HealthItem → H → Type 0)
+    (addresses : List (List ℕ)) (old : H) (out : List ℕ) (new : H) (out' : List ℕ)
+    : Type 0 where
+  pub text : List ℕ
+  pub status : IsStatus steps addresses old text new
+  pub appended : out' ≡ out ++ text
