@@ -1,16 +1,38 @@
 -- Run lines: the steps of a thread until it has no call.
-use Rattle.std.proofs.Common.{◌≡◌, ℕ, zero, suc, ◌+◌, ◌-◌, ◌<◌, ◌≤◌, Bool, true, false, cond, length, replicate, ◌⊎◌, inl, inr, refl, sym, ap, ◌∙◌, subst, arith}
-use Rattle.std.proofs.lemmas.Bool.{cases_Bool, cases_lt, lt-ltb}
+use Rattle.std.proofs.Common.{◌≡◌, ℕ, zero, suc, ◌+◌, ◌-◌, ◌*◌, ◌<◌, ◌≤◌, Bool, true, false, cond, eqb, leb, ltb, length, replicate, ◌⊎◌, inl, inr, refl, sym, ap, ◌∙◌, subst, arith}
+use Rattle.std.proofs.lemmas.Bool.{cases_Bool, cases_lt, cond_both, lt-ltb}
 use Rattle.std.proofs.lemmas.List.{get_or-set_same, get_or_past}
-use Rattle.tko_runs.specs.declared.command.Command.TheVariants as command
+use Rattle.tko_model.specs.declared.mark.Mark.{Mark}
+use Rattle.tko_model.specs.declared.mark.Mark.TheVariants.{Up, Soft, Hard}
+use Rattle.tko_model.specs.declared.mark.Op.{Op}
+use Rattle.tko_model.specs.declared.mark.Op.TheVariants.{LookUp, SoftFailure, HardFailure, Success, Release}
+use Rattle.tko_model.specs.declared.mark.Reply.{Reply}
+use Rattle.tko_model.specs.declared.mark.Reply.TheVariants as reply
+use Rattle.tko_model.specs.declared.mark.Reply.TheVariants.{Contended}
+use Rattle.tko_model.specs.declared.settings.Settings.{Settings}
+use Rattle.tko_model.specs.declared.state.ServerState.{ServerState}
+use Rattle.tko_model.specs.Ranges.{IsWithinRanges, worn}
+use Rattle.tko_model.specs.Tracker.{server_at}
+use Rattle.tko_runs.specs.declared.schedule.command.Command.TheVariants as command
 use Rattle.tko_runs.specs.Limits.{max_steps}
-use Rattle.tko_runs.specs.Plays.{Played, RunsToAnswers, after_all, after_commands, enrolled, steps_to_answer}
+use Rattle.tko_runs.specs.Plays.{Played, RunsToAnswers, after_all, after_commands, after_turn, enrolled, steps_to_answer}
 use Rattle.tko_runs.specs.Schedules.{Plan}
-use Rattle.tko_runs.proofs.PlayLemmas.{after_commands-push}
-use Rattle.tko_steps.specs.declared.thread.ThreadState.{ThreadState}
-use Rattle.tko_steps.specs.declared.thread.ThreadState.TheVariants.{NotEnrolled, Idle, InCall}
-use Rattle.tko_steps.specs.Core.{CoreState, after_step, after_step_from, has_call, thread_at}
+use Rattle.tko_runs.proofs.PlayLemmas.{IsRun-played, after_commands-push}
+use Rattle.tko_steps.specs.declared.phase.Call.{Call}
+use Rattle.tko_steps.specs.declared.phase.Phase.{Phase}
+use Rattle.tko_steps.specs.declared.phase.Phase.TheVariants.{Start, Read, AtThreshold, Limit, Reserving, Holding, Firming, Losing, Loosening, Loosened, Emptied}
+use Rattle.tko_steps.specs.declared.phase.Slots.{Slots}
+use Rattle.tko_steps.specs.declared.phase.ThreadState.{ThreadState}
+use Rattle.tko_steps.specs.declared.phase.ThreadState.TheVariants.{NotEnrolled, Idle, InCall}
+use Rattle.tko_steps.specs.declared.table.Action.TheVariants.{Exchange, Reserve}
+use Rattle.tko_steps.specs.declared.table.Decision.{Decision}
+use Rattle.tko_steps.specs.declared.table.Decision.TheVariants.{Goes, Answers}
+use Rattle.tko_steps.specs.Core.{CoreState, Shared, after_act, after_step, after_step_from, follows, has_call, seen_by, state_after, thread_at, wins}
+use Rattle.tko_steps.specs.Invariant.{IsCore}
+use Rattle.tko_steps.specs.Table.{action_of, at_threshold, from_mark, from_up_by, goes, lost_try, next_of, on_others, on_own_hard_by, on_own_soft_by, same_server, unless_worn}
 use Rattle.tko_steps.specs.Runs.{Step}
+use Rattle.tko_steps.proofs.CoreLemmas.{IsCore-after_act, knows_at}
+use Rattle.tko_steps.proofs.RunLemmas.{Holds-run}
 
 -- a thread without a call takes no steps
 pub steps_to_answer-none : (most : ℕ) (core : CoreState) (thread : ℕ) → has_call (thread_at core thread) ≡ false
@@ -63,13 +85,154 @@ run-most p all thread k high is =
 
 -- The most steps of a run line are enough.
 
--- a step of a thread that is there ends its call
-answered-inside : (core : CoreState) (thread : ℕ) (state : ThreadState) → thread < length core.threads
-    → has_call state ≡ true → has_call (thread_at (after_step_from core thread state) thread) ≡ false
-answered-inside core thread NotEnrolled low calls = cc
-answered-inside core thread (Idle number) low calls = cc
-answered-inside core thread (InCall number op server) low calls =
-    ap has_call (get_or-set_same core.threads thread (Idle number) NotEnrolled low)
+-- how many steps of its try a call at this phase has taken, or at least so many
+abbrev depth : Phase → ℕ
+depth Start = 0
+depth (Read found mark answer) = 1
+depth (AtThreshold found) = 1
+depth (Limit found) = 2
+depth (Reserving found slots) = 2
+depth (Holding found) = 3
+depth Firming = 4
+depth Losing = 4
+depth (Loosening found mark answer) = 1
+depth (Loosened found mark answer) = 2
+depth (Emptied answer) = 3
+
+-- at most so many steps are left of a call
+abbrev left_of : Settings → ThreadState → ℕ
+left_of s NotEnrolled = 0
+left_of s (Idle number) = 0
+left_of s (InCall call phase) = 5 * (s.tries - call.lost) - depth phase
+
+module _ (s : Settings) (call : Call) (left : call.lost < s.tries) where
+  -- what follows a step leaves fewer
+  abbrev IsNearer : ℕ → Decision → Type 0
+  IsNearer before decision = left_of s (state_after call decision) < before
+
+  nearer-lost : (before : ℕ) → 5 * (s.tries - call.lost) < before + 5 → IsNearer before (lost_try s call)
+  nearer-lost before less =
+      cond_both (eqb s.tries (call.lost + 1)) (Answers Contended) (Goes (call.lost + 1) Start) (IsNearer before)
+      (λ e. omega (arith, left, less))
+      (λ e. omega (arith, left, less))
+
+  nearer-won : (before : ℕ) (won : Bool) (wins : Decision) → IsNearer before wins → 5 * (s.tries - call.lost) < before + 5
+      → IsNearer before (cond won wins (lost_try s call))
+  nearer-won before won wins near less =
+      cond_both won wins (lost_try s call) (IsNearer before) (λ e. near) (λ e. nearer-lost before less)
+
+  -- what follows the look that begins a try
+  abbrev IsBegun : Decision → Type 0
+  IsBegun decision = IsNearer (5 * (s.tries - call.lost)) decision
+
+  begun-answers : (answer : Reply) → IsBegun (Answers answer)
+  begun-answers answer = omega (arith, left)
+
+  begun-goes : (phase : Phase) → 1 ≤ depth phase → IsBegun (goes call phase)
+  begun-goes phase low = omega (arith, left, low)
+
+  begun-unless_worn : (found : ServerState) (following : Decision) → IsBegun following → IsBegun (unless_worn found following)
+  begun-unless_worn found following begun =
+      cond_both (leb worn found.stamp) (Answers reply.Worn) following IsBegun (λ e. begun-answers reply.Worn) (λ e. begun)
+
+  begun-from_up : (op : Op) (found : ServerState) (count : ℕ) → IsBegun (from_up_by op s call found count)
+  begun-from_up LookUp found count = begun-answers (reply.Up count)
+  begun-from_up SoftFailure found count =
+      let counts : Phase = Read found (Up (count + 1)) (reply.Counted (count + 1)) in
+      begun-unless_worn found _
+      (cond_both (ltb (count + 1) s.failures) (goes call counts) (goes call (AtThreshold found)) IsBegun
+      (λ e. begun-goes counts (omega arith))
+      (λ e. begun-goes (AtThreshold found) (omega arith)))
+  begun-from_up HardFailure found count =
+      begun-unless_worn found _ (begun-goes (Read found (Hard call.number) reply.TookHard) (omega arith))
+  begun-from_up Success found count =
+      let resets : Phase = Read found (Up 0) (reply.Reset count) in
+      cond_both (eqb count 0) (Answers reply.Clean) (unless_worn found (goes call resets)) IsBegun
+      (λ e. begun-answers reply.Clean)
+      (λ e. begun-unless_worn found _ (begun-goes resets (omega arith)))
+  begun-from_up Release found count = begun-answers (reply.NotMine found.mark)
+
+  begun-own_soft : (op : Op) (found : ServerState) → IsBegun (on_own_soft_by op call found)
+  begun-own_soft LookUp found = begun-answers (reply.Marked found.mark)
+  begun-own_soft SoftFailure found = begun-answers (reply.Already found.mark)
+  begun-own_soft HardFailure found = begun-goes (Loosening found (Hard call.number) reply.Hardened) (omega arith)
+  begun-own_soft Success found = begun-goes (Loosening found (Up 0) (reply.Unmarked found.mark)) (omega arith)
+  begun-own_soft Release found = begun-goes (Loosening found (Up 0) (reply.Released found.mark)) (omega arith)
+
+  begun-own_hard : (op : Op) (found : ServerState) → IsBegun (on_own_hard_by op call found)
+  begun-own_hard LookUp found = begun-answers (reply.Marked found.mark)
+  begun-own_hard SoftFailure found = begun-answers (reply.Already found.mark)
+  begun-own_hard HardFailure found = begun-answers (reply.Already found.mark)
+  begun-own_hard Success found = begun-goes (Read found (Up 0) (reply.Unmarked found.mark)) (omega arith)
+  begun-own_hard Release found = begun-goes (Read found (Up 0) (reply.Released found.mark)) (omega arith)
+
+  begun-from_mark : (mark : Mark) (found : ServerState) → IsBegun (from_mark mark s call found)
+  begun-from_mark (Up count) found = begun-from_up call.op found count
+  begun-from_mark (Soft owner) found =
+      cond_both (eqb owner call.number) (on_own_soft_by call.op call found) (Answers (on_others call.op found.mark)) IsBegun
+      (λ e. begun-own_soft call.op found)
+      (λ e. begun-answers (on_others call.op found.mark))
+  begun-from_mark (Hard owner) found =
+      cond_both (eqb owner call.number) (on_own_hard_by call.op call found) (Answers (on_others call.op found.mark)) IsBegun
+      (λ e. begun-own_hard call.op found)
+      (λ e. begun-answers (on_others call.op found.mark))
+
+  nearer-at_threshold : (found : ServerState) (slots : Slots)
+      → IsNearer (5 * (s.tries - call.lost) - 1) (at_threshold s call found slots)
+  nearer-at_threshold found slots =
+      let before = 5 * (s.tries - call.lost) - 1 in
+      let full = eqb (slots.firm + slots.held) s.limit in
+      cond_both (eqb slots.firm s.limit) (goes call (Limit found)) (cond full (lost_try s call) (goes call (Reserving found slots))) (IsNearer before)
+      (λ e. omega (arith, left))
+      (λ e. cond_both full (lost_try s call) (goes call (Reserving found slots)) (IsNearer before)
+      (λ none. nearer-lost before (omega (arith, left)))
+      (λ room. omega (arith, left)))
+
+  -- each step of a call leaves fewer
+  nearer : (shared : Shared) (phase : Phase)
+      → IsNearer (5 * (s.tries - call.lost) - depth phase) (next_of s call phase (seen_by shared call.server (action_of call.number phase)))
+  nearer shared Start =
+      let found = server_at shared.servers call.server in
+      let all : 5 * (s.tries - call.lost) ≡ 5 * (s.tries - call.lost) - 0 = omega arith in
+      let P : ℕ → Type 0 = λ before. IsNearer before (from_mark found.mark s call found) in
+      subst P all (begun-from_mark found.mark found)
+  nearer shared (Read found mark answer) =
+      nearer-won _ (wins shared call.server (Exchange found mark)) (Answers answer) (omega (arith, left)) (omega (arith, left))
+  nearer shared (AtThreshold found) = nearer-at_threshold found shared.slots
+  nearer shared (Limit found) =
+      nearer-won _ (same_server found (server_at shared.servers call.server)) (Answers reply.Full) (omega (arith, left)) (omega (arith, left))
+  nearer shared (Reserving found slots) =
+      nearer-won _ (wins shared call.server (Reserve slots)) (goes call (Holding found)) (omega (arith, left)) (omega (arith, left))
+  nearer shared (Holding found) =
+      let before = 5 * (s.tries - call.lost) - 3 in
+      cond_both (wins shared call.server (Exchange found (Soft call.number))) (goes call Firming) (goes call Losing) (IsNearer before)
+      (λ e. omega (arith, left)) (λ e. omega (arith, left))
+  nearer shared Firming = omega (arith, left)
+  nearer shared Losing = nearer-lost _ (omega (arith, left))
+  nearer shared (Loosening found mark answer) = omega (arith, left)
+  nearer shared (Loosened found mark answer) = omega (arith, left)
+  nearer shared (Emptied answer) = omega (arith, left)
+
+  -- a call has a step left, and no more than five for each try
+  some-left : (phase : Phase) → 1 ≤ left_of s (InCall call phase)
+  some-left Start = omega (arith, left)
+  some-left (Read found mark answer) = omega (arith, left)
+  some-left (AtThreshold found) = omega (arith, left)
+  some-left (Limit found) = omega (arith, left)
+  some-left (Reserving found slots) = omega (arith, left)
+  some-left (Holding found) = omega (arith, left)
+  some-left Firming = omega (arith, left)
+  some-left Losing = omega (arith, left)
+  some-left (Loosening found mark answer) = omega (arith, left)
+  some-left (Loosened found mark answer) = omega (arith, left)
+  some-left (Emptied answer) = omega (arith, left)
+
+most-left : (s : Settings) (state : ThreadState) → IsWithinRanges s → left_of s state ≤ max_steps
+most-left s NotEnrolled ranges = omega arith
+most-left s (Idle number) ranges = omega arith
+most-left s (InCall call phase) ranges = omega (arith, ranges.tries.1)
+
+-- A thread that takes steps until its call is answered.
 
 -- a thread that is not there has no call
 is_inside : (core : CoreState) (thread : ℕ) → has_call (thread_at core thread) ≡ true
@@ -80,32 +243,81 @@ is_inside core thread calls (inr high) =
     ap has_call (get_or_past core.threads thread NotEnrolled high) in
     cc
 
--- a step of a thread with a call ends it
-answered-step : (core : CoreState) (thread : ℕ) → has_call (thread_at core thread) ≡ true
-    → has_call (thread_at (after_step core thread) thread) ≡ false
-answered-step core thread calls =
+-- a step of a thread with a call keeps the core's invariant, and leaves fewer steps
+record IsAhead (core new : CoreState) (thread : ℕ) : Type 0 where
+  is : IsCore new
+  settings : new.settings ≡ core.settings
+  fewer : left_of core.settings (thread_at new thread) < left_of core.settings (thread_at core thread)
+
+ahead-from : (core : CoreState) (thread : ℕ) (state : ThreadState) → IsCore core → thread < length core.threads
+    → thread_at core thread ≡ state → has_call state ≡ true → IsAhead core (after_step_from core thread state) thread
+ahead-from core thread NotEnrolled is inside stands calls = cc
+ahead-from core thread (Idle number) is inside stands calls = cc
+ahead-from core thread (InCall call phase) is inside stands calls =
+    let tries = (knows_at core thread call is inside phase stands).1 in
+    let new = state_after call (follows core call phase) in
+    let there : thread_at (after_act core thread call phase) thread ≡ new =
+    get_or-set_same core.threads thread new NotEnrolled inside in
+    record {
+      is = IsCore-after_act core thread call is inside phase stands;
+      settings = refl;
+      fewer = rw (there, stands) (nearer core.settings call tries core.shared phase);
+    }
+
+ahead : (core : CoreState) (thread : ℕ) → IsCore core → has_call (thread_at core thread) ≡ true
+    → IsAhead core (after_step core thread) thread
+ahead core thread is calls =
     let low = is_inside core thread calls (cases_lt thread (length core.threads)) in
     let P : Bool → Type 0 = λ test.
-    has_call (thread_at (cond test (after_step_from core thread (thread_at core thread)) core) thread) ≡ false in
-    subst P (sym (lt-ltb thread (length core.threads) low)) (answered-inside core thread (thread_at core thread) low calls)
+    IsAhead core (cond test (after_step_from core thread (thread_at core thread)) core) thread in
+    subst P (sym (lt-ltb thread (length core.threads) low))
+    (ahead-from core thread (thread_at core thread) is low refl calls)
 
--- after a run line its thread has no call
-answered-run : (p : Played) (thread most : ℕ)
-    → has_call (thread_at (after_all p (replicate (steps_to_answer (suc most) p.core thread) (Step thread))).core thread) ≡ false
-answered-run p thread most =
-    let P : ℕ → Type 0 = λ n. has_call (thread_at (after_all p (replicate n (Step thread))).core thread) ≡ false in
-    elim (cases_Bool (has_call (thread_at p.core thread))) [
+-- a thread with no step left has no call
+none-left : (core : CoreState) (thread : ℕ) (state : ThreadState) → IsCore core → thread_at core thread ≡ state
+    → left_of core.settings state ≤ 0 → has_call state ≡ false
+none-left core thread NotEnrolled is stands none = refl
+none-left core thread (Idle number) is stands none = refl
+none-left core thread (InCall call phase) is stands none =
+    let inside = is_inside core thread (ap has_call stands) (cases_lt thread (length core.threads)) in
+    let tries = (knows_at core thread call is inside phase stands).1 in
+    absurd (omega (arith, none, some-left core.settings call tries phase))
+
+-- a core after so many steps of a thread
+after_steps : ℕ → CoreState → ℕ → CoreState
+after_steps zero core thread = core
+after_steps (suc n) core thread = after_steps n (after_step core thread) thread
+
+core-after_all : (p : Played) (thread n : ℕ) → (after_all p (replicate n (Step thread))).core ≡ after_steps n p.core thread
+unfolding after_steps
+core-after_all p thread zero = refl
+core-after_all p thread (suc n) = core-after_all (after_turn p (Step thread)) thread n
+
+answered-steps : (most : ℕ) (core : CoreState) (thread : ℕ) → IsCore core → left_of core.settings (thread_at core thread) ≤ most
+    → has_call (thread_at (after_steps (steps_to_answer most core thread) core thread) thread) ≡ false
+unfolding steps_to_answer after_steps
+answered-steps zero core thread is few = none-left core thread (thread_at core thread) is refl few
+answered-steps (suc most) core thread is few =
+    let P : ℕ → Type 0 = λ n. has_call (thread_at (after_steps n core thread) thread) ≡ false in
+    elim (cases_Bool (has_call (thread_at core thread))) [
       | inl calls ↦
-          let none = answered-step p.core thread calls in
-          let one = steps_to_answer-more most p.core thread calls
-          ∙ ap suc (steps_to_answer-none most (after_step p.core thread) thread none) in
-          subst P (sym one) none
-      | inr none ↦ subst P (sym (steps_to_answer-none (suc most) p.core thread none)) none
+          let new = after_step core thread in
+          let on = ahead core thread is calls in
+          let fewer : left_of new.settings (thread_at new thread) ≤ most =
+          subst (λ s. left_of s (thread_at new thread) ≤ most) (sym on.settings) (omega (arith, on.fewer, few)) in
+          subst P (sym (steps_to_answer-more most core thread calls)) (answered-steps most new thread on.is fewer)
+      | inr none ↦ subst P (sym (steps_to_answer-none (suc most) core thread none)) none
     ]
 
-pub runs_to_answers : (plan : Plan) → RunsToAnswers plan
-runs_to_answers plan before others thread split =
+pub runs_to_answers : (plan : Plan) → IsWithinRanges plan.settings → RunsToAnswers plan
+runs_to_answers plan ranges before others thread split =
     let opened = enrolled plan.settings in
-    let most : max_steps ≡ suc 4999 = refl in
+    let p = after_commands opened before in
+    let is = IsRun-played plan.settings before in
+    let holds = Holds-run plan.settings ranges is.turns in
+    let core : IsCore p.core = subst IsCore (sym is.core) holds.core in
+    let n = steps_to_answer max_steps p.core thread in
+    let P : CoreState → Type 0 = λ it. has_call (thread_at it thread) ≡ false in
     ap (λ (p : Played). has_call (thread_at p.core thread)) (after_commands-push opened before (command.Run thread))
-    ∙ answered-run (after_commands opened before) thread 4999
+    ∙ subst P (sym (core-after_all p thread n))
+    (answered-steps max_steps p.core thread core (most-left p.core.settings (thread_at p.core thread) core.settings))

@@ -6,12 +6,12 @@ use Rattle.std.proofs.Math.Seq.{get_or-append_seam, set-append_seam}
 use Rattle.tko_model.specs.declared.mark.Op.{Op}
 use Rattle.tko_model.specs.declared.mark.Reply.{Reply}
 use Rattle.tko_model.specs.declared.settings.Settings.{Settings}
-use Rattle.tko_runs.specs.declared.judging.OwnCall.{OwnCall}
-use Rattle.tko_runs.specs.Claims.{answered}
-use Rattle.tko_runs.specs.Dockets.{AreKept, IsLatest, latest_place}
-use Rattle.tko_runs.specs.Sights.{IsKept}
-use Rattle.tko_steps.specs.declared.thread.ThreadState.{ThreadState}
-use Rattle.tko_steps.specs.declared.thread.ThreadState.TheVariants.{NotEnrolled, Idle, InCall}
+use Rattle.tko_runs.specs.declared.checking.point.CheckedCall.{CheckedCall}
+use Rattle.tko_runs.specs.declared.run.state.ThreadEntry.{ThreadEntry}
+use Rattle.tko_runs.specs.declared.run.state.ThreadEntry.TheVariants.{NotEnrolled, Idle, InCall}
+use Rattle.tko_runs.specs.States.{answered}
+use Rattle.tko_runs.specs.CheckStates.{AreKept, IsLatest, latest_place}
+use Rattle.tko_runs.specs.Effects.{IsKept}
 use Rattle.tko_steps.specs.Runs.{Call, OwnStep, and_step, begun_call, with_step}
 
 -- Lists that are read from both ends.
@@ -44,14 +44,14 @@ get_reversed xs newer older x y place split at_end =
 
 -- What is kept.
 
-pub length-AreKept : (s : Settings) (calls : List Call) (kept : List OwnCall) → AreKept s calls kept
+pub length-AreKept : (s : Settings) (calls : List Call) (kept : List CheckedCall) → AreKept s calls kept
     → length calls ≡ length kept
 length-AreKept s [] [] all = refl
 length-AreKept s [] (own ∷ kept) all = absurd all
 length-AreKept s (call ∷ calls) [] all = absurd all
 length-AreKept s (call ∷ calls) (own ∷ kept) all = ap suc (length-AreKept s calls kept all.1)
 
-AreKept-append : (s : Settings) (calls others : List Call) (kept rest : List OwnCall) → AreKept s calls kept
+AreKept-append : (s : Settings) (calls others : List Call) (kept rest : List CheckedCall) → AreKept s calls kept
     → AreKept s others rest → AreKept s (calls ++ others) (kept ++ rest)
 AreKept-append s [] others [] rest all more = more
 AreKept-append s [] others (own ∷ kept) rest all more = absurd all
@@ -59,7 +59,7 @@ AreKept-append s (call ∷ calls) others [] rest all more = absurd all
 AreKept-append s (call ∷ calls) others (own ∷ kept) rest all more =
     (all.0, AreKept-append s calls others kept rest all.1 more)
 
-pub AreKept-reverse : (s : Settings) (calls : List Call) (kept : List OwnCall) → AreKept s calls kept
+pub AreKept-reverse : (s : Settings) (calls : List Call) (kept : List CheckedCall) → AreKept s calls kept
     → AreKept s (reverse calls) (reverse kept)
 AreKept-reverse s [] [] all = tt
 AreKept-reverse s [] (own ∷ kept) all = absurd all
@@ -71,18 +71,18 @@ AreKept-reverse s (call ∷ calls) (own ∷ kept) all =
 -- The latest call of a thread.
 
 -- where it stands, and what one more step of it makes of the calls
-pub record HasLatest (s : Settings) (calls : List Call) (kept : List OwnCall) (thread place : ℕ) : Type 0 where
+pub record HasLatest (s : Settings) (calls : List Call) (kept : List CheckedCall) (thread place : ℕ) : Type 0 where
   pub call : Call
-  pub own : OwnCall
-  pub newer : List OwnCall
-  pub older : List OwnCall
+  pub own : CheckedCall
+  pub newer : List CheckedCall
+  pub older : List CheckedCall
   pub split : kept ≡ newer ++ own ∷ older
   pub place_is : place ≡ length older
   pub is_kept : IsKept s call own
-  pub next : (step : OwnStep) (now : OwnCall) → step.step.thread ≡ thread → IsKept s (and_step call step) now
+  pub next : (step : OwnStep) (now : CheckedCall) → step.step.thread ≡ thread → IsKept s (and_step call step) now
       → AreKept s (with_step step calls) (newer ++ now ∷ older)
 
-has_latest_either : (s : Settings) (call : Call) (calls : List Call) (own : OwnCall) (kept : List OwnCall) (thread place : ℕ)
+has_latest_either : (s : Settings) (call : Call) (calls : List Call) (own : CheckedCall) (kept : List CheckedCall) (thread place : ℕ)
     (test : Bool) → eqb call.thread thread ≡ test → IsKept s call own → AreKept s calls kept
     → (latest_place thread calls ≡ Some place → HasLatest s calls kept thread place)
     → cond test (Some (length calls)) (latest_place thread calls) ≡ Some place
@@ -112,7 +112,7 @@ has_latest_either s call calls own kept thread place false mine keeps all others
       next = λ step now same is. rw (ap (eqb call.thread) same ∙ mine) (keeps, rest.next step now same is);
     }
 
-pub has_latest : (s : Settings) (calls : List Call) (kept : List OwnCall) (thread place : ℕ) → AreKept s calls kept
+pub has_latest : (s : Settings) (calls : List Call) (kept : List CheckedCall) (thread place : ℕ) → AreKept s calls kept
     → latest_place thread calls ≡ Some place → HasLatest s calls kept thread place
 has_latest s [] kept thread place all found = cc
 has_latest s (call ∷ calls) [] thread place all found = absurd all
@@ -160,12 +160,12 @@ with_step-no_call own (call ∷ calls) none =
 
 -- Where the threads stand.
 
-abbrev pub AllLatest : List ThreadState → List Call → List ℕ → Type 0
+abbrev pub AllLatest : List ThreadEntry → List Call → List ℕ → Type 0
 AllLatest threads calls places =
     (thread : ℕ) → IsLatest (get_or threads thread NotEnrolled) (latest_place thread calls) (get_or places thread 0)
 
 -- a thread stands elsewhere, and has the same latest call
-pub AllLatest-set : (threads : List ThreadState) (thread : ℕ) (new : ThreadState) (calls others : List Call) (places : List ℕ)
+pub AllLatest-set : (threads : List ThreadEntry) (thread : ℕ) (new : ThreadEntry) (calls others : List Call) (places : List ℕ)
     → thread < length threads → ((other : ℕ) → latest_place other others ≡ latest_place other calls)
     → IsLatest new (latest_place thread calls) (get_or places thread 0)
     → AllLatest threads calls places → AllLatest (set threads thread new) others places
@@ -180,7 +180,7 @@ AllLatest-set threads thread new calls others places inside same stands all othe
     (cases_eq other thread)
 
 -- a thread began a call
-pub AllLatest-begun : (threads : List ThreadState) (thread number : ℕ) (op : Op) (server : ℕ) (new : ThreadState)
+pub AllLatest-begun : (threads : List ThreadEntry) (thread number : ℕ) (op : Op) (server : ℕ) (new : ThreadEntry)
     (calls : List Call) (places : List ℕ)
     → thread < length threads → thread < length places → IsLatest new (Some (length calls)) (length calls)
     → AllLatest threads calls places
@@ -200,9 +200,9 @@ AllLatest-begun threads thread number op server new calls places inside is_place
     (cases_eq other thread)
 
 -- an answer ends a call, and changes nothing else
-pub IsLatest-answered : (answer : Option Reply) (state : ThreadState) (found : Option ℕ) (place : ℕ)
+pub IsLatest-answered : (answer : Option Reply) (state : ThreadEntry) (found : Option ℕ) (place : ℕ)
     → IsLatest state found place → IsLatest (answered answer state) found place
 IsLatest-answered None state found place is = is
 IsLatest-answered (Some reply) NotEnrolled found place is = is
 IsLatest-answered (Some reply) (Idle number) found place is = tt
-IsLatest-answered (Some reply) (InCall number op server) found place is = tt
+IsLatest-answered (Some reply) (InCall number) found place is = tt

@@ -4,8 +4,8 @@ use Rattle.std.specs.Prelude.{is_none, nat_lt}
 use Rattle.std.specs.List.{filter_map, position_or_len}
 use Rattle.std.proofs.lemmas.Bool.{cond-true, cond-false, lt-ltb, le-ltb}
 use Rattle.tko_bytes.specs.Lines.{lines_of}
-use Rattle.tko_runs.specs.declared.command.Command.{Command}
-use Rattle.tko_runs.specs.declared.fault.ScheduleFault.TheVariants as fault
+use Rattle.tko_runs.specs.declared.schedule.command.Command.{Command}
+use Rattle.tko_runs.specs.declared.schedule.fault.ScheduleFault.TheVariants as fault
 use Rattle.tko_runs.specs.Limits.{header_lines, max_commands}
 use Rattle.tko_runs.specs.Schedules.{bad_place, command_line, commands_of}
 

@@ -1,44 +1,47 @@
 -- Events that are claimed, one more at the end.
-use Rattle.std.proofs.Common.{◌≡◌, ◌+◌, ◌≤◌, List, [], ◌∷◌, ◌++◌, length, refl, arith}
+use Rattle.std.proofs.Common.{◌≡◌, ◌+◌, ◌≤◌, Bool, true, false, cond, List, [], ◌∷◌, ◌++◌, length, refl, arith}
 use Rattle.tko_model.specs.declared.settings.Settings.{Settings}
-use Rattle.tko_runs.specs.declared.event.Event.{Event}
-use Rattle.tko_runs.specs.declared.event.Event.TheVariants.{Begin, Step}
-use Rattle.tko_runs.specs.Claims.{claimed, world_after, world_after_all}
+use Rattle.tko_runs.specs.declared.run.event.Event.{Event}
+use Rattle.tko_runs.specs.declared.run.event.Event.TheVariants.{Begin, Step}
+use Rattle.tko_runs.specs.States.{Claimed, claimed, claimed_after, claimed_after_all, opened_claim, opened_state}
 use Rattle.tko_runs.specs.Orders.{AllFollow, Follows}
-use Rattle.tko_steps.specs.declared.step.Kind.TheVariants.{Enrol, Whole}
-use Rattle.tko_steps.specs.Core.{opened_core}
-use Rattle.tko_steps.specs.Runs.{World, start, steps_in}
+use Rattle.tko_steps.specs.Core.{is_call_step}
+use Rattle.tko_steps.specs.Runs.{steps_in}
 
-pub world_after_all-push : (w : World) (events : List Event) (event : Event)
-    → world_after_all w (events ++ event ∷ []) ≡ world_after (world_after_all w events) event
-world_after_all-push w [] event = refl
-world_after_all-push w (first ∷ events) event = world_after_all-push (world_after w first) events event
+pub claimed_after_all-push : (claim : Claimed) (events : List Event) (event : Event)
+    → claimed_after_all claim (events ++ event ∷ []) ≡ claimed_after (claimed_after_all claim events) event
+claimed_after_all-push claim [] event = refl
+claimed_after_all-push claim (first ∷ events) event = claimed_after_all-push (claimed_after claim first) events event
 
 pub claimed-push : (s : Settings) (events : List Event) (event : Event)
-    → claimed s (events ++ event ∷ []) ≡ world_after (claimed s events) event
+    → claimed s (events ++ event ∷ []) ≡ claimed_after (claimed s events) event
 unfolding claimed
-claimed-push s events event = world_after_all-push (start s) events event
+claimed-push s events event = claimed_after_all-push (opened_claim s) events event
 
-pub AllFollow-push : (s : Settings) (w : World) (events : List Event) (event : Event) → AllFollow s w.core events
-    → Follows s (world_after_all w events).core event → AllFollow s w.core (events ++ event ∷ [])
-AllFollow-push s w [] event all next = (next, tt)
-AllFollow-push s w (first ∷ events) event all next =
-    (all.0, AllFollow-push s (world_after w first) events event all.1 next)
+pub AllFollow-push : (s : Settings) (claim : Claimed) (events : List Event) (event : Event) → AllFollow s claim.state events
+    → Follows s (claimed_after_all claim events).state event → AllFollow s claim.state (events ++ event ∷ [])
+AllFollow-push s claim [] event all next = (next, tt)
+AllFollow-push s claim (first ∷ events) event all next =
+    (all.0, AllFollow-push s (claimed_after claim first) events event all.1 next)
 
-pub AllFollow-claimed_push : (s : Settings) (events : List Event) (event : Event) → AllFollow s (opened_core s) events
-    → Follows s (claimed s events).core event → AllFollow s (opened_core s) (events ++ event ∷ [])
+pub AllFollow-claimed_push : (s : Settings) (events : List Event) (event : Event) → AllFollow s (opened_state s) events
+    → Follows s (claimed s events).state event → AllFollow s (opened_state s) (events ++ event ∷ [])
 unfolding claimed
-AllFollow-claimed_push s events event all next = AllFollow-push s (start s) events event all next
+AllFollow-claimed_push s events event all next = AllFollow-push s (opened_claim s) events event all next
 
-steps_in-le : (w : World) (events : List Event) → steps_in (world_after_all w events).past ≤ steps_in w.past + length events
-steps_in-le w [] = omega arith
-steps_in-le w (Begin thread op server ∷ events) =
-    omega (arith, steps_in-le (world_after w (Begin thread op server)) events)
-steps_in-le w (Step thread Enrol at found left answer ∷ events) =
-    omega (arith, steps_in-le (world_after w (Step thread Enrol at found left answer)) events)
-steps_in-le w (Step thread Whole at found left answer ∷ events) =
-    omega (arith, steps_in-le (world_after w (Step thread Whole at found left answer)) events)
+-- an event is at most one step of a call
+pub count_of-le : (test : Bool) → cond test 1 0 ≤ 1
+count_of-le true = omega arith
+count_of-le false = omega arith
+
+steps_in-le : (claim : Claimed) (events : List Event)
+    → steps_in (claimed_after_all claim events).past ≤ steps_in claim.past + length events
+steps_in-le claim [] = omega arith
+steps_in-le claim (Begin thread op server ∷ events) =
+    omega (arith, steps_in-le (claimed_after claim (Begin thread op server)) events)
+steps_in-le claim (Step thread kind at found left answer ∷ events) =
+    omega (arith, count_of-le (is_call_step kind), steps_in-le (claimed_after claim (Step thread kind at found left answer)) events)
 
 pub steps_in-claimed : (s : Settings) (events : List Event) → steps_in (claimed s events).past ≤ length events
 unfolding claimed
-steps_in-claimed s events = omega (arith, steps_in-le (start s) events)
+steps_in-claimed s events = omega (arith, steps_in-le (opened_claim s) events)

@@ -2,28 +2,27 @@
 use Rattle.std.proofs.Common.{◌≡◌, ℕ, List, [], ◌∷◌, ◌++◌, All, refl, subst}
 use Rattle.std.proofs.lemmas.List.Elements.{All-head, All-tail}
 use Rattle.tko_model.specs.declared.settings.Settings.{Settings}
-use Rattle.tko_runs.specs.declared.event.Event.{Event}
+use Rattle.tko_runs.specs.declared.run.event.Event.{Event}
 use Rattle.tko_runs.specs.declared.checking.RunFault.{RunFault}
 use Rattle.tko_runs.specs.declared.checking.RunFault.TheVariants as fault
-use Rattle.tko_runs.specs.Claims.{calls_in, claimed, world_after, world_after_all}
+use Rattle.tko_runs.specs.States.{Claimed, calls_in, claimed, claimed_after, claimed_after_all, opened_claim, opened_state}
 use Rattle.tko_runs.specs.Orders.{AllFollow, Follows, IsFirstIllegal, IsFirstStray, IsLegalRun, TellsRunFault}
-use Rattle.tko_runs.specs.Stories.{Story}
-use Rattle.tko_steps.specs.Core.{opened_core}
+use Rattle.tko_runs.specs.Runs.{RunData}
 use Rattle.tko_steps.specs.Legal.{IsLegal}
-use Rattle.tko_steps.specs.Runs.{Call, World, start}
+use Rattle.tko_steps.specs.Runs.{Call}
 
 -- in events that all follow, each follows where it stands
-follows_at : (s : Settings) (w : World) (before : List Event) (event : Event) (after : List Event)
-    → AllFollow s w.core (before ++ event ∷ after) → Follows s (world_after_all w before).core event
-follows_at s w [] event after follow = follow.0
-follows_at s w (first ∷ before) event after follow = follows_at s (world_after w first) before event after follow.1
+follows_at : (s : Settings) (claim : Claimed) (before : List Event) (event : Event) (after : List Event)
+    → AllFollow s claim.state (before ++ event ∷ after) → Follows s (claimed_after_all claim before).state event
+follows_at s claim [] event after follow = follow.0
+follows_at s claim (first ∷ before) event after follow = follows_at s (claimed_after claim first) before event after follow.1
 
-no_stray : (s : Settings) (events : List Event) (number : ℕ) → AllFollow s (opened_core s) events
+no_stray : (s : Settings) (events : List Event) (number : ℕ) → AllFollow s (opened_state s) events
     → IsFirstStray s events number → ⊥
 unfolding claimed
 no_stray s events number follow is =
-    let P : List Event → Type 0 = λ all. AllFollow s (opened_core s) all in
-    is.strays (follows_at s (start s) is.before is.stray is.after (subst P is.split follow))
+    let P : List Event → Type 0 = λ all. AllFollow s (opened_state s) all in
+    is.strays (follows_at s (opened_claim s) is.before is.stray is.after (subst P is.split follow))
 
 legal_at : (s : Settings) (before : List Call) (call : Call) (after : List Call)
     → All (IsLegal s) (before ++ call ∷ after) → IsLegal s call
@@ -36,8 +35,8 @@ no_illegal s calls number all is =
     let P : List Call → Type 0 = λ every. All (IsLegal s) every in
     is.not_legal (legal_at s is.before is.illegal is.after (subst P is.split all))
 
-pub memory_alone : (story : Story) (told : RunFault) → IsLegalRun story → TellsRunFault story told → told ≡ fault.Memory
-memory_alone story (fault.Step number) legal tells = absurd (no_stray story.settings story.events number legal.follow tells)
-memory_alone story (fault.Call number) legal tells =
-    absurd (no_illegal story.settings (calls_in story.settings story.events) number legal.legal tells.1)
-memory_alone story fault.Memory legal tells = refl
+pub memory_alone : (run : RunData) (told : RunFault) → IsLegalRun run → TellsRunFault run told → told ≡ fault.Memory
+memory_alone run (fault.Step number) legal tells = absurd (no_stray run.settings run.events number legal.follow tells)
+memory_alone run (fault.Call number) legal tells =
+    absurd (no_illegal run.settings (calls_in run.settings run.events) number legal.legal tells.1)
+memory_alone run fault.Memory legal tells = refl

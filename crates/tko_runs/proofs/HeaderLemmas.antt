@@ -5,8 +5,8 @@ use Rattle.std.proofs.lemmas.Bool.Decides.{nat_tests}
 use Rattle.tko_model.specs.declared.settings.Settings.{Settings}
 use Rattle.tko_model.specs.declared.settings.SettingsFault.TheVariants as range
 use Rattle.tko_model.specs.Ranges.{first_broken, first_fault, is_within, worn}
-use Rattle.tko_runs.specs.declared.fault.ScheduleFault.{ScheduleFault}
-use Rattle.tko_runs.specs.declared.fault.ScheduleFault.TheVariants as fault
+use Rattle.tko_runs.specs.declared.schedule.fault.ScheduleFault.{ScheduleFault}
+use Rattle.tko_runs.specs.declared.schedule.fault.ScheduleFault.TheVariants as fault
 use Rattle.tko_runs.specs.Headers.{HasHeaderLine, HasTitle, LacksHeaderLine, LacksTitle}
 use Rattle.tko_bytes.specs.Lines.{lines_of}
 use Rattle.tko_runs.specs.Schedules.{header}

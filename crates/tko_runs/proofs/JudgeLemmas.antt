@@ -1,75 +1,75 @@
--- What the standing of a call's steps says of the call.
+-- What the so_far of a call's steps says of the call.
 use Rattle.std.proofs.Common.{◌≡◌, ◌≢◌, ◌↔◌, ℕ, true, Bool, List, [], ◌∷◌, All, Option, Some, None, refl, sym, ap, ◌∙◌, subst, ◌+◌, ◌<◌, length, get_or, take, reverse}
 use Rattle.std.proofs.lemmas.List.{reverse-append, take_more}
 use Rattle.std.proofs.lemmas.List.Elements.{All-weaker}
 use Rattle.tko_model.specs.declared.mark.Reply.{Reply}
 use Rattle.tko_model.specs.declared.mark.Reply.TheVariants.{Contended}
 use Rattle.tko_model.specs.declared.settings.Settings.{Settings}
-use Rattle.tko_runs.specs.declared.judging.Standing.{Standing}
-use Rattle.tko_runs.specs.declared.judging.Standing.TheVariants.{Quiet, Changed}
-use Rattle.tko_runs.specs.declared.judging.Sight.{Sight}
-use Rattle.tko_runs.specs.declared.order.Placed.TheVariants as placed
+use Rattle.tko_runs.specs.declared.checking.point.PointSoFar.{PointSoFar}
+use Rattle.tko_runs.specs.declared.checking.point.PointSoFar.TheVariants.{Quiet, Changed}
+use Rattle.tko_runs.specs.declared.checking.effect.Effect.{Effect}
+use Rattle.tko_runs.specs.declared.checking.order.Point.TheVariants as point
 use Rattle.tko_runs.specs.Orders.{IsLastLegalAt}
-use Rattle.tko_runs.specs.Sights.{AreSights, IsSight, Judges}
-use Rattle.tko_runs.specs.Standings.{HasReply, IsEffective, MayHave, Stands}
+use Rattle.tko_runs.specs.Effects.{AreEffects, IsEffect, Judges}
+use Rattle.tko_runs.specs.Points.{HasReply, IsEffective, MayHave, IsSoFar}
 use Rattle.tko_steps.specs.Legal.{IsLegal, IsLegalAt, IsQuiet, TakesEffect}
 use Rattle.tko_steps.specs.Runs.{Call, OwnStep}
-use Rattle.tko_runs.proofs.StandingLemmas.{all_newer, all_others, all_own, all_with, no_step}
+use Rattle.tko_runs.proofs.PointLemmas.{all_newer, all_others, all_own, all_with, no_step}
 
 -- Steps with what they show.
 
 -- a step's effect answers the call where the call takes effect there
-pub effective : (s : Settings) (call : Call) (answer : Option Reply) (own : OwnStep) (sight : Sight) (test : Bool)
-    → call.answer ≡ answer → IsSight s call own sight → (test ≡ true) ↔ HasReply answer sight.effect
+pub effective : (s : Settings) (call : Call) (answer : Option Reply) (own : OwnStep) (effect : Effect) (test : Bool)
+    → call.answer ≡ answer → IsEffect s call own effect → (test ≡ true) ↔ HasReply answer effect.gives
     → (test ≡ true) ↔ IsEffective s call own
-effective s call answer own sight test same shows both = (
+effective s call answer own effect test same shows both = (
   λ e.
       let has = both.0 e in
       record {
         reply = has.reply;
         answers = subst (λ found. MayHave found has.reply) (sym same) has.answers;
-        effect = (shows.effect has.reply).0 has.is;
+        effect = (shows.gives has.reply).0 has.is;
       },
   λ effect.
       both.1 (record {
         reply = effect.reply;
         answers = subst (λ found. MayHave found effect.reply) same effect.answers;
-        is = (shows.effect effect.reply).1 effect.effect;
+        is = (shows.gives effect.reply).1 effect.effect;
       }),
 )
 
-pub no_sights : (s : Settings) (call : Call) (steps : List OwnStep) → AreSights s call steps []
-    → Stands s call steps (Quiet None)
-no_sights s call [] are = no_step s call
-no_sights s call (own ∷ older) are = absurd are
+pub no_effects : (s : Settings) (call : Call) (steps : List OwnStep) → AreEffects s call steps []
+    → IsSoFar s call steps (Quiet None)
+no_effects s call [] are = no_step s call
+no_effects s call (own ∷ older) are = absurd are
 
-one_more : (s : Settings) (call : Call) (sight : Sight) (sights : List Sight) (before after : Standing)
-    → ((steps : List OwnStep) → AreSights s call steps sights → Stands s call steps before)
-    → ((own : OwnStep) (older : List OwnStep) → IsSight s call own sight → Stands s call older before
-    → Stands s call (own ∷ older) after)
-    → (steps : List OwnStep) → AreSights s call steps (sight ∷ sights) → Stands s call steps after
-one_more s call sight sights before after so_far next [] are = absurd are
-one_more s call sight sights before after so_far next (own ∷ older) are =
+one_more : (s : Settings) (call : Call) (effect : Effect) (effects : List Effect) (before after : PointSoFar)
+    → ((steps : List OwnStep) → AreEffects s call steps effects → IsSoFar s call steps before)
+    → ((own : OwnStep) (older : List OwnStep) → IsEffect s call own effect → IsSoFar s call older before
+    → IsSoFar s call (own ∷ older) after)
+    → (steps : List OwnStep) → AreEffects s call steps (effect ∷ effects) → IsSoFar s call steps after
+one_more s call effect effects before after so_far next [] are = absurd are
+one_more s call effect effects before after so_far next (own ∷ older) are =
     next own older are.0 (so_far older are.1)
 
 -- the newest first, one more stands in front
-reverse_more : (sights : List Sight) (place : ℕ) (none : Sight) → place < length sights
-    → reverse (take (place + 1) sights) ≡ get_or sights place none ∷ reverse (take place sights)
-reverse_more sights place none inside =
-    ap reverse (take_more sights place none inside) ∙ reverse-append (take place sights) (get_or sights place none ∷ [])
+reverse_more : (effects : List Effect) (place : ℕ) (none : Effect) → place < length effects
+    → reverse (take (place + 1) effects) ≡ get_or effects place none ∷ reverse (take place effects)
+reverse_more effects place none inside =
+    ap reverse (take_more effects place none inside) ∙ reverse-append (take place effects) (get_or effects place none ∷ [])
 
-pub stands_more : (s : Settings) (call : Call) (sights given : List Sight) (place : ℕ) (none : Sight) (before after : Standing)
-    → given ≡ sights → place < length given
-    → ((steps : List OwnStep) → AreSights s call steps (reverse (take place sights)) → Stands s call steps before)
-    → ((own : OwnStep) (older : List OwnStep) → IsSight s call own (get_or given place none) → Stands s call older before
-    → Stands s call (own ∷ older) after)
-    → (steps : List OwnStep) → AreSights s call steps (reverse (take (place + 1) sights)) → Stands s call steps after
-stands_more s call sights given place none before after same inside so_far next steps are =
-    let within : place < length sights = subst (λ (items : List Sight). place < length items) same inside in
-    let one : get_or given place none ≡ get_or sights place none = ap (λ (items : List Sight). get_or items place none) same in
-    one_more s call (get_or sights place none) (reverse (take place sights)) before after so_far
-    (λ own older shows. next own older (subst (IsSight s call own) (sym one) shows)) steps
-    (subst (AreSights s call steps) (reverse_more sights place none within) are)
+pub so_far_more : (s : Settings) (call : Call) (effects given : List Effect) (place : ℕ) (none : Effect) (before after : PointSoFar)
+    → given ≡ effects → place < length given
+    → ((steps : List OwnStep) → AreEffects s call steps (reverse (take place effects)) → IsSoFar s call steps before)
+    → ((own : OwnStep) (older : List OwnStep) → IsEffect s call own (get_or given place none) → IsSoFar s call older before
+    → IsSoFar s call (own ∷ older) after)
+    → (steps : List OwnStep) → AreEffects s call steps (reverse (take (place + 1) effects)) → IsSoFar s call steps after
+so_far_more s call effects given place none before after same inside so_far next steps are =
+    let within : place < length effects = subst (λ (items : List Effect). place < length items) same inside in
+    let one : get_or given place none ≡ get_or effects place none = ap (λ (items : List Effect). get_or items place none) same in
+    one_more s call (get_or effects place none) (reverse (take place effects)) before after so_far
+    (λ own older shows. next own older (subst (IsEffect s call own) (sym one) shows)) steps
+    (subst (AreEffects s call steps) (reverse_more effects place none within) are)
 
 -- What that says of the call.
 
@@ -98,7 +98,7 @@ module _ (s : Settings) (call : Call) where
       }
 
   judges_at : (reply : Reply) (own : OwnStep) (number : ℕ) → call.answer ≡ Some reply → reply ≢ Contended
-      → IsLastLegalAt s call reply own → own.at ≡ number → Judges s call (Some (placed.At number))
+      → IsLastLegalAt s call reply own → own.at ≡ number → Judges s call (Some (point.At number))
   judges_at reply own number answer apart last at = (
     legal_answered reply own answer apart
         (record {
@@ -117,7 +117,7 @@ module _ (s : Settings) (call : Call) where
   not_legal_at reply other answer not legal = not (answered_effect reply other answer legal.effect)
 
   pub answered_quiet : (reply : Reply) (number : ℕ) → call.answer ≡ Some reply → reply ≢ Contended
-      → Stands s call call.steps (Quiet (Some number)) → Judges s call (Some (placed.At number))
+      → IsSoFar s call call.steps (Quiet (Some number)) → Judges s call (Some (point.At number))
   answered_quiet reply number answer apart stands =
       judges_at reply stands.own number answer apart
       (record {
@@ -139,7 +139,7 @@ module _ (s : Settings) (call : Call) where
       changed (subst P (sym legal.steps) (all_with IsQuiet legal.newer other legal.older legal.others quiet))
 
   pub answered_changed : (reply : Reply) (number : ℕ) → call.answer ≡ Some reply → reply ≢ Contended
-      → Stands s call call.steps (Changed (Some number)) → Judges s call (Some (placed.At number))
+      → IsSoFar s call call.steps (Changed (Some number)) → Judges s call (Some (point.At number))
   answered_changed reply number answer apart stands =
       judges_at reply stands.own number answer apart
       (record {
@@ -156,7 +156,7 @@ module _ (s : Settings) (call : Call) where
       stands.at
 
   pub answered_quiet_nowhere : (reply : Reply) → call.answer ≡ Some reply → reply ≢ Contended
-      → Stands s call call.steps (Quiet None) → Judges s call None
+      → IsSoFar s call call.steps (Quiet None) → Judges s call None
   answered_quiet_nowhere reply answer apart stands = λ legal.
       let at = legal.answered reply answer apart in
       let P : OwnStep → Type 0 = λ other. IsEffective s call other → ⊥ in

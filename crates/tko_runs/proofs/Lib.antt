@@ -1,10 +1,11 @@
+pub mod ActLemmas
 pub mod AnswerLemmas
-pub mod BecomeLemmas
 pub mod CallListLemmas
 pub mod CheckLemmas
+pub mod CheckStateLemmas
 pub mod ClaimLemmas
 pub mod CommandLemmas
-pub mod DocketLemmas
+pub mod EffectLemmas
 pub mod EventLemmas
 pub mod FaultLemmas
 pub mod HeaderLemmas
@@ -14,7 +15,6 @@ pub mod LinkLemmas
 pub mod OrderLemmas
 pub mod PlayLemmas
 pub mod PlayStepLemmas
+pub mod PointLemmas
 pub mod PrintLemmas
 pub mod ScheduleLemmas
-pub mod SightLemmas
-pub mod StandingLemmas

@@ -4,11 +4,11 @@ use Rattle.std.proofs.lemmas.List.{length-take-le, take-append-drop, take_more}
 use Rattle.std.proofs.Math.Seq.{drop-cons}
 use Rattle.std.proofs.lemmas.List.Elements.{All-append, All-cons, All-nil}
 use Rattle.tko_model.specs.declared.settings.Settings.{Settings}
-use Rattle.tko_runs.specs.declared.judging.OwnCall.{OwnCall}
-use Rattle.tko_runs.specs.declared.order.Placed.{Placed}
-use Rattle.tko_runs.specs.Dockets.{AreJudged, AreKept, IsIllegalAt}
+use Rattle.tko_runs.specs.declared.checking.point.CheckedCall.{CheckedCall}
+use Rattle.tko_runs.specs.declared.checking.order.Point.{Point}
+use Rattle.tko_runs.specs.CheckStates.{AreJudged, AreKept, IsIllegalAt}
 use Rattle.tko_runs.specs.Orders.{IsFirstIllegal, IsOrder}
-use Rattle.tko_runs.specs.Sights.{IsKept, Judges}
+use Rattle.tko_runs.specs.Effects.{IsKept, Judges}
 use Rattle.tko_steps.specs.Legal.{IsLegal}
 use Rattle.tko_steps.specs.Runs.{Call}
 use Rattle.tko_runs.proofs.CallListLemmas.{length-AreKept}
@@ -16,14 +16,14 @@ use Rattle.tko_runs.proofs.CallListLemmas.{length-AreKept}
 -- Calls.
 
 -- where what is kept splits, so do the calls
-record IsSplit (s : Settings) (calls : List Call) (kept rest : List OwnCall) : Type 0 where
+record IsSplit (s : Settings) (calls : List Call) (kept rest : List CheckedCall) : Type 0 where
   front : List Call
   back : List Call
   split : calls ≡ front ++ back
   kept_front : AreKept s front kept
   kept_back : AreKept s back rest
 
-AreKept-split : (s : Settings) (calls : List Call) (kept rest : List OwnCall) → AreKept s calls (kept ++ rest)
+AreKept-split : (s : Settings) (calls : List Call) (kept rest : List CheckedCall) → AreKept s calls (kept ++ rest)
     → IsSplit s calls kept rest
 AreKept-split s calls [] rest all =
     record { front = []; back = calls; split = refl; kept_front = tt; kept_back = all }
@@ -38,21 +38,21 @@ AreKept-split s (call ∷ calls) (own ∷ kept) rest all =
       kept_back = is.kept_back;
     }
 
-IsOrder-append : (s : Settings) (calls others : List Call) (places rest : List Placed) → IsOrder s calls places
-    → IsOrder s others rest → IsOrder s (calls ++ others) (places ++ rest)
+IsOrder-append : (s : Settings) (calls others : List Call) (points rest : List Point) → IsOrder s calls points
+    → IsOrder s others rest → IsOrder s (calls ++ others) (points ++ rest)
 IsOrder-append s [] others [] rest all more = more
-IsOrder-append s [] others (placed ∷ places) rest all more = absurd all
+IsOrder-append s [] others (point ∷ points) rest all more = absurd all
 IsOrder-append s (call ∷ calls) others [] rest all more = absurd all
-IsOrder-append s (call ∷ calls) others (placed ∷ places) rest all more =
-    (all.0, IsOrder-append s calls others places rest all.1 more)
+IsOrder-append s (call ∷ calls) others (point ∷ points) rest all more =
+    (all.0, IsOrder-append s calls others points rest all.1 more)
 
-legal_one : (s : Settings) (back : List Call) (own : OwnCall) (placed : Placed)
-    → ((of : Call) → IsKept s of own → Judges s of (Some placed)) → AreKept s back (own ∷ [])
-    → All (IsLegal s) back × IsOrder s back (placed ∷ [])
-legal_one s [] own placed judges all = absurd all
-legal_one s (call ∷ []) own placed judges all =
+legal_one : (s : Settings) (back : List Call) (own : CheckedCall) (point : Point)
+    → ((of : Call) → IsKept s of own → Judges s of (Some point)) → AreKept s back (own ∷ [])
+    → All (IsLegal s) back × IsOrder s back (point ∷ [])
+legal_one s [] own point judges all = absurd all
+legal_one s (call ∷ []) own point judges all =
     let both = judges call all.0 in (All-cons (IsLegal s) call [] both.0 (All-nil (IsLegal s)), (both.1, tt))
-legal_one s (call ∷ (other ∷ calls)) own placed judges all = absurd all.1
+legal_one s (call ∷ (other ∷ calls)) own point judges all = absurd all.1
 
 legal_none : (s : Settings) (calls : List Call) → AreKept s calls [] → All (IsLegal s) calls
 legal_none s [] all = All-nil (IsLegal s)
@@ -66,22 +66,22 @@ pub AreJudged-none : AreJudged [] []
 AreJudged-none = record { legal = λ s calls all. legal_none s calls all; order = λ s calls all. order_none s calls all }
 
 -- one more is judged
-pub AreJudged-more : (kept : List OwnCall) (places : List Placed) (own : OwnCall) (placed : Placed) → AreJudged kept places
-    → ((s : Settings) (of : Call) → IsKept s of own → Judges s of (Some placed))
-    → AreJudged (kept ++ own ∷ []) (places ++ placed ∷ [])
-AreJudged-more kept places own placed judged judges =
+pub AreJudged-more : (kept : List CheckedCall) (points : List Point) (own : CheckedCall) (point : Point) → AreJudged kept points
+    → ((s : Settings) (of : Call) → IsKept s of own → Judges s of (Some point))
+    → AreJudged (kept ++ own ∷ []) (points ++ point ∷ [])
+AreJudged-more kept points own point judged judges =
     record {
       legal = λ s calls all.
           let is = AreKept-split s calls kept (own ∷ []) all in
-          let last = legal_one s is.back own placed (judges s) is.kept_back in
+          let last = legal_one s is.back own point (judges s) is.kept_back in
           rw is.split (All-append (IsLegal s) is.front is.back (judged.legal s is.front is.kept_front) last.0);
       order = λ s calls all.
           let is = AreKept-split s calls kept (own ∷ []) all in
-          let last = legal_one s is.back own placed (judges s) is.kept_back in
-          rw is.split (IsOrder-append s is.front is.back places (placed ∷ []) (judged.order s is.front is.kept_front) last.1);
+          let last = legal_one s is.back own point (judges s) is.kept_back in
+          rw is.split (IsOrder-append s is.front is.back points (point ∷ []) (judged.order s is.front is.kept_front) last.1);
     }
 
-first_illegal : (s : Settings) (calls front back : List Call) (own : OwnCall) (rest : List OwnCall) (number : ℕ)
+first_illegal : (s : Settings) (calls front back : List Call) (own : CheckedCall) (rest : List CheckedCall) (number : ℕ)
     → calls ≡ front ++ back → AreKept s back (own ∷ rest) → ((of : Call) → IsKept s of own → IsLegal s of → ⊥)
     → All (IsLegal s) front → number ≡ length front + 1 → IsFirstIllegal s calls number
 first_illegal s calls front [] own rest number split all judges legal place = absurd all
@@ -97,10 +97,10 @@ first_illegal s calls front (call ∷ back) own rest number split all judges leg
     }
 
 -- one isn't legal
-pub IsIllegalAt-next : (kept : List OwnCall) (places : List Placed) (own : OwnCall) (rest : List OwnCall) (number : ℕ) → AreJudged kept places
+pub IsIllegalAt-next : (kept : List CheckedCall) (points : List Point) (own : CheckedCall) (rest : List CheckedCall) (number : ℕ) → AreJudged kept points
     → number ≡ length kept + 1
     → ((s : Settings) (of : Call) → IsKept s of own → IsLegal s of → ⊥) → IsIllegalAt (kept ++ own ∷ rest) number
-IsIllegalAt-next kept places own rest number judged place judges =
+IsIllegalAt-next kept points own rest number judged place judges =
     record {
       first = λ s calls all.
           let is = AreKept-split s calls kept (own ∷ rest) all in
@@ -117,20 +117,20 @@ around xs i x inside is =
     sym (take-append-drop i xs)
     ∙ (ap (λ back. take i xs ++ back) (drop-cons xs i x inside) ∙ ap (λ y. take i xs ++ y ∷ drop (suc i) xs) (sym is))
 
-pub AreJudged-step : (calls : List OwnCall) (i : ℕ) (places now : List Placed) (own : OwnCall) (placed : Placed) → i < length calls
-    → own ≡ get_or calls i own → AreJudged (take i calls) places
-    → ((s : Settings) (of : Call) → IsKept s of own → Judges s of (Some placed))
-    → now ≡ places ++ placed ∷ [] → AreJudged (take (i + 1) calls) now
-AreJudged-step calls i places now own placed inside is judged judges more =
+pub AreJudged-step : (calls : List CheckedCall) (i : ℕ) (points now : List Point) (own : CheckedCall) (point : Point) → i < length calls
+    → own ≡ get_or calls i own → AreJudged (take i calls) points
+    → ((s : Settings) (of : Call) → IsKept s of own → Judges s of (Some point))
+    → now ≡ points ++ point ∷ [] → AreJudged (take (i + 1) calls) now
+AreJudged-step calls i points now own point inside is judged judges more =
     let front : take (i + 1) calls ≡ take i calls ++ own ∷ [] =
     take_more calls i own inside ∙ ap (λ y. take i calls ++ y ∷ []) (sym is) in
-    rw (more, front) (AreJudged-more (take i calls) places own placed judged judges)
+    rw (more, front) (AreJudged-more (take i calls) points own point judged judges)
 
-pub IsIllegalAt-step : (calls : List OwnCall) (i : ℕ) (places : List Placed) (own : OwnCall) (number : ℕ) → i < length calls
-    → own ≡ get_or calls i own → AreJudged (take i calls) places → number ≡ i + 1
+pub IsIllegalAt-step : (calls : List CheckedCall) (i : ℕ) (points : List Point) (own : CheckedCall) (number : ℕ) → i < length calls
+    → own ≡ get_or calls i own → AreJudged (take i calls) points → number ≡ i + 1
     → ((s : Settings) (of : Call) → IsKept s of own → IsLegal s of → ⊥) → IsIllegalAt calls number
-IsIllegalAt-step calls i places own number inside is judged place judges =
-    let P : List OwnCall → Type 0 = λ list. IsIllegalAt list number in
+IsIllegalAt-step calls i points own number inside is judged place judges =
+    let P : List CheckedCall → Type 0 = λ list. IsIllegalAt list number in
     let front : length (take i calls) ≡ i = length-take-le i calls (omega arith) in
     subst P (sym (around calls i own inside is))
-    (IsIllegalAt-next (take i calls) places own (drop (suc i) calls) number judged (omega (arith, front, place)) judges)
+    (IsIllegalAt-next (take i calls) points own (drop (suc i) calls) number judged (omega (arith, front, place)) judges)

@@ -4,22 +4,22 @@ use Rattle.std.proofs.Math.Seq.{take-suc}
 use Rattle.std.proofs.lemmas.List.{get_or-reverse, length-reverse}
 use Rattle.tko_model.specs.declared.mark.Op.{Op}
 use Rattle.tko_model.specs.declared.settings.Settings.{Settings}
-use Rattle.tko_runs.specs.declared.command.Command.{Command}
-use Rattle.tko_runs.specs.declared.event.Event.{Event}
+use Rattle.tko_runs.specs.declared.schedule.command.Command.{Command}
+use Rattle.tko_runs.specs.declared.run.event.Event.{Event}
 use Rattle.tko_model.specs.Ranges.{IsWithinRanges}
-use Rattle.tko_runs.specs.Claims.{AllCome, IsStory, calls_in, claimed, opened_roll}
+use Rattle.tko_runs.specs.States.{AllCome, Claimed, IsRunData, calls_in, claimed, opened_state}
 use Rattle.tko_runs.specs.Orders.{AllFollow, IsLegalRun}
-use Rattle.tko_runs.specs.Plays.{Played, after_all, after_command, after_commands, after_turn, enrolled, enrolments, named_by, opened_play, played, story_of, turns_of, with_begin, with_event, with_note}
+use Rattle.tko_runs.specs.Plays.{Played, after_all, after_command, after_commands, after_turn, enrolled, enrolments, named_by, opened_play, played, run_data_of, turns_of, with_begin, with_event, with_skip}
 use Rattle.tko_runs.specs.Plays as plays
 use Rattle.tko_runs.specs.Schedules.{Plan}
-use Rattle.tko_runs.specs.Stories.{event_of, events_of}
-use Rattle.tko_runs.proofs.LinkLemmas.{IsLaw, Linked-run, events_of-none, events_of-push}
+use Rattle.tko_runs.specs.Runs.{event_of, events_of}
+use Rattle.tko_runs.proofs.LinkLemmas.{Linked-run, events_of-none, events_of-push}
 use Rattle.tko_steps.specs.declared.step.BeginFault.{BeginFault}
 use Rattle.tko_steps.specs.declared.step.Stepped.{Stepped}
 use Rattle.tko_steps.specs.declared.step.Stepped.TheVariants as stepped
-use Rattle.tko_steps.specs.Core.{CoreState, abstract_of, after_begin, after_step, begin_fault, opened_core, told_by_step, unless_fault}
+use Rattle.tko_steps.specs.Core.{CoreState, abstract_of, after_begin, after_step, begin_fault, told_by_step, unless_fault}
 use Rattle.tko_steps.specs.Legal.{IsLegal}
-use Rattle.tko_steps.specs.Runs.{Begin, Call, Moment, Step, Turn, World, began, calls_of, happens, run, with_told}
+use Rattle.tko_steps.specs.Runs.{Begin, Step, Turn, Call, Moment, World, began, calls_of, happens, run, with_told}
 use Rattle.tko_steps.proofs.WiringLemmas.{run-push}
 
 -- what was played are turns of a run
@@ -86,30 +86,30 @@ IsRun-played s commands =
 
 -- What is played is a legal run.
 
-pub IsStory-run : (s : Settings) (p : Played) → IsWithinRanges s → IsLaw s → IsRun s p → IsStory (story_of s p)
-IsStory-run s p ranges law is =
-    let P : List Event → Type 0 = λ events. AllCome s (opened_roll s) events in
-    record { settings = ranges; events = subst P (sym is.events) (Linked-run s law is.turns).come }
+pub IsRunData-run : (s : Settings) (p : Played) → IsWithinRanges s → IsRun s p → IsRunData (run_data_of s p)
+IsRunData-run s p ranges is =
+    let P : List Event → Type 0 = λ events. AllCome (opened_state s) events in
+    record { settings = ranges; events = subst P (sym is.events) (Linked-run s ranges is.turns).come }
 
 All-reverse : {X : Type 0} (P : X → Type 0) (xs : List X) → All P xs → All P (reverse xs)
 All-reverse P xs all k d inside =
     let low : k < length xs = omega (arith, inside, length-reverse xs) in
     subst P (sym (get_or-reverse xs k d low)) (all (length xs - 1 - k) d (omega arith))
 
-calls_in-run : (s : Settings) (law : IsLaw s) (turns : List Turn)
+calls_in-run : (s : Settings) → IsWithinRanges s → (turns : List Turn)
     → calls_in s (events_of (run s turns).past) ≡ reverse (calls_of (run s turns).past)
 unfolding calls_in claimed
-calls_in-run s law turns = ap (λ (w : World). reverse (calls_of w.past)) (Linked-run s law turns).same
+calls_in-run s ranges turns = ap (λ (it : Claimed). reverse (calls_of it.past)) (Linked-run s ranges turns).same
 
-pub IsLegalRun-run : (s : Settings) (p : Played) → IsLaw s
-    → ((turns : List Turn) → All (IsLegal s) (calls_of (run s turns).past)) → IsRun s p → IsLegalRun (story_of s p)
-IsLegalRun-run s p law legal is =
-    let P : List Event → Type 0 = λ events. AllFollow s (opened_core s) events in
+pub IsLegalRun-run : (s : Settings) (p : Played) → IsWithinRanges s
+    → ((turns : List Turn) → All (IsLegal s) (calls_of (run s turns).past)) → IsRun s p → IsLegalRun (run_data_of s p)
+IsLegalRun-run s p ranges legal is =
+    let P : List Event → Type 0 = λ events. AllFollow s (opened_state s) events in
     let Q : List Call → Type 0 = λ calls. All (IsLegal s) calls in
     let same : calls_in s p.events ≡ reverse (calls_of (run s is.turns).past) =
-    ap (calls_in s) is.events ∙ calls_in-run s law is.turns in
+    ap (calls_in s) is.events ∙ calls_in-run s ranges is.turns in
     record {
-      follow = subst P (sym is.events) (Linked-run s law is.turns).follow;
+      follow = subst P (sym is.events) (Linked-run s ranges is.turns).follow;
       legal = subst Q (sym same) (All-reverse (IsLegal s) (calls_of (run s is.turns).past) (legal is.turns));
     }
 
@@ -138,25 +138,25 @@ pub followed-all : (plan : Plan) (items : List Command) (p : Played) (k : ℕ) �
 followed-all plan items p k same high is =
     is ∙ ap (after_commands (enrolled plan.settings)) (take_all k plan.commands (omega (arith, high, ap length same)))
 
--- the story that the plan names
-pub story_of-played : (plan : Plan) (settings : Settings) (p : Played) → settings ≡ plan.settings → p ≡ played plan
-    → story_of settings p ≡ named_by plan
+-- the run that the plan names
+pub run_data_of-played : (plan : Plan) (settings : Settings) (p : Played) → settings ≡ plan.settings → p ≡ played plan
+    → run_data_of settings p ≡ named_by plan
 unfolding named_by
-story_of-played plan settings p same is =
-    ap (λ s. story_of s p) same ∙ ap (story_of plan.settings) is
+run_data_of-played plan settings p same is =
+    ap (λ s. run_data_of s p) same ∙ ap (run_data_of plan.settings) is
 
-pub IsStory-named_by : (plan : Plan) → IsWithinRanges plan.settings → IsLaw plan.settings → IsStory (named_by plan)
+pub IsRunData-named_by : (plan : Plan) → IsWithinRanges plan.settings → IsRunData (named_by plan)
 unfolding named_by
-IsStory-named_by plan ranges law =
-    IsStory-run plan.settings (played plan) ranges law (IsRun-played plan.settings plan.commands)
+IsRunData-named_by plan ranges =
+    IsRunData-run plan.settings (played plan) ranges (IsRun-played plan.settings plan.commands)
 
 pub turns-named_by : (plan : Plan)
     → (turns : List Turn) × ((named_by plan).events ≡ events_of (run (named_by plan).settings turns).past)
 unfolding named_by
 turns-named_by plan = let is = IsRun-played plan.settings plan.commands in (is.turns, is.events)
 
-pub IsLegalRun-named_by : (plan : Plan) → IsLaw plan.settings
+pub IsLegalRun-named_by : (plan : Plan) → IsWithinRanges plan.settings
     → ((turns : List Turn) → All (IsLegal plan.settings) (calls_of (run plan.settings turns).past)) → IsLegalRun (named_by plan)
 unfolding named_by
-IsLegalRun-named_by plan law legal =
-    IsLegalRun-run plan.settings (played plan) law legal (IsRun-played plan.settings plan.commands)
+IsLegalRun-named_by plan ranges legal =
+    IsLegalRun-run plan.settings (played plan) ranges legal (IsRun-played plan.settings plan.commands)

@@ -1,55 +1,55 @@
--- What each call of the player makes of what was played: begins, steps, notes, and how it opens.
+-- What each call of the player makes of turn was played: begins, steps, skipped turns, and how it opens.
 use Rattle.std.proofs.Common.{◌≡◌, ℕ, zero, suc, ◌+◌, ◌<◌, Bool, true, false, cond, ltb, List, [], ◌∷◌, ◌++◌, length, Option, Some, None, Result, Ok, Err, replicate, refl, sym, ap, ◌∙◌, arith, append_assoc, ◌-◌, ◌↔◌, ◌≤◌, add-one}
 use Rattle.std.proofs.lemmas.Bool.{le-leb}
 use Rattle.std.proofs.lemmas.List.{append-nil}
 use Rattle.tko_model.specs.declared.mark.Op.{Op}
 use Rattle.tko_model.specs.declared.settings.Settings.{Settings}
-use Rattle.tko_runs.specs.declared.event.Event.{Event}
-use Rattle.tko_runs.specs.declared.event.Event.TheVariants as event
-use Rattle.tko_runs.specs.declared.event.Remark.{Remark}
-use Rattle.tko_runs.specs.declared.event.Remark.TheVariants as remark
+use Rattle.tko_runs.specs.declared.run.event.Event.{Event}
+use Rattle.tko_runs.specs.declared.run.event.Event.TheVariants as event
+use Rattle.tko_runs.specs.declared.run.event.SkippedTurn.{SkippedTurn}
+use Rattle.tko_runs.specs.declared.run.event.SkippedTurn.TheVariants as skipped
 use Rattle.tko_model.specs.Ranges.{IsWithinRanges, first_fault, is_within, worn}
-use Rattle.tko_runs.specs.Plays.{Played, after_all, after_command, after_commands, after_turn, enrolled, enrolments, named_by, opened_play, played, turns_of, with_begin, with_event, with_note, with_notes}
+use Rattle.tko_runs.specs.Plays.{Played, after_all, after_command, after_commands, after_turn, enrolled, enrolments, named_by, opened_play, played, turns_of, with_begin, with_event, with_skip, with_skips}
 use Rattle.tko_runs.specs.Plays as plays
-use Rattle.tko_runs.specs.Stories.{Note, one_by_one}
-use Rattle.tko_runs.specs.declared.run.Noted.{Noted}
+use Rattle.tko_runs.specs.Runs.{Skip, one_by_one}
+use Rattle.tko_runs.specs.declared.run.SkippedTurns.{SkippedTurns}
 use Rattle.tko_model.specs.declared.mark.Reply.{Reply}
 use Rattle.tko_steps.specs.declared.step.BeginFault.{BeginFault}
 use Rattle.tko_steps.specs.declared.step.Kind.{Kind}
 use Rattle.tko_steps.specs.declared.step.Place.{Place}
 use Rattle.tko_steps.specs.declared.step.Word.{Word}
 use Rattle.tko_steps.specs.declared.step.Stepped.TheVariants as stepped
-use Rattle.tko_steps.specs.declared.thread.ThreadState.{ThreadState}
-use Rattle.tko_steps.specs.declared.thread.ThreadState.TheVariants.{NotEnrolled, Idle, InCall}
+use Rattle.tko_steps.specs.declared.phase.ThreadState.{ThreadState}
+use Rattle.tko_steps.specs.declared.phase.ThreadState.TheVariants.{NotEnrolled, Idle, InCall}
 use Rattle.tko_steps.specs.Core.{CoreState, after_begin, after_step, after_step_from, begin_fault, thread_at, told_by_step, told_from}
 use Rattle.tko_steps.specs.Runs.{Begin, Step, Turn}
 
 -- Turns in which nothing happens.
 
--- a thread of this core has no step to take, as the remark says
-abbrev pub Stalls : CoreState → ℕ → Remark → Type 0
-Stalls core thread remark =
-    (events : List Event) (notes : List Note) →
-    let p : Played = record { core = core; events = events; notes = notes } in
-    after_turn p (Step thread) ≡ with_note p remark
+-- a thread of this core has no step to take, as the skipped turn says
+abbrev pub Stalls : CoreState → ℕ → SkippedTurn → Type 0
+Stalls core thread turn =
+    (events : List Event) (skips : List Skip) →
+    let p : Played = record { core = core; events = events; skips = skips } in
+    after_turn p (Step thread) ≡ with_skip p turn
 
-after_all-stalls : (core : CoreState) (thread : ℕ) (remark : Remark) → Stalls core thread remark → (n : ℕ)
-    (events : List Event) (notes : List Note)
-    → (let p : Played = record { core = core; events = events; notes = notes } in
-    after_all p (replicate n (Step thread)) ≡ with_notes p remark n)
-after_all-stalls core thread remark stalls zero events notes =
-    ap (λ (all : List Note). record { core = core; events = events; notes = all }) (sym (append-nil notes))
-after_all-stalls core thread remark stalls (suc n) events notes =
-    let note : Note = record { after = length events; remark = remark } in
-    ap (λ p. after_all p (replicate n (Step thread))) (stalls events notes)
-    ∙ after_all-stalls core thread remark stalls n events (notes ++ note ∷ [])
-    ∙ ap (λ (all : List Note). record { core = core; events = events; notes = all }) (append_assoc notes (note ∷ []) (replicate n note))
+after_all-stalls : (core : CoreState) (thread : ℕ) (turn : SkippedTurn) → Stalls core thread turn → (n : ℕ)
+    (events : List Event) (skips : List Skip)
+    → (let p : Played = record { core = core; events = events; skips = skips } in
+    after_all p (replicate n (Step thread)) ≡ with_skips p turn n)
+after_all-stalls core thread turn stalls zero events skips =
+    ap (λ (all : List Skip). record { core = core; events = events; skips = all }) (sym (append-nil skips))
+after_all-stalls core thread turn stalls (suc n) events skips =
+    let skip : Skip = record { after = length events; turn = turn } in
+    ap (λ p. after_all p (replicate n (Step thread))) (stalls events skips)
+    ∙ after_all-stalls core thread turn stalls n events (skips ++ skip ∷ [])
+    ∙ ap (λ (all : List Skip). record { core = core; events = events; skips = all }) (append_assoc skips (skip ∷ []) (replicate n skip))
 
 unmoved_from-idle : (core : CoreState) (thread : ℕ) (state : ThreadState) → told_from core state ≡ stepped.Idle
     → after_step_from core thread state ≡ core
 unmoved_from-idle core thread NotEnrolled e = cc
 unmoved_from-idle core thread (Idle number) e = refl
-unmoved_from-idle core thread (InCall number op server) e = cc
+unmoved_from-idle core thread (InCall call phase) e = cc
 
 unmoved-idle : (core : CoreState) (thread : ℕ) (test : Bool)
     → cond test (told_from core (thread_at core thread)) stepped.NoThread ≡ stepped.Idle
@@ -61,7 +61,7 @@ unmoved_from-none : (core : CoreState) (thread : ℕ) (state : ThreadState) → 
     → after_step_from core thread state ≡ core
 unmoved_from-none core thread NotEnrolled e = cc
 unmoved_from-none core thread (Idle number) e = refl
-unmoved_from-none core thread (InCall number op server) e = cc
+unmoved_from-none core thread (InCall call phase) e = cc
 
 unmoved-none : (core : CoreState) (thread : ℕ) (test : Bool)
     → cond test (told_from core (thread_at core thread)) stepped.NoThread ≡ stepped.NoThread
@@ -69,28 +69,28 @@ unmoved-none : (core : CoreState) (thread : ℕ) (test : Bool)
 unmoved-none core thread true e = unmoved_from-none core thread (thread_at core thread) e
 unmoved-none core thread false e = refl
 
-pub Stalls-idle : (core : CoreState) (thread : ℕ) → told_by_step core thread ≡ stepped.Idle → Stalls core thread (remark.Idle thread)
-Stalls-idle core thread told events notes =
-    let p : Played = record { core = core; events = events; notes = notes } in
+pub Stalls-idle : (core : CoreState) (thread : ℕ) → told_by_step core thread ≡ stepped.Idle → Stalls core thread (skipped.Idle thread)
+Stalls-idle core thread told events skips =
+    let p : Played = record { core = core; events = events; skips = skips } in
     ap (λ t. record (plays.with_step p thread t) { core = after_step core thread }) told
-    ∙ ap (λ (c : CoreState). record (with_note p (remark.Idle thread)) { core = c })
+    ∙ ap (λ (c : CoreState). record (with_skip p (skipped.Idle thread)) { core = c })
     (unmoved-idle core thread (ltb thread (length core.threads)) told)
 
 pub Stalls-none : (core : CoreState) (thread : ℕ) → told_by_step core thread ≡ stepped.NoThread
-    → Stalls core thread (remark.NoThread thread)
-Stalls-none core thread told events notes =
-    let p : Played = record { core = core; events = events; notes = notes } in
+    → Stalls core thread (skipped.NoThread thread)
+Stalls-none core thread told events skips =
+    let p : Played = record { core = core; events = events; skips = skips } in
     ap (λ t. record (plays.with_step p thread t) { core = after_step core thread }) told
-    ∙ ap (λ (c : CoreState). record (with_note p (remark.NoThread thread)) { core = c })
+    ∙ ap (λ (c : CoreState). record (with_skip p (skipped.NoThread thread)) { core = c })
     (unmoved-none core thread (ltb thread (length core.threads)) told)
 
--- notes that are kept with how often each stands there
-pub one_by_one-push : (kept : List Noted) (noted : Noted)
-    → one_by_one (kept ++ noted ∷ [])
-    ≡ one_by_one kept ++ replicate noted.times (record { after = noted.after; remark = noted.remark })
-one_by_one-push [] noted = append-nil _
-one_by_one-push (first ∷ kept) noted =
-    ap (λ rest. replicate first.times (record { after = first.after; remark = first.remark }) ++ rest) (one_by_one-push kept noted)
+-- skips that are kept with how often each stands there
+pub one_by_one-push : (kept : List SkippedTurns) (skip : SkippedTurns)
+    → one_by_one (kept ++ skip ∷ [])
+    ≡ one_by_one kept ++ replicate skip.times (record { after = skip.after; turn = skip.turn })
+one_by_one-push [] skip = append-nil _
+one_by_one-push (first ∷ kept) skip =
+    ap (λ rest. replicate first.times (record { after = first.after; turn = first.turn }) ++ rest) (one_by_one-push kept skip)
     ∙ sym (append_assoc _ (one_by_one kept) _)
 
 -- Begins.
@@ -101,7 +101,7 @@ pub no_fault : (found : Option BeginFault) → ((fault : BeginFault) → (◌≡
 no_fault None is = refl
 no_fault (Some fault) is = let no : ◌≡◌ {A = Result Unit BeginFault} (Ok tt) (Err fault) = (is fault).1 refl in cc
 
--- `p` is what is known of the player `q` by its parts
+-- `p` is turn is known of the player `q` by its parts
 pub after_turn-begun : (p q : Played) (thread : ℕ) (op : Op) (server : ℕ) → p ≡ q → begin_fault p.core thread server ≡ None
     → with_event (record p { core = after_begin p.core thread op server }) (event.Begin thread op server)
     ≡ after_turn q (Begin thread op server)
@@ -112,27 +112,27 @@ after_turn-begun p q thread op server is none =
 
 pub after_turn-refused : (p q : Played) (thread : ℕ) (op : Op) (server : ℕ) (fault : BeginFault) → p ≡ q
     → begin_fault p.core thread server ≡ Some fault
-    → with_notes p (remark.Refused thread op server fault) 1 ≡ after_turn q (Begin thread op server)
+    → with_skips p (skipped.Refused thread op server fault) 1 ≡ after_turn q (Begin thread op server)
 after_turn-refused p q thread op server fault is some =
-    let turned : with_notes p (remark.Refused thread op server fault) 1 ≡ after_turn p (Begin thread op server) = rw some refl in
+    let turned : with_skips p (skipped.Refused thread op server fault) 1 ≡ after_turn p (Begin thread op server) = rw some refl in
     turned ∙ ap (λ r. after_turn r (Begin thread op server)) is
 
 -- Steps, as they are kept.
 
 pub after_all-idle : (p q : Played) (thread n : ℕ) → p ≡ q → told_by_step p.core thread ≡ stepped.Idle
-    → with_notes (record p { core = after_step p.core thread }) (remark.Idle thread) n ≡ after_all q (replicate n (Step thread))
+    → with_skips (record p { core = after_step p.core thread }) (skipped.Idle thread) n ≡ after_all q (replicate n (Step thread))
 after_all-idle p q thread n is told =
-    ap (λ (c : CoreState). with_notes (record p { core = c }) (remark.Idle thread) n)
+    ap (λ (c : CoreState). with_skips (record p { core = c }) (skipped.Idle thread) n)
     (unmoved-idle p.core thread (ltb thread (length p.core.threads)) told)
-    ∙ sym (after_all-stalls p.core thread (remark.Idle thread) (Stalls-idle p.core thread told) n p.events p.notes)
+    ∙ sym (after_all-stalls p.core thread (skipped.Idle thread) (Stalls-idle p.core thread told) n p.events p.skips)
     ∙ ap (λ r. after_all r (replicate n (Step thread))) is
 
 pub after_all-none : (p q : Played) (thread n : ℕ) → p ≡ q → told_by_step p.core thread ≡ stepped.NoThread
-    → with_notes (record p { core = after_step p.core thread }) (remark.NoThread thread) n ≡ after_all q (replicate n (Step thread))
+    → with_skips (record p { core = after_step p.core thread }) (skipped.NoThread thread) n ≡ after_all q (replicate n (Step thread))
 after_all-none p q thread n is told =
-    ap (λ (c : CoreState). with_notes (record p { core = c }) (remark.NoThread thread) n)
+    ap (λ (c : CoreState). with_skips (record p { core = c }) (skipped.NoThread thread) n)
     (unmoved-none p.core thread (ltb thread (length p.core.threads)) told)
-    ∙ sym (after_all-stalls p.core thread (remark.NoThread thread) (Stalls-none p.core thread told) n p.events p.notes)
+    ∙ sym (after_all-stalls p.core thread (skipped.NoThread thread) (Stalls-none p.core thread told) n p.events p.skips)
     ∙ ap (λ r. after_all r (replicate n (Step thread))) is
 
 replicate-left : {X : Type 0} (x : X) (n k : ℕ) → k < n → replicate (n - k) x ≡ x ∷ replicate (n - (k + 1)) x

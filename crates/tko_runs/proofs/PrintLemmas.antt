@@ -1,34 +1,25 @@
--- Numbers of steps, notes that stand several times, and the servers that events write.
-use Rattle.std.proofs.Common.{◌≡◌, ℕ, zero, suc, ◌+◌, ◌-◌, ◌<◌, ◌≤◌, min, List, [], ◌∷◌, ◌++◌, length, get_or, take, drop, replicate, codes, Option, refl, subst, ◌∙◌, append_assoc, arith}
+-- Numbers of steps, turns that were skipped several times, and the parts of a run's text.
+use Rattle.std.proofs.Common.{◌≡◌, ℕ, zero, suc, ◌+◌, ◌-◌, ◌<◌, ◌≤◌, min, List, [], ◌∷◌, ◌++◌, length, get_or, take, drop, replicate, codes, refl, ◌∙◌, append_assoc, arith}
 use Rattle.std.proofs.Math.Nat.{sub_self}
 use Rattle.std.proofs.lemmas.List.{drop_more, take_min, drop_min}
-use Rattle.tko_model.specs.declared.mark.Reply.{Reply}
-use Rattle.tko_model.specs.declared.settings.Settings.{Settings}
 use Rattle.tko_model.specs.declared.state.ServerState.{ServerState}
-use Rattle.tko_runs.specs.Claims.{AllCome, CanCome, CanStep, IsPlace, Roll, opened_roll, roll_after}
-use Rattle.tko_runs.specs.Prints.{events_text, left_by, line, number_behind, order_text, remark_text, run_text, servers_text, softs_text, steps_of, told_text}
+use Rattle.tko_runs.specs.States.{opened_state, state_after_all}
+use Rattle.tko_runs.specs.Prints.{events_text, line, lines_text, number_behind, order_text, run_text, servers_text, skipped_text, slots_text, steps_of}
 use Rattle.tko_runs.specs.Repeats.{repeated}
-use Rattle.tko_runs.specs.Stories.{Note, Story, one_by_one}
-use Rattle.tko_runs.specs.declared.event.Event.{Event}
-use Rattle.tko_runs.specs.declared.event.Event.TheVariants.{Begin, Step}
-use Rattle.tko_runs.specs.declared.event.Remark.{Remark}
-use Rattle.tko_runs.specs.declared.order.Placed.{Placed}
-use Rattle.tko_runs.specs.declared.run.Noted.{Noted}
-use Rattle.tko_steps.specs.Runs.{count_of}
-use Rattle.tko_steps.specs.declared.step.Kind.{Kind}
-use Rattle.tko_steps.specs.declared.step.Kind.TheVariants.{Enrol, Whole}
-use Rattle.tko_steps.specs.declared.step.Place.{Place}
-use Rattle.tko_steps.specs.declared.step.Place.TheVariants as place
-use Rattle.tko_steps.specs.declared.step.Word.{Word}
+use Rattle.tko_runs.specs.Runs.{Skip, RunData, one_by_one}
+use Rattle.tko_runs.specs.declared.run.event.Event.{Event}
+use Rattle.tko_runs.specs.declared.run.event.Event.TheVariants.{Begin, Step}
+use Rattle.tko_runs.specs.declared.run.event.SkippedTurn.{SkippedTurn}
+use Rattle.tko_runs.specs.declared.checking.order.Point.{Point}
+use Rattle.tko_runs.specs.declared.run.SkippedTurns.{SkippedTurns}
+use Rattle.tko_runs.proofs.EventLemmas.{count_of-le}
+use Rattle.tko_steps.specs.declared.phase.Slots.{Slots}
+use Rattle.tko_steps.specs.Core.{Shared, is_call_step}
 
 -- an event is at most one step
-count_of-le : (kind : Kind) → count_of kind ≤ 1
-count_of-le Enrol = omega arith
-count_of-le Whole = omega arith
-
 steps_of-le : (event : Event) → steps_of event ≤ 1
 steps_of-le (Begin thread op server) = omega arith
-steps_of-le (Step thread kind at found left answer) = count_of-le kind
+steps_of-le (Step thread kind at found left answer) = count_of-le (is_call_step kind)
 
 -- so each number is at most one above the one before
 number_behind-le : (number : ℕ) (events : List Event) → number_behind number events ≤ number + length events
@@ -49,58 +40,58 @@ repeated_more so_far text times done more =
 
 -- a note that stands several times: the events before it come once, since between it and itself there is none
 told_again :
-    (number after : ℕ) (remark : Remark) (events : List Event) (notes : List Note) (times : ℕ)
-    → told_text number after events (replicate times (record { after = after; remark = remark }) ++ notes)
-    ≡ repeated times (remark_text remark) ++ told_text number after events notes
-told_again number after remark events notes zero = refl
-told_again number after remark events notes (suc times) =
-    rw (sub_self after, told_again number after remark events notes times, append_assoc) refl
+    (number after : ℕ) (turn : SkippedTurn) (events : List Event) (skips : List Skip) (times : ℕ)
+    → lines_text number after events (replicate times (record { after = after; turn = turn }) ++ skips)
+    ≡ repeated times (skipped_text turn) ++ lines_text number after events skips
+told_again number after turn events skips zero = refl
+told_again number after turn events skips (suc times) =
+    rw (sub_self after, told_again number after turn events skips times, append_assoc) refl
 
 told_first :
-    (number place after : ℕ) (remark : Remark) (events : List Event) (notes : List Note) (times : ℕ)
-    → told_text number place events (replicate (suc times) (record { after = after; remark = remark }) ++ notes)
+    (number place after : ℕ) (turn : SkippedTurn) (events : List Event) (skips : List Skip) (times : ℕ)
+    → lines_text number place events (replicate (suc times) (record { after = after; turn = turn }) ++ skips)
     ≡ events_text number (take (after - place) events)
-    ++ (repeated (suc times) (remark_text remark)
-    ++ told_text (number_behind number (take (after - place) events)) after (drop (after - place) events) notes)
-told_first number place after remark events notes times =
-    let skips : ℕ = after - place in
-    let behind : ℕ = number_behind number (take skips events) in
-    rw (told_again behind after remark (drop skips events) notes times, append_assoc) refl
+    ++ (repeated (suc times) (skipped_text turn)
+    ++ lines_text (number_behind number (take (after - place) events)) after (drop (after - place) events) skips)
+told_first number place after turn events skips times =
+    let passed : ℕ = after - place in
+    let behind : ℕ = number_behind number (take passed events) in
+    rw (told_again behind after turn (drop passed events) skips times, append_assoc) refl
 
 -- a note that stands there at least once
-told_noted :
-    (number place : ℕ) (events : List Event) (noted : Noted) (notes : List Noted) (others : ℕ)
-    → noted.times ≡ suc others
-    → told_text number place events (one_by_one (noted ∷ notes))
-    ≡ events_text number (take (noted.after - place) events)
-    ++ (repeated noted.times (remark_text noted.remark)
-    ++ told_text (number_behind number (take (noted.after - place) events)) noted.after (drop (noted.after - place) events) (one_by_one notes))
-told_noted number place events noted notes others same =
-    rw same (told_first number place noted.after noted.remark events (one_by_one notes) others)
+told_skip :
+    (number place : ℕ) (events : List Event) (skip : SkippedTurns) (skips : List SkippedTurns) (others : ℕ)
+    → skip.times ≡ suc others
+    → lines_text number place events (one_by_one (skip ∷ skips))
+    ≡ events_text number (take (skip.after - place) events)
+    ++ (repeated skip.times (skipped_text skip.turn)
+    ++ lines_text (number_behind number (take (skip.after - place) events)) skip.after (drop (skip.after - place) events) (one_by_one skips))
+told_skip number place events skip skips others same =
+    rw same (told_first number place skip.after skip.turn events (one_by_one skips) others)
 
--- a turn of the loop over the notes: `so_far` and what is left make the whole text
+-- a turn of the loop over the skips: `so_far` and what is left make the whole text
 pub told_turn :
-    (notes : List Noted) (i : ℕ) (d : Noted) (number place behind : ℕ) (rest first others : List Event)
-    (so_far then_events then_remarks whole : List ℕ)
-    → i < length notes
-    → 0 < (get_or notes i d).times
-    → first ≡ take (min ((get_or notes i d).after - place) (length rest)) rest
-    → others ≡ drop (min ((get_or notes i d).after - place) (length rest)) rest
+    (skips : List SkippedTurns) (i : ℕ) (d : SkippedTurns) (number place behind : ℕ) (rest first others : List Event)
+    (so_far then_events then_skipped whole : List ℕ)
+    → i < length skips
+    → 0 < (get_or skips i d).times
+    → first ≡ take (min ((get_or skips i d).after - place) (length rest)) rest
+    → others ≡ drop (min ((get_or skips i d).after - place) (length rest)) rest
     → behind ≡ number_behind number first
     → then_events ≡ so_far ++ events_text number first
-    → then_remarks ≡ then_events ++ repeated (get_or notes i d).times (remark_text (get_or notes i d).remark)
-    → so_far ++ told_text number place rest (one_by_one (drop i notes)) ≡ whole
-    → then_remarks ++ told_text behind (get_or notes i d).after others (one_by_one (drop (i + 1) notes)) ≡ whole
-told_turn notes i d number place behind rest first others so_far then_events then_remarks whole is some firsts lasts behinds events remarks left =
-    let noted : Noted = get_or notes i d in
-    let skips : ℕ = noted.after - place in
-    let heads : first ≡ take skips rest = firsts ∙ take_min skips rest in
-    let tails : others ≡ drop skips rest = lasts ∙ drop_min skips rest in
-    let later : List Noted = drop (i + 1) notes in
-    let remarked : List ℕ = repeated noted.times (remark_text noted.remark) in
-    let told : told_text number place rest (one_by_one (drop i notes)) ≡ events_text number first ++ (remarked ++ told_text behind noted.after others (one_by_one later)) =
-    rw (drop_more notes i d is, behinds, heads, tails) (told_noted number place rest noted later (noted.times - 1) (omega arith)) in
-    rw (remarks, events, append_assoc (so_far ++ events_text number first), append_assoc so_far, ← told) left
+    → then_skipped ≡ then_events ++ repeated (get_or skips i d).times (skipped_text (get_or skips i d).turn)
+    → so_far ++ lines_text number place rest (one_by_one (drop i skips)) ≡ whole
+    → then_skipped ++ lines_text behind (get_or skips i d).after others (one_by_one (drop (i + 1) skips)) ≡ whole
+told_turn skips i d number place behind rest first others so_far then_events then_skipped whole is some firsts lasts behinds events skipped_turns left =
+    let skip : SkippedTurns = get_or skips i d in
+    let passed : ℕ = skip.after - place in
+    let heads : first ≡ take passed rest = firsts ∙ take_min passed rest in
+    let tails : others ≡ drop passed rest = lasts ∙ drop_min passed rest in
+    let later : List SkippedTurns = drop (i + 1) skips in
+    let skipped_lines : List ℕ = repeated skip.times (skipped_text skip.turn) in
+    let told : lines_text number place rest (one_by_one (drop i skips)) ≡ events_text number first ++ (skipped_lines ++ lines_text behind skip.after others (one_by_one later)) =
+    rw (drop_more skips i d is, behinds, heads, tails) (told_skip number place rest skip later (skip.times - 1) (omega arith)) in
+    rw (skipped_turns, events, append_assoc (so_far ++ events_text number first), append_assoc so_far, ← told) left
 
 -- the numbers that are left once some of the events have theirs
 pub numbers_left :
@@ -113,66 +104,28 @@ pub numbers_left :
 numbers_left number behind count bound rest first others behinds firsts lasts room =
     omega (arith, number_behind-le number first)
 
--- a step at a place that is there
-abbrev IsAtPlace : Settings → Event → Type 0
-IsAtPlace s (Begin thread op server) = Unit {0}
-IsAtPlace s (Step thread kind at found left answer) = IsPlace s at
-
--- the steps of a run are at such places
-step_placed : (s : Settings) (roll : Roll) (thread : ℕ) (kind : Kind) (at : Place) (found left : Word) (answer : Option Reply)
-    → CanStep s roll thread kind at found left answer
-    → IsPlace s at
-step_placed s roll thread Enrol at found left answer can = rw can.2.at_enrolment tt
-step_placed s roll thread Whole at found left answer can = can.2
-
-event_placed : (s : Settings) (roll : Roll) (event : Event) → CanCome s roll event → IsAtPlace s event
-event_placed s roll (Begin thread op server) can = tt
-event_placed s roll (Step thread kind at found left answer) can = step_placed s roll thread kind at found left answer can
-
-placed_there :
-    (s : Settings) (roll : Roll) (events : List Event) (i : ℕ) (d : Event)
-    → AllCome s roll events
-    → i < length events
-    → IsAtPlace s (get_or events i d)
-placed_there s roll [] i d come is = absurd (omega arith)
-placed_there s roll (event ∷ events) zero d come is = event_placed s roll event come.0
-placed_there s roll (event ∷ events) (suc i) d come is =
-    placed_there s (roll_after roll event) events i d come.1 (omega arith)
-
--- so is the server that a step of theirs writes
-pub writes_there :
-    (s : Settings) (events : List Event) (i : ℕ) (d : Event)
-    (thread : ℕ) (kind : Kind) (at : Place) (server : ℕ) (found left : Word) (answer : Option Reply)
-    → AllCome s (opened_roll s) events
-    → i < length events
-    → get_or events i d ≡ Step thread kind at found left answer
-    → at ≡ place.Server server
-    → server < s.servers
-writes_there s events i d thread kind at server found left answer come is step there =
-    let placed : IsAtPlace s (get_or events i d) = placed_there s (opened_roll s) events i d come is in
-    subst (IsPlace s) there (subst (IsAtPlace s) step placed)
-
 regroup : (a b c d e : List ℕ) → (((a ++ b) ++ c) ++ d) ++ e ≡ a ++ (b ++ (c ++ (d ++ e)))
 regroup a b c d e = simp append_assoc
 
 -- the parts of a run's text, one behind the other
 pub run_told :
-    (story : Story) (order : List Placed) (events : List Event) (notes : List Note) (servers shown counted : List ServerState)
-    (opening told ordered served firm text : List ℕ)
-    → events ≡ story.events
-    → notes ≡ story.notes
-    → servers ≡ left_by story.settings events
-    → shown ≡ servers
-    → counted ≡ servers
+    (run : RunData) (order : List Point) (events : List Event) (skips : List Skip) (words : Shared) (servers : List ServerState)
+    (slots : Slots) (opening told ordered served soft text : List ℕ)
+    → events ≡ run.events
+    → skips ≡ run.skips
+    → words ≡ (state_after_all (opened_state run.settings) events).words
+    → servers ≡ words.servers
+    → slots ≡ words.slots
     → opening ≡ []
-    → told ≡ opening ++ told_text 1 0 events notes
+    → told ≡ opening ++ lines_text 1 0 events skips
     → ordered ≡ told ++ order_text 1 order
-    → served ≡ ordered ++ servers_text 0 shown
-    → firm ≡ served ++ softs_text counted
-    → text ≡ firm ++ line (codes "ok")
-    → text ≡ run_text story order
+    → served ≡ ordered ++ servers_text 0 servers
+    → soft ≡ served ++ line (codes "soft " ++ slots_text slots)
+    → text ≡ soft ++ line (codes "ok")
+    → text ≡ run_text run order
 unfolding run_text
-run_told story order events notes servers shown counted opening told ordered served firm text is_events is_notes is_servers is_shown is_counted is_opening is_told is_ordered is_served is_firm is_text =
-    let left : List ServerState = left_by story.settings story.events in
-    let whole = regroup (told_text 1 0 story.events story.notes) (order_text 1 order) (servers_text 0 left) (softs_text left) (line (codes "ok")) in
-    rw (is_text, is_firm, is_served, is_ordered, is_told, is_opening, is_counted, is_shown, is_servers, is_events, is_notes) whole
+run_told run order events skips words servers slots opening told ordered served soft text is_events is_skips is_words is_servers is_slots is_opening is_told is_ordered is_served is_soft is_text =
+    let left : Shared = (state_after_all (opened_state run.settings) run.events).words in
+    let whole = regroup (lines_text 1 0 run.events run.skips) (order_text 1 order) (servers_text 0 left.servers)
+    (line (codes "soft " ++ slots_text left.slots)) (line (codes "ok")) in
+    rw (is_text, is_soft, is_served, is_ordered, is_told, is_opening, is_slots, is_servers, is_words, is_events, is_skips) whole

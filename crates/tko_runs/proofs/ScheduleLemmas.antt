@@ -3,9 +3,9 @@ use Rattle.std.proofs.Common.{◌≡◌, ℕ, ◌<◌, ◌≤◌, List, Ok, Err,
 use Rattle.std.proofs.lemmas.Bool.{cond-true, cond-false, lt-ltb, le-ltb}
 use Rattle.tko_model.specs.declared.settings.Settings.{Settings}
 use Rattle.tko_model.specs.Ranges.{first_fault}
-use Rattle.tko_runs.specs.declared.command.Command.{Command}
-use Rattle.tko_runs.specs.declared.fault.ScheduleFault.{ScheduleFault}
-use Rattle.tko_runs.specs.declared.fault.ScheduleFault.TheVariants as fault
+use Rattle.tko_runs.specs.declared.schedule.command.Command.{Command}
+use Rattle.tko_runs.specs.declared.schedule.fault.ScheduleFault.{ScheduleFault}
+use Rattle.tko_runs.specs.declared.schedule.fault.ScheduleFault.TheVariants as fault
 use Rattle.tko_bytes.specs.Lines.{lines_of}
 use Rattle.tko_runs.specs.Schedules.{commands_of, header, plan_behind, plan_in, plan_of, reads, TellsFault}
 

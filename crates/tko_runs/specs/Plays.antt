@@ -2,50 +2,50 @@
 use Rattle.std.specs.Prelude.{◌≡◌, ℕ, zero, suc, false, if◌then◌else◌, List, [], ◌∷◌, ◌++◌, length, replicate, Option, Some, None}
 use Rattle.tko_model.specs.declared.mark.Op.{Op}
 use Rattle.tko_model.specs.declared.settings.Settings.{Settings}
-use Rattle.tko_runs.specs.declared.command.Command.{Command}
-use Rattle.tko_runs.specs.declared.command.Command.TheVariants as command
-use Rattle.tko_runs.specs.declared.event.Event.{Event}
-use Rattle.tko_runs.specs.declared.event.Event.TheVariants as event
-use Rattle.tko_runs.specs.declared.event.Remark.{Remark}
-use Rattle.tko_runs.specs.declared.event.Remark.TheVariants as remark
+use Rattle.tko_runs.specs.declared.schedule.command.Command.{Command}
+use Rattle.tko_runs.specs.declared.schedule.command.Command.TheVariants as command
+use Rattle.tko_runs.specs.declared.run.event.Event.{Event}
+use Rattle.tko_runs.specs.declared.run.event.Event.TheVariants as event
+use Rattle.tko_runs.specs.declared.run.event.SkippedTurn.{SkippedTurn}
+use Rattle.tko_runs.specs.declared.run.event.SkippedTurn.TheVariants as skipped
 use Rattle.tko_runs.specs.Limits.{max_steps}
 use Rattle.tko_runs.specs.Schedules.{Plan}
-use Rattle.tko_runs.specs.Stories.{Note, Story}
+use Rattle.tko_runs.specs.Runs.{Skip, RunData}
 use Rattle.tko_steps.specs.declared.step.BeginFault.{BeginFault}
 use Rattle.tko_steps.specs.declared.step.Stepped.{Stepped}
 use Rattle.tko_steps.specs.declared.step.Stepped.TheVariants.{NoThread, Idle, Did}
 use Rattle.tko_steps.specs.Core.{CoreState, after_begin, after_step, begin_fault, has_call, opened_core, thread_at, told_by_step}
 use Rattle.tko_steps.specs.Runs.{Begin, Step, Turn}
 
--- the core, and the events and notes so far
+-- the core, and the events and the skipped turns so far
 pub record Played : Type 0 where
   pub core : CoreState
   pub events : List Event
-  pub notes : List Note
+  pub skips : List Skip
 
 abbrev pub with_event : Played → Event → Played
 with_event p event = record p { events = p.events ++ event ∷ [] }
 
--- a remark after the events so far
-abbrev pub note_of : Played → Remark → Note
-note_of p remark = record { after = length p.events; remark = remark }
+-- a skipped turn after the events so far
+abbrev pub skip_of : Played → SkippedTurn → Skip
+skip_of p turn = record { after = length p.events; turn = turn }
 
-abbrev pub with_note : Played → Remark → Played
-with_note p remark = record p { notes = p.notes ++ note_of p remark ∷ [] }
+abbrev pub with_skip : Played → SkippedTurn → Played
+with_skip p turn = record p { skips = p.skips ++ skip_of p turn ∷ [] }
 
--- the same note so many times
-abbrev pub with_notes : Played → Remark → ℕ → Played
-with_notes p remark times = record p { notes = p.notes ++ replicate times (note_of p remark) }
+-- the same skipped turn so many times
+abbrev pub with_skips : Played → SkippedTurn → ℕ → Played
+with_skips p turn times = record p { skips = p.skips ++ replicate times (skip_of p turn) }
 
--- after a begin: it is an event, or a note that it was refused
+-- after a begin: it is an event, or a skipped turn
 abbrev pub with_begin : Played → ℕ → Op → ℕ → Option BeginFault → Played
 with_begin p thread op server None = with_event p (event.Begin thread op server)
-with_begin p thread op server (Some fault) = with_note p (remark.Refused thread op server fault)
+with_begin p thread op server (Some fault) = with_skip p (skipped.Refused thread op server fault)
 
--- after a step: it is an event, or a note that there was none
+-- after a step: it is an event, or a skipped turn
 abbrev pub with_step : Played → ℕ → Stepped → Played
-with_step p thread NoThread = with_note p (remark.NoThread thread)
-with_step p thread Idle = with_note p (remark.Idle thread)
+with_step p thread NoThread = with_skip p (skipped.NoThread thread)
+with_step p thread Idle = with_skip p (skipped.Idle thread)
 with_step p thread (Did kind place found left won answer) =
     with_event p (event.Step thread kind place found left answer)
 
@@ -90,7 +90,7 @@ enrolments zero = []
 enrolments (suc thread) = enrolments thread ++ Step thread ∷ []
 
 abbrev pub opened_play : Settings → Played
-opened_play s = record { core = opened_core s; events = []; notes = [] }
+opened_play s = record { core = opened_core s; events = []; skips = [] }
 
 abbrev pub enrolled : Settings → Played
 enrolled s = after_all (opened_play s) (enrolments s.threads)
@@ -106,10 +106,10 @@ RunsToAnswers plan =
     let run = after_commands (enrolled plan.settings) (before ++ command.Run thread ∷ []) in
     has_call (thread_at run.core thread) ≡ false
 
--- the story of what was played
-abbrev pub story_of : Settings → Played → Story
-story_of s p = record { settings = s; events = p.events; notes = p.notes }
+-- the run of what was played
+abbrev pub run_data_of : Settings → Played → RunData
+run_data_of s p = record { settings = s; events = p.events; skips = p.skips }
 
 -- the run that a schedule names
-unfoldable pub named_by : Plan → Story
-named_by plan = story_of plan.settings (played plan)
+unfoldable pub named_by : Plan → RunData
+named_by plan = run_data_of plan.settings (played plan)

@@ -1,19 +1,17 @@
--- The text of a run: a line for each event and remark, then one for each call and each server, the
--- number of soft marks, and `ok`.
-use Rattle.std.specs.Prelude.{ℕ, ◌+◌, ◌-◌, List, [], ◌∷◌, ◌++◌, take, drop, codes, decimal, Option, Some, None}
+-- The text of a run: a line for each event and skipped turn, then one for each call and each
+-- server, the soft word, and `ok`.
+use Rattle.std.specs.Prelude.{ℕ, ◌+◌, ◌-◌, List, [], ◌∷◌, ◌++◌, take, drop, codes, decimal, if◌then◌else◌, Option, Some, None}
 use Rattle.tko_model.specs.declared.mark.Op.{Op}
 use Rattle.tko_model.specs.declared.mark.Reply.{Reply}
-use Rattle.tko_model.specs.declared.settings.Settings.{Settings}
 use Rattle.tko_model.specs.declared.state.ServerState.{ServerState}
-use Rattle.tko_model.specs.Tracker.{opened, softs}
-use Rattle.tko_runs.specs.declared.event.Event.{Event}
-use Rattle.tko_runs.specs.declared.event.Event.TheVariants as event
-use Rattle.tko_runs.specs.declared.event.Remark.{Remark}
-use Rattle.tko_runs.specs.declared.event.Remark.TheVariants as remark
-use Rattle.tko_runs.specs.declared.order.Placed.{Placed}
-use Rattle.tko_runs.specs.declared.order.Placed.TheVariants as placed
-use Rattle.tko_runs.specs.Claims.{servers_after_all}
-use Rattle.tko_runs.specs.Stories.{Note, Story}
+use Rattle.tko_runs.specs.declared.run.event.Event.{Event}
+use Rattle.tko_runs.specs.declared.run.event.Event.TheVariants as event
+use Rattle.tko_runs.specs.declared.run.event.SkippedTurn.{SkippedTurn}
+use Rattle.tko_runs.specs.declared.run.event.SkippedTurn.TheVariants as skipped
+use Rattle.tko_runs.specs.declared.checking.order.Point.{Point}
+use Rattle.tko_runs.specs.declared.checking.order.Point.TheVariants as point
+use Rattle.tko_runs.specs.States.{opened_state, same_word, state_after_all}
+use Rattle.tko_runs.specs.Runs.{Skip, RunData}
 use Rattle.tko_model.specs.Texts.{mark_text, op_text, reply_text}
 use Rattle.tko_steps.specs.declared.step.BeginFault.{BeginFault}
 use Rattle.tko_steps.specs.declared.step.BeginFault.TheVariants as fault
@@ -21,6 +19,10 @@ use Rattle.tko_steps.specs.declared.step.Kind.{Kind}
 use Rattle.tko_steps.specs.declared.step.Kind.TheVariants as kind
 use Rattle.tko_steps.specs.declared.step.Place.{Place}
 use Rattle.tko_steps.specs.declared.step.Place.TheVariants as place
+use Rattle.tko_steps.specs.declared.phase.Slots.{Slots}
+use Rattle.tko_steps.specs.declared.step.Word.{Word}
+use Rattle.tko_steps.specs.declared.step.Word.TheVariants as word
+use Rattle.tko_steps.specs.Core.{is_call_step}
 use Rattle.tko_steps.specs.Runs.{count_of}
 
 abbrev pub line : List ℕ → List ℕ
@@ -33,7 +35,44 @@ begin_text thread op server =
 
 abbrev pub place_text : Place → List ℕ
 place_text (place.Server server) = codes "server:" ++ decimal server
+place_text place.Soft = codes "soft"
 place_text place.Enrolment = codes "enrolment"
+
+abbrev pub kind_text : Kind → List ℕ
+kind_text kind.Look = codes " look "
+kind_text kind.Count = codes " count "
+kind_text kind.Mark = codes " mark "
+kind_text kind.Own = codes " own "
+kind_text kind.Reserve = codes " reserve "
+kind_text kind.Shift = codes " shift "
+kind_text kind.Give = codes " give "
+kind_text kind.Enrol = codes " enrol "
+
+abbrev pub state_text : ServerState → List ℕ
+state_text server = mark_text server.mark ++ (codes "@" ++ decimal server.stamp)
+
+abbrev pub slots_text : Slots → List ℕ
+slots_text slots = codes "firm:" ++ (decimal slots.firm ++ (codes ",held:" ++ decimal slots.held))
+
+abbrev pub word_text : Word → List ℕ
+word_text (word.Server server) = state_text server
+word_text (word.Soft slots) = slots_text slots
+word_text (word.Enrolled count) = codes "enrolled:" ++ decimal count
+
+-- an exchange that is lost leaves the word that it found
+abbrev pub won_text : Word → Word → List ℕ
+won_text found left = if same_word left found then codes "lost" else codes "won"
+
+-- the end of a step's line: what a look found, whether an exchange was won, else that it is done
+abbrev pub outcome_text : Kind → Word → Word → List ℕ
+outcome_text kind.Look found left = word_text found
+outcome_text kind.Count found left = won_text found left
+outcome_text kind.Mark found left = won_text found left
+outcome_text kind.Own found left = won_text found left
+outcome_text kind.Reserve found left = won_text found left
+outcome_text kind.Shift found left = codes "done"
+outcome_text kind.Give found left = codes "done"
+outcome_text kind.Enrol found left = codes "done"
 
 -- the line after a step that ends its call
 abbrev pub answer_text : ℕ → Option Reply → List ℕ
@@ -41,20 +80,20 @@ answer_text thread None = []
 answer_text thread (Some reply) =
     line (codes "answer " ++ (decimal thread ++ (codes " " ++ reply_text reply)))
 
--- a step of that number; enrolments aren't printed
-abbrev pub step_text : ℕ → ℕ → Kind → Place → Option Reply → List ℕ
-step_text number thread kind.Enrol at answer = []
-step_text number thread kind.Whole at answer =
-    line
-    (decimal number
-    ++ (codes " " ++ (decimal thread ++ (codes " whole " ++ (place_text at ++ codes " done")))))
-    ++ answer_text thread answer
+-- the front of a step's line: its number, thread, kind and place
+abbrev pub step_text : ℕ → ℕ → Kind → Place → List ℕ
+step_text number thread kind at =
+    decimal number
+    ++ (codes " " ++ (decimal thread ++ (kind_text kind ++ (place_text at ++ codes " "))))
 
--- an event, which has that number if it is a step of a call
+-- an event, which has that number if it is a step of a call; enrolments aren't printed
 abbrev pub event_text : ℕ → Event → List ℕ
 event_text number (event.Begin thread op server) = line (begin_text thread op server)
 event_text number (event.Step thread kind at found left answer) =
-    step_text number thread kind at answer
+    if is_call_step kind
+    then step_text number thread kind at
+    ++ (line (outcome_text kind found left) ++ answer_text thread answer)
+    else []
 
 -- the number of steps of calls that an event is: enrolments aren't numbered
 abbrev pub steps_of : Event → ℕ
@@ -77,34 +116,31 @@ refusal_text fault.NoThread = codes " refused no-thread"
 refusal_text fault.Busy = codes " refused busy"
 refusal_text fault.NoServer = codes " refused no-server"
 
-abbrev pub remark_text : Remark → List ℕ
-remark_text (remark.Refused thread op server fault) =
+abbrev pub skipped_text : SkippedTurn → List ℕ
+skipped_text (skipped.Refused thread op server fault) =
     line (begin_text thread op server ++ refusal_text fault)
-remark_text (remark.Idle thread) = line (codes "- " ++ (decimal thread ++ codes " idle"))
-remark_text (remark.NoThread thread) = line (codes "- " ++ (decimal thread ++ codes " no-thread"))
+skipped_text (skipped.Idle thread) = line (codes "- " ++ (decimal thread ++ codes " idle"))
+skipped_text (skipped.NoThread thread) = line (codes "- " ++ (decimal thread ++ codes " no-thread"))
 
--- the events after so many others, from that number on, with the notes between them
-abbrev pub told_text : ℕ → ℕ → List Event → List Note → List ℕ
-told_text number place events [] = events_text number events
-told_text number place events (note ∷ notes) =
-    let first = take (note.after - place) events in
+-- the events after so many others, from that number on, with the skips between them
+abbrev pub lines_text : ℕ → ℕ → List Event → List Skip → List ℕ
+lines_text number place events [] = events_text number events
+lines_text number place events (skip ∷ skips) =
+    let first = take (skip.after - place) events in
     events_text number first
-    ++ (remark_text note.remark
-    ++ told_text (number_behind number first) note.after (drop (note.after - place) events) notes)
+    ++ (skipped_text skip.turn
+    ++ lines_text (number_behind number first) skip.after (drop (skip.after - place) events) skips)
 
-abbrev pub placed_text : Placed → List ℕ
-placed_text (placed.At number) = codes " at " ++ decimal number
-placed_text placed.Contended = codes " contended"
-placed_text placed.Open = codes " open"
+abbrev pub point_text : Point → List ℕ
+point_text (point.At number) = codes " at " ++ decimal number
+point_text point.Contended = codes " contended"
+point_text point.Open = codes " open"
 
 -- the calls from that number on
-abbrev pub order_text : ℕ → List Placed → List ℕ
+abbrev pub order_text : ℕ → List Point → List ℕ
 order_text number [] = []
-order_text number (placed ∷ others) =
-    line (codes "call " ++ (decimal number ++ placed_text placed)) ++ order_text (number + 1) others
-
-abbrev pub state_text : ServerState → List ℕ
-state_text server = mark_text server.mark ++ (codes "@" ++ decimal server.stamp)
+order_text number (one ∷ others) =
+    line (codes "call " ++ (decimal number ++ point_text one)) ++ order_text (number + 1) others
 
 -- the servers from that number on
 abbrev pub servers_text : ℕ → List ServerState → List ℕ
@@ -113,16 +149,10 @@ servers_text number (server ∷ others) =
     line (codes "server " ++ (decimal number ++ (codes " " ++ state_text server)))
     ++ servers_text (number + 1) others
 
--- the servers as events leave them
-abbrev pub left_by : Settings → List Event → List ServerState
-left_by s events = servers_after_all (opened s).servers events
-
-abbrev pub softs_text : List ServerState → List ℕ
-softs_text servers = line (codes "soft firm:" ++ (decimal (softs servers) ++ codes ",held:0"))
-
-unfoldable pub run_text : Story → List Placed → List ℕ
-run_text story order =
-    let servers = left_by story.settings story.events in
-    told_text 1 0 story.events story.notes
+unfoldable pub run_text : RunData → List Point → List ℕ
+run_text run order =
+    let words = (state_after_all (opened_state run.settings) run.events).words in
+    lines_text 1 0 run.events run.skips
     ++ (order_text 1 order
-    ++ (servers_text 0 servers ++ (softs_text servers ++ line (codes "ok"))))
+    ++ (servers_text 0 words.servers
+    ++ (line (codes "soft " ++ slots_text words.slots) ++ line (codes "ok"))))

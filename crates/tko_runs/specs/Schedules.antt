@@ -9,10 +9,10 @@ use Rattle.tko_model.specs.declared.mark.Op.TheVariants.{LookUp, SoftFailure, Ha
 use Rattle.tko_model.specs.declared.settings.Settings.{Settings}
 use Rattle.tko_model.specs.declared.settings.SettingsFault.{SettingsFault}
 use Rattle.tko_model.specs.Ranges.{IsWithinRanges, first_fault, is_within}
-use Rattle.tko_runs.specs.declared.command.Command.{Command}
-use Rattle.tko_runs.specs.declared.command.Command.TheVariants.{Begin, Step, Run}
-use Rattle.tko_runs.specs.declared.fault.ScheduleFault.{ScheduleFault}
-use Rattle.tko_runs.specs.declared.fault.ScheduleFault.TheVariants as fault
+use Rattle.tko_runs.specs.declared.schedule.command.Command.{Command}
+use Rattle.tko_runs.specs.declared.schedule.command.Command.TheVariants.{Begin, Step, Run}
+use Rattle.tko_runs.specs.declared.schedule.fault.ScheduleFault.{ScheduleFault}
+use Rattle.tko_runs.specs.declared.schedule.fault.ScheduleFault.TheVariants as fault
 use Rattle.tko_runs.specs.Limits.{header_lines, max_bytes, max_commands, max_number, max_steps}
 use Rattle.tko_bytes.specs.Lines.{lines_of}
 use Rattle.tko_bytes.specs.Numbers.{number_of}

@@ -3,11 +3,21 @@
 ghost use Rattle.std.specs.Prelude.{◌≡◌, IfOk, IfErr};
 ghost use Rattle.tko_runs.specs.Orders.{IsLegalRun, IsOrderOf, TellsRunFault};
 
-use crate::docket::Docket;
+mod calls;
+mod effect;
+pub(crate) mod order;
+mod point;
+mod state;
+mod words;
+
+use crate::checking::state::CheckState;
 use crate::{Order, Run};
 use std::alloc::Global;
 use thiserror::Error;
 use tko_bytes::NoMemory;
+
+#[cfg(test)]
+mod tests;
 
 /// Why a run is refused. Steps are judged before calls.
 #[derive(Clone, Copy, Debug, PartialEq, Eq, Error)]
@@ -42,10 +52,10 @@ pub fn check(alloc: Global, run: &Run) -> Result<Order, RunFault>
     ensures err { IfErr result (TellsRunFault run.now) }
     ensures never { IsLegalRun run.now → IfErr result (λ fault. fault ≡ RunFault.Memory) }
 {
-    let mut docket = Docket::open(alloc, run.settings())?;
+    let mut state = CheckState::open(alloc, run.settings())?;
     let events = run.events();
     for event in events {
-        docket.enter(alloc, event)?;
+        state.enter(alloc, event)?;
     }
-    docket.order(alloc)
+    state.order(alloc)
 }

@@ -1,6 +1,6 @@
 //! A schedule of as many lines as a text may have, and as many answered calls as these can give.
 
-use crate::{Placed, Schedule, check, play};
+use crate::{Point, Schedule, check, play};
 use std::alloc::{AllocError, Global};
 use std::test::Fail;
 
@@ -34,11 +34,11 @@ fn a_schedule_of_1000_lines_is_played_checked_and_printed(rt: HostRuntime) -> Re
     assert_eq!(rt; schedule.commands().len(), 1_000);
     let run = play(rt.alloc(), &schedule)?;
     let order = check(rt.alloc(), &run)?;
-    assert_eq!(rt; order.places().len(), 500);
-    assert_eq!(rt; order.places()[499], Placed::At(500));
+    assert_eq!(rt; order.points().len(), 500);
+    assert_eq!(rt; order.points()[499], Point::At(756));
     let text = run.print(rt.alloc(), &order)?;
-    // A begin, a step, an answer and a call line for each call; servers; soft marks; `ok`.
+    // A begin, an answer and a call line for each call; its steps; servers; the soft word; `ok`.
     let lines = text.iter().filter(|byte| **byte == b'\n').count();
-    assert_eq!(rt; lines, 4 * 500 + 256 + 2);
+    assert_eq!(rt; lines, 3 * 500 + 756 + 256 + 2);
     Ok(())
 }

@@ -2,11 +2,13 @@
 ghost use Rattle.std.specs.Prelude.{◌≡◌, List, IfOk};
 ghost use Rattle.tko_runs.specs.Orders.{IsLegalRun};
 ghost use Rattle.tko_runs.specs.Plays.{RunsToAnswers, named_by, played};
-ghost use Rattle.tko_runs.specs.Stories.{events_of};
+ghost use Rattle.tko_runs.specs.Runs.{events_of};
 ghost use Rattle.tko_steps.specs.Runs.{Turn};
 ghost use Rattle.tko_steps.specs.Runs as runs;
 
-use crate::player::Player;
+mod player;
+
+use crate::playing::player::Player;
 use crate::{Run, Schedule};
 use std::alloc::Global;
 use tko_bytes::NoMemory;
@@ -23,7 +25,7 @@ pub fn play(alloc: Global, schedule: &Schedule) -> Result<Run, NoMemory>
     ensures answered { IfOk result (λ run. RunsToAnswers schedule.now) }
 {
     let player = all_followed(alloc, schedule)?;
-    // This runs no code. Its contract, the law of every run, shows that this is a legal run.
+    // This runs no code. Its contract, the law of every call, shows that this is a legal run.
     every_run();
     Ok(player.finish(*schedule.settings()))
 }

@@ -1,72 +1,79 @@
-//! Runs.
+//! Runs: events in order, and what they say of the words and threads.
 ghost use Rattle.std.specs.Prelude.{◌≡◌};
-ghost use Rattle.tko_runs.specs.Claims.{IsStory};
-ghost use Rattle.tko_runs.specs.Stories.{one_by_one};
+ghost use Rattle.tko_runs.specs.States.{IsRunData};
+ghost use Rattle.tko_runs.specs.Runs.{one_by_one};
 
-use crate::{Event, Remark};
+pub(crate) mod claim;
+pub(crate) mod event;
+pub(crate) mod state;
+
+use crate::{Event, SkippedTurn};
 use std::marker::Model;
 use tko_model::Settings;
 
-/// Events in order, and between them remarks on what was asked for and did nothing. Contracts see a
-/// `Story`.
+#[cfg(test)]
+mod tests;
+
+/// Events in order, and between them the turns that were asked for and did nothing. Contracts see
+/// a `RunData`.
 #[derive(Debug, Drop)]
 pub struct Run {
     settings: Settings,
     events: Vec<Event>,
-    notes: Vec<Noted>,
+    skips: Vec<SkippedTurns>,
 }
 
-/// A remark, how often it comes, and the number of events before it.
+/// A turn that was skipped so many times, after so many events.
 #[derive(Clone, Copy, Debug)]
-pub(crate) struct Noted {
+pub(crate) struct SkippedTurns {
     pub after: usize,
-    pub remark: Remark,
+    pub turn: SkippedTurn,
     pub times: u64,
 }
 
 impl Model for Run {
-    ghost use Rattle.tko_runs.specs.Claims.{IsStory};
-    ghost use Rattle.tko_runs.specs.Stories.{Story, one_by_one};
+    ghost use Rattle.tko_runs.specs.States.{IsRunData};
+    ghost use Rattle.tko_runs.specs.Runs.{RunData, one_by_one};
 
-    ghost Value = { Story };
+    ghost Value = { RunData };
 
     ghost view = { λ r. record {
       settings = r.settings;
       events = r.events.items;
-      notes = one_by_one r.notes.items;
+      skips = one_by_one r.skips.items;
     } };
 
-    ghost invariant = { λ r. IsStory (record {
+    ghost invariant = { λ r. IsRunData (record {
       settings = r.settings;
       events = r.events.items;
-      notes = one_by_one r.notes.items;
+      skips = one_by_one r.skips.items;
     }) };
 }
 
 impl Run {
-    pub(crate) fn new(settings: Settings, events: Vec<Event>, notes: Vec<Noted>) -> Run
-        requires { IsStory (record {
+    pub(crate) fn new(settings: Settings, events: Vec<Event>, skips: Vec<SkippedTurns>) -> Run
+        requires { IsRunData (record {
           settings = settings;
           events = events.items;
-          notes = one_by_one notes.items;
+          skips = one_by_one skips.items;
         }) }
         ensures { result ≡ record {
           settings = settings;
           events = events.items;
-          notes = one_by_one notes.items;
+          skips = one_by_one skips.items;
         } }
     {
         Run {
             settings,
             events,
-            notes,
+            skips,
         }
     }
 
     /// The settings that its core was opened with.
     pub fn settings(&self) -> &Settings
         ensures value { result.now ≡ self.now.settings }
-        ensures story { IsStory self.now }
+        ensures run { IsRunData self.now }
     {
         &self.settings
     }
@@ -74,14 +81,14 @@ impl Run {
     /// What happened, in order.
     pub fn events(&self) -> &[Event]
         ensures value { result.now ≡ self.now.events }
-        ensures story { IsStory self.now }
+        ensures run { IsRunData self.now }
     {
         self.events.as_slice()
     }
 
-    pub(crate) fn notes(&self) -> &[Noted]
-        ensures { one_by_one result.now ≡ self.now.notes }
+    pub(crate) fn skips(&self) -> &[SkippedTurns]
+        ensures { one_by_one result.now ≡ self.now.skips }
     {
-        self.notes.as_slice()
+        self.skips.as_slice()
     }
 }

@@ -2,12 +2,20 @@
 ghost use Rattle.std.specs.Prelude.{◌≡◌, Ok, IfOk, IfErr};
 ghost use Rattle.tko_runs.specs.Schedules.{TellsFault, reads};
 
-use crate::commands::read_commands;
-use crate::header::Header;
+pub(crate) mod command;
+mod commands;
+pub(crate) mod fault;
+mod header;
+
+use crate::schedule::commands::read_commands;
+use crate::schedule::header::Header;
 use crate::{Command, ScheduleFault};
 use std::alloc::Global;
 use std::marker::Model;
 use tko_model::Settings;
+
+#[cfg(test)]
+mod tests;
 
 /// The most bytes of a schedule.
 const MAX_BYTES: usize = 1_048_576;

@@ -1,167 +1,164 @@
--- The law of a thread alone: where no other thread took a step of a call, what holds of the world is kept by each turn.
-use Rattle.std.proofs.Common.{◌≡◌, ℕ, true, false, Bool, cond, eqb, List, [], ◌∷◌, inl, ⊎_elim, All, Option, Some, None, refl, sym, ap, subst, ◌∙◌}
-use Rattle.std.proofs.lemmas.Bool.{eqb-false}
+-- One thread alone, its calls: the sequential tracker does each as it was done.
+use Rattle.std.proofs.Common.{◌≡◌, ◌≢◌, ℕ, ◌⊎◌, Bool, true, false, cond, eqb, List, [], ◌∷◌, ◌++◌, All, Option, Some, None, inl, inr, ⊎_elim, refl, sym, ap, ◌∙◌, subst}
+use Rattle.std.proofs.lemmas.Bool.{cases_Bool, eqb-false, eqb-true}
 use Rattle.std.proofs.lemmas.List.Elements.{All-nil, All-cons, All-head, All-tail}
-use Rattle.tko_model.specs.declared.mark.Op.{Op}
+use Rattle.tko_model.specs.declared.mark.Reply.{Reply}
+use Rattle.tko_model.specs.declared.mark.Reply.TheVariants.{Contended}
 use Rattle.tko_model.specs.declared.settings.Settings.{Settings}
-use Rattle.tko_model.specs.Tracker.{Tracker, after, opened, reply_of}
-use Rattle.tko_steps.specs.declared.thread.ThreadState.{ThreadState}
-use Rattle.tko_steps.specs.declared.thread.ThreadState.TheVariants.{NotEnrolled, Idle, InCall}
-use Rattle.tko_steps.specs.Alone.{Does, InEveryRunAlone, IsIdleUnlessOf, IsStepOf, Replays}
-use Rattle.tko_steps.specs.Core.{abstract_of, after_enrol, after_whole, thread_at}
-use Rattle.tko_steps.specs.Legal.{IsQuiet, tracker_in}
-use Rattle.tko_steps.specs.Runs.{Begin, Call, Moment, OwnStep, Step, StepTaken, Took, Turn, World, after_turns, and_step, began, begun_call, calls_of, happens, own_step, start, with_step}
-use Rattle.tko_steps.proofs.CallLemmas.{All-with_step, latest, with_step-none}
-use Rattle.tko_steps.proofs.RunLemmas.{Holds, Holds-begun, Holds-start, Holds-stepped_from, enrol_step, whole_step}
-use Rattle.tko_steps.proofs.WiringLemmas.{begun, keeps-begin, keeps-step, stepped_from}
+use Rattle.tko_model.specs.declared.state.ServerState.{ServerState}
+use Rattle.tko_model.specs.Tracker.{after, reply_of}
+use Rattle.tko_steps.specs.Alone.{Does, Replays}
+use Rattle.tko_steps.specs.Legal.{IsLegalAt, IsQuiet, tracker_in}
+use Rattle.tko_steps.specs.Runs.{Call, OwnStep, and_step, with_step}
+use Rattle.tko_steps.specs.Table.{same_server}
+use Rattle.tko_steps.proofs.CallLemmas.{latest}
+use Rattle.tko_steps.proofs.LegalLemmas.{IsSoundCall}
+use Rattle.tko_steps.proofs.TableLemmas.{eq-same_server, same_server-true}
 
--- a call without a step and without an answer is none for the sequential tracker
-does_nothing : (old new : Tracker) (call : Call) → call.steps ≡ [] → call.answer ≡ None → Does old call call.answer new
-    → new ≡ old
-does_nothing old new call none unanswered does =
-    let it = rw unanswered at does in
+-- ---- two abstract states are the same or not
+
+same_servers : (one other : List ServerState) → (one ≡ other) ⊎ (one ≡ other → ⊥)
+same_servers [] [] = inl refl
+same_servers [] (y ∷ ys) = inr (λ e. cc)
+same_servers (x ∷ xs) [] = inr (λ e. cc)
+same_servers (x ∷ xs) (y ∷ ys) =
+    elim (cases_Bool (same_server x y)) [
+      | inl same ↦
+          ⊎_elim
+          (λ (rest : xs ≡ ys). inl (ap (λ it. it ∷ xs) (same_server-true x y same) ∙ ap (λ all. y ∷ all) rest))
+          (λ (apart : xs ≡ ys → ⊥). inr (λ e. apart (let tails : xs ≡ ys = cc in tails)))
+          (same_servers xs ys)
+      | inr differs ↦ inr (λ e. let heads : x ≡ y = cc in let same = eq-same_server x y heads in cc)
+    ]
+
+-- ---- own steps of which each begins where the one before it ended
+
+abbrev pub AreChained : List ServerState → List OwnStep → List ServerState → Type 0
+AreChained first [] last = last ≡ first
+AreChained first (own ∷ older) last = (own.step.after ≡ last) × AreChained first older own.step.before
+
+chained-quiet : (first last : List ServerState) (steps : List OwnStep) → AreChained first steps last → All IsQuiet steps → last ≡ first
+chained-quiet first last [] chain quiet = chain
+chained-quiet first last (own ∷ older) chain quiet =
+    sym chain.0 ∙ All-head IsQuiet own older quiet
+    ∙ chained-quiet first own.step.before older chain.1 (All-tail IsQuiet own older quiet)
+
+-- where no other step changes anything, one begins where all began, and ends where all ended
+chained-at : (first last : List ServerState) (newer older : List OwnStep) (own : OwnStep) → AreChained first (newer ++ own ∷ older) last
+    → All IsQuiet (newer ++ older) → (own.step.before ≡ first) × (own.step.after ≡ last)
+chained-at first last [] older own chain quiet = (chained-quiet first own.step.before older chain.1 quiet, chain.0)
+chained-at first last (new ∷ newer) older own chain quiet =
+    let rest = chained-at first new.step.before newer older own chain.1 (All-tail IsQuiet new (newer ++ older) quiet) in
+    (rest.0, rest.1 ∙ sym (All-head IsQuiet new (newer ++ older) quiet) ∙ chain.0)
+
+quiet-at : (newer older : List OwnStep) (own : OwnStep) → All IsQuiet (newer ++ older) → IsQuiet own → All IsQuiet (newer ++ own ∷ older)
+quiet-at [] older own quiet one = All-cons IsQuiet own older one quiet
+quiet-at (new ∷ newer) older own quiet one =
+    All-cons IsQuiet new (newer ++ own ∷ older) (All-head IsQuiet new (newer ++ older) quiet)
+    (quiet-at newer older own (All-tail IsQuiet new (newer ++ older) quiet) one)
+
+at-quiet : (newer older : List OwnStep) (own : OwnStep) → All IsQuiet (newer ++ own ∷ older) → IsQuiet own
+at-quiet [] older own quiet = All-head IsQuiet own older quiet
+at-quiet (new ∷ newer) older own quiet = at-quiet newer older own (All-tail IsQuiet new (newer ++ own ∷ older) quiet)
+
+-- ---- a call as the sequential tracker does it
+
+-- what a call that took effect did from the state in which its steps began
+did : (s : Settings) (call : Call) (reply : Reply) (own : OwnStep) (entry now : List ServerState) → IsLegalAt s call reply own
+    → AreChained entry call.steps now
+    → (reply ≡ reply_of (tracker_in s entry) call.number call.op call.server)
+    × (tracker_in s now ≡ after (tracker_in s entry) call.number call.op call.server)
+did s call reply own entry now legal chain =
+    let C : List OwnStep → Type 0 = λ steps. AreChained entry steps now in
+    let ends = chained-at entry now legal.newer legal.older own (subst C legal.steps chain) legal.others in
+    let R : List ServerState → Type 0 = λ it. reply ≡ reply_of (tracker_in s it) call.number call.op call.server in
+    let T : List ServerState → Type 0 = λ it. tracker_in s now ≡ after (tracker_in s it) call.number call.op call.server in
+    (subst R ends.0 (sym legal.effect.reply), subst T ends.0 (ap (tracker_in s) (sym (legal.effect.change ∙ ends.1))))
+
+does-answer : (s : Settings) (call : Call) (entry now : List ServerState) (answer : Option Reply) → call.answer ≡ answer → IsSoundCall s call
+    → call.answer ≢ Some Contended → AreChained entry call.steps now → Does (tracker_in s entry) call answer (tracker_in s now)
+does-answer s call entry now (Some reply) is sound plain chain =
+    let legal = sound.legal.answered reply is (λ e. plain (is ∙ ap Some e)) in
+    did s call reply legal.0 entry now legal.1 chain
+does-answer s call entry now None is sound plain chain =
     ⊎_elim
-    (λ (quiet : All IsQuiet call.steps × (new ≡ old)). quiet.1)
-    (λ (changed : (All IsQuiet call.steps → ⊥) × (new ≡ after old call.number call.op call.server)).
-    absurd (changed.0 (rw none (All-nil IsQuiet))))
-    it
-
-nothing_does : (tracker : Tracker) (call : Call) → call.steps ≡ [] → call.answer ≡ None → Does tracker call call.answer tracker
-nothing_does tracker call none unanswered = rw unanswered (inl (rw none (All-nil IsQuiet), refl))
-
-module _ (first last : Tracker) (thread number : ℕ) (op : Op) (server : ℕ) (own : OwnStep)
-    (answer : own.step.answer ≡ Some (reply_of last number op server)) where
-  abbrev call : Call
-  call = begun_call thread number op server
-
-  -- the sequential tracker does the call, the last, in place of nothing
-  does_last : (mid : Tracker) → last ≡ mid
-      → Does mid (and_step call own) own.step.answer (after last number op server)
-  does_last mid same = rw answer (ap (λ (t : Tracker). reply_of t number op server) same, ap (λ (t : Tracker). after t number op server) same)
-
-  either : (at : Call) (older rest : List Call) (found : Option Call) (test : Bool)
-      → Replays first (at ∷ older) last → cond test (Some at) found ≡ Some call
-      → (test ≡ false → (at.steps ≡ []) × (at.answer ≡ None))
-      → (found ≡ Some call → Replays first older last → Replays first rest (after last number op server))
-      → Replays first (cond test (and_step at own ∷ older) (at ∷ rest)) (after last number op server)
-  either at older rest found true (mid, done, does) is idle onward =
-      let same : call ≡ at = cc in
-      let P : Call → Type 0 = λ it. Does mid it it.answer last in
-      let Q : Call → Type 0 = λ it. Does mid (and_step it own) own.step.answer (after last number op server) in
-      let none : last ≡ mid = does_nothing mid last call refl refl (subst P (sym same) does) in
-      (mid, done, subst Q same (does_last mid none))
-  either at older rest found false (mid, done, does) is idle onward =
-      let it = idle refl in
-      let none : last ≡ mid = does_nothing mid last at it.0 it.1 does in
-      let P : Tracker → Type 0 = λ t. Replays first older t in
-      (after last number op server, onward is (subst P (sym none) done), nothing_does (after last number op server) at it.0 it.1)
-
-  -- one more call is answered, and no other thread's call did anything
-  Replays-with_step : (calls : List Call) → own.step.thread ≡ thread → All (IsIdleUnlessOf thread) calls
-      → latest own.step.thread calls ≡ Some call → Replays first calls last
-      → Replays first (with_step own calls) (after last number op server)
-  Replays-with_step [] by idle is done = cc
-  Replays-with_step (at ∷ older) by idle is done =
-      either at older (with_step own older) (latest own.step.thread older) (eqb at.thread own.step.thread) done is
-      (λ fails. All-head (IsIdleUnlessOf thread) at older idle
-      (λ e. eqb-false at.thread own.step.thread fails (e ∙ sym by)))
-      (λ found before. Replays-with_step older by (All-tail (IsIdleUnlessOf thread) at older idle) found before)
-
--- what holds of the world in each run of this thread alone
-pub record HoldsAlone (s : Settings) (thread : ℕ) (w : World) : Type 0 where
-  pub calls : All (IsIdleUnlessOf thread) (calls_of w.past)
-  pub done : Replays (opened s) (calls_of w.past) (tracker_in s (abstract_of w.core))
-
-HoldsAlone-start : (s : Settings) (thread : ℕ) → HoldsAlone s thread (start s)
-HoldsAlone-start s thread = record { calls = All-nil (IsIdleUnlessOf thread); done = refl }
-
-HoldsAlone-begun : (s : Settings) (w : World) (thread own number : ℕ) (op : Op) (server : ℕ) → HoldsAlone s thread w
-    → thread_at w.core own ≡ Idle number → HoldsAlone s thread (begun w own op server)
-HoldsAlone-begun s w thread own number op server holds stands =
-    let call : Call = begun_call own number op server in
-    let calls = calls_of w.past in
-    rw stands (record {
-      calls = All-cons (IsIdleUnlessOf thread) call calls (λ apart. (refl, refl)) holds.calls;
-      done = (tracker_in s (abstract_of w.core), holds.done, inl (All-nil IsQuiet, refl));
-    })
-
-HoldsAlone-enrolled : (s : Settings) (w : World) (thread own : ℕ) → Holds s w → HoldsAlone s thread w
-    → thread_at w.core own ≡ NotEnrolled
-    → HoldsAlone s thread (record { core = after_enrol w.core own; past = Took (enrol_step w.core own) ∷ w.past })
-HoldsAlone-enrolled s w thread own law holds stands =
-    let calls = calls_of w.past in
-    let step : OwnStep = own_step (enrol_step w.core own) w.past in
-    let none : latest own calls ≡ None = rw stands at (law.stand own) in
-    let same : with_step step calls ≡ calls = with_step-none step calls none in
-    record { calls = rw same holds.calls; done = rw same holds.done }
-
-HoldsAlone-whole : (s : Settings) (w : World) (thread number : ℕ) (op : Op) (server : ℕ) → Holds s w → HoldsAlone s thread w
-    → thread_at w.core thread ≡ InCall number op server
-    → HoldsAlone s thread (record {
-      core = after_whole w.core thread number op server;
-      past = Took (whole_step w.core thread number op server) ∷ w.past;
-    })
-HoldsAlone-whole s w thread number op server law holds stands =
-    let calls = calls_of w.past in
-    let step : StepTaken = whole_step w.core thread number op server in
-    let own : OwnStep = own_step step w.past in
-    let call : Call = begun_call thread number op server in
-    let begun : latest thread calls ≡ Some call = rw stands at (law.stand thread) in
-    let tracker : tracker_in s (abstract_of w.core) ≡ w.core.tracker = ap (λ t. tracker_in t (abstract_of w.core)) (sym law.settings) in
-    let answer : own.step.answer ≡ Some (reply_of (tracker_in s (abstract_of w.core)) number op server) =
-    ap (λ (t : Tracker). Some (reply_of t number op server)) (sym tracker) in
-    let now : after (tracker_in s (abstract_of w.core)) number op server
-    ≡ tracker_in s (abstract_of (after_whole w.core thread number op server)) =
-    ap (λ (t : Tracker). tracker_in s (after t number op server).servers) tracker in
-    let P : Tracker → Type 0 = λ t. Replays (opened s) (with_step own calls) t in
-    record {
-      calls = All-with_step (IsIdleUnlessOf thread) own calls holds.calls
-          (λ it found. let same : call ≡ it = cc in
-          let Q : Call → Type 0 = λ at. IsIdleUnlessOf thread (and_step at own) in
-          subst Q same (λ apart. absurd (apart refl)));
-      done = subst P now (Replays-with_step (opened s) (tracker_in s (abstract_of w.core)) thread number op server own answer
-          calls refl holds.calls begun holds.done);
-    }
-
--- the same, where no other thread took a step of a call up to now
-abbrev IsAlone : Settings → ℕ → World → Type 0
-IsAlone s thread w = Holds s w × (All (IsStepOf thread) w.past → HoldsAlone s thread w)
-
-HoldsAlone-stepped_from : (s : Settings) (w : World) (thread own : ℕ) (state : ThreadState) → IsAlone s thread w
-    → thread_at w.core own ≡ state → All (IsStepOf thread) (stepped_from w own state).past
-    → HoldsAlone s thread (stepped_from w own state)
-HoldsAlone-stepped_from s w thread own NotEnrolled (law, alone) stands all =
-    let moment : Moment = Took (enrol_step w.core own) in
-    HoldsAlone-enrolled s w thread own law (alone (All-tail (IsStepOf thread) moment w.past all)) stands
-HoldsAlone-stepped_from s w thread own (Idle number) (law, alone) stands all = alone all
-HoldsAlone-stepped_from s w thread own (InCall number op server) (law, alone) stands all =
-    let moment : Moment = Took (whole_step w.core own number op server) in
-    let same : own ≡ thread = All-head (IsStepOf thread) moment w.past all refl in
-    let P : ℕ → Type 0 = λ it. HoldsAlone s it (stepped_from w own (InCall number op server)) in
-    let Q : ℕ → Type 0 = λ it. HoldsAlone s it w in
-    let holds = alone (All-tail (IsStepOf thread) moment w.past all) in
-    subst P same (HoldsAlone-whole s w own number op server law (subst Q (sym same) holds) stands)
-
-IsAlone-happens : (s : Settings) (w : World) (thread : ℕ) (turn : Turn) → IsAlone s thread w → IsAlone s thread (happens w turn)
-IsAlone-happens s w thread (Begin own op server) alone =
-    keeps-begin (IsAlone s thread) w own op server alone
-    (λ number inside stands on_server. (
-      Holds-begun s w own number op server alone.0 inside stands on_server,
-      λ all. HoldsAlone-begun s w thread own number op server (alone.1 (All-tail (IsStepOf thread) (began w.core own op server) w.past all)) stands,
+    (λ (quiet : All IsQuiet call.steps). inl (quiet, ap (tracker_in s) (chained-quiet entry now call.steps chain quiet)))
+    (λ (done : (reply : Reply) × (own : OwnStep) × IsLegalAt s call reply own).
+    let own = done.1 in
+    let legal = done.2 in
+    ⊎_elim
+    (λ (same : own.step.after ≡ own.step.before).
+    let quiet : All IsQuiet call.steps = subst (All IsQuiet) (sym legal.steps) (quiet-at legal.newer legal.older own legal.others same) in
+    inl (quiet, ap (tracker_in s) (chained-quiet entry now call.steps chain quiet)))
+    (λ (changes : own.step.after ≡ own.step.before → ⊥).
+    inr (
+      λ quiet. changes (at-quiet legal.newer legal.older own (subst (All IsQuiet) legal.steps quiet)),
+      (did s call done.0 own entry now legal chain).1,
     ))
-IsAlone-happens s w thread (Step own) alone =
-    keeps-step (IsAlone s thread) w own alone
-    (λ inside. (
-      Holds-stepped_from s w own (thread_at w.core own) alone.0 inside refl,
-      HoldsAlone-stepped_from s w thread own (thread_at w.core own) alone refl,
-    ))
+    (same_servers own.step.after own.step.before))
+    (sound.legal.open_yet is)
 
-IsAlone-after_turns : (s : Settings) (w : World) (thread : ℕ) (turns : List Turn) → IsAlone s thread w
-    → IsAlone s thread (after_turns w turns)
-IsAlone-after_turns s w thread [] alone = alone
-IsAlone-after_turns s w thread (turn ∷ turns) alone =
-    IsAlone-after_turns s (happens w turn) thread turns (IsAlone-happens s w thread turn alone)
+-- ---- the calls of a run of this thread alone
 
-pub HoldsAlone-run : InEveryRunAlone HoldsAlone
-HoldsAlone-run s ranges thread turns all =
-    (IsAlone-after_turns s (start s) thread turns (Holds-start s ranges, λ none. HoldsAlone-start s thread)).1 all
+-- a call of another thread did nothing yet
+pub record IsUntouched (thread : ℕ) (call : Call) : Type 0 where
+  pub other : call.thread ≡ thread → ⊥
+  pub steps : call.steps ≡ []
+  pub answer : call.answer ≡ None
+
+-- the newest call of the thread took its steps from where the sequential tracker came to by the older ones
+pub record IsPlayed (s : Settings) (first : List ServerState) (thread : ℕ) (call : Call) (older : List Call) (now : List ServerState) : Type 0 where
+  pub mine : call.thread ≡ thread
+  pub entry : List ServerState
+  pub replayed : Replays (tracker_in s first) older (tracker_in s entry)
+  pub chain : AreChained entry call.steps now
+
+-- the calls up to now, where the abstract state is this
+abbrev pub Plays : Settings → List ServerState → ℕ → List Call → List ServerState → Type 0
+Plays s first thread [] now = now ≡ first
+Plays s first thread (call ∷ older) now =
+    (IsUntouched thread call × Plays s first thread older now) ⊎ IsPlayed s first thread call older now
+
+abbrev pub IsNotContended : Call → Type 0
+IsNotContended call = call.answer ≢ Some Contended
+
+module _ (s : Settings) (first : List ServerState) (thread : ℕ) where
+  pub Replays-plays : (calls : List Call) (now : List ServerState) → All (IsSoundCall s) calls → All IsNotContended calls
+      → Plays s first thread calls now → Replays (tracker_in s first) calls (tracker_in s now)
+  Replays-plays [] now sound plain plays = ap (tracker_in s) plays
+  Replays-plays (call ∷ older) now sound plain (inl (untouched, plays)) =
+      let rest = Replays-plays older now (All-tail (IsSoundCall s) call older sound) (All-tail IsNotContended call older plain) plays in
+      let D : Option Reply → Type 0 = λ answer. Does (tracker_in s now) call answer (tracker_in s now) in
+      let quiet : All IsQuiet call.steps = subst (All IsQuiet) (sym untouched.steps) (All-nil IsQuiet) in
+      (tracker_in s now, rest, subst D (sym untouched.answer) (inl (quiet, refl)))
+  Replays-plays (call ∷ older) now sound plain (inr played) =
+      let one = All-head (IsSoundCall s) call older sound in
+      let not = All-head IsNotContended call older plain in
+      (tracker_in s played.entry, played.replayed, does-answer s call played.entry now call.answer refl one not played.chain)
+
+  plays-either : (own : OwnStep) (opened call : Call) (older rest : List Call) (found : Option Call) (now : List ServerState) (test : Bool)
+      → eqb call.thread own.step.thread ≡ test → own.step.thread ≡ thread → own.step.before ≡ now
+      → cond test (Some call) found ≡ Some opened → Plays s first thread (call ∷ older) now
+      → (found ≡ Some opened → Plays s first thread older now → Plays s first thread rest own.step.after)
+      → Plays s first thread (cond test (and_step call own ∷ older) (call ∷ rest)) own.step.after
+  plays-either own opened call older rest found now true test by from is (inl (untouched, plays)) onward =
+      absurd (untouched.other (eqb-true call.thread own.step.thread test ∙ by))
+  plays-either own opened call older rest found now true test by from is (inr played) onward =
+      let C : List ServerState → Type 0 = λ it. AreChained played.entry call.steps it in
+      inr (record {
+        mine = played.mine;
+        entry = played.entry;
+        replayed = played.replayed;
+        chain = (refl, subst C (sym from) played.chain);
+      })
+  plays-either own opened call older rest found now false test by from is (inl (untouched, plays)) onward = inl (untouched, onward is plays)
+  plays-either own opened call older rest found now false test by from is (inr played) onward =
+      absurd (eqb-false call.thread own.step.thread test (played.mine ∙ sym by))
+
+  -- the thread takes a step of its newest call
+  pub Plays-with_step : (own : OwnStep) (opened : Call) (calls : List Call) (now : List ServerState) → own.step.thread ≡ thread → own.step.before ≡ now
+      → latest own.step.thread calls ≡ Some opened → Plays s first thread calls now → Plays s first thread (with_step own calls) own.step.after
+  Plays-with_step own opened [] now by from is plays = cc
+  Plays-with_step own opened (call ∷ older) now by from is plays =
+      plays-either own opened call older (with_step own older) (latest own.step.thread older) now (eqb call.thread own.step.thread) refl by from is plays
+      (λ found rest. Plays-with_step own opened older now by from found rest)

@@ -85,3 +85,18 @@ IsNewestStep-with_step own begun [] is = cc
 IsNewestStep-with_step own begun (call ∷ calls) is =
     newest_either own begun call calls (with_step own calls) (latest own.step.thread calls) (eqb call.thread own.step.thread) is
     (IsNewestStep-with_step own begun calls)
+
+same_either : (own : OwnStep) (begun call : Call) (calls rest : List Call) (found : Option Call) (test : Bool)
+    → eqb call.thread own.step.thread ≡ test → cond test (Some call) found ≡ Some begun
+    → (found ≡ Some begun → latest own.step.thread rest ≡ Some (and_step begun own))
+    → latest own.step.thread (cond test (and_step call own ∷ calls) (call ∷ rest)) ≡ Some (and_step begun own)
+same_either own begun call calls rest found true mine is onward = rw mine (let same : call ≡ begun = cc in ap (λ it. Some (and_step it own)) same)
+same_either own begun call calls rest found false mine is onward = rw mine (onward is)
+
+-- after a step, the call that its thread began last has it
+pub latest-with_step_same : (own : OwnStep) (begun : Call) (calls : List Call) → latest own.step.thread calls ≡ Some begun
+    → latest own.step.thread (with_step own calls) ≡ Some (and_step begun own)
+latest-with_step_same own begun [] is = cc
+latest-with_step_same own begun (call ∷ calls) is =
+    same_either own begun call calls (with_step own calls) (latest own.step.thread calls) (eqb call.thread own.step.thread) refl is
+    (latest-with_step_same own begun calls)

@@ -1,109 +1,392 @@
--- What the law says of each call: of one without a step, and of one that a single step did whole.
-use Rattle.std.proofs.Common.{◌≡◌, ◌≢◌, ℕ, ◌≤◌, inl, [], Some, refl, ap, ◌∙◌, arith}
-use Rattle.std.proofs.lemmas.List.Elements.{All-nil, All-cons}
+-- What each phase says of the steps that its call took, and what an answer then makes of the call.
+use Rattle.std.proofs.Common.{◌≡◌, ℕ, ◌+◌, ◌<◌, ◌≤◌, ◌⊎◌, false, cond, eqb, List, [], ◌∷◌, ◌++◌, set, All, Some, None, inl, inr, ⊎_elim, refl, sym, ap, ◌∙◌, subst, arith}
+use Rattle.std.proofs.lemmas.Bool.{cond_both, le-ltb}
+use Rattle.std.proofs.lemmas.List.Elements.{All-cons, All-head, All-tail}
 use Rattle.tko_model.specs.declared.mark.Mark.{Mark}
-use Rattle.tko_model.specs.declared.mark.Op.{Op}
+use Rattle.tko_model.specs.declared.mark.Mark.TheVariants.{Soft}
 use Rattle.tko_model.specs.declared.mark.Reply.{Reply}
-use Rattle.tko_model.specs.declared.mark.Reply.TheVariants.{Contended, Full, Worn}
+use Rattle.tko_model.specs.declared.mark.Reply.TheVariants.{Contended, Full, TookSoft}
 use Rattle.tko_model.specs.declared.settings.Settings.{Settings}
-use Rattle.tko_model.specs.Tracker.{after, reply_of, server_at, softs, transition_on}
-use Rattle.tko_steps.specs.Core.{CoreState, IsCore, IsOwner, number_of, thread_at}
-use Rattle.tko_steps.specs.Legal.{ChangesAtMostOnce, HasOneResponsible, IsFullAtLimit, IsLegal, IsLegalAt, IsOwnersAnswer, IsQuiet, TakesEffect, tracker_in}
-use Rattle.tko_steps.specs.Runs.{Call, OwnStep, StepTaken, and_step, begun_call}
-use Rattle.tko_steps.proofs.ThreadLemmas.{number-inside, number-once}
-use Rattle.tko_steps.proofs.TrackerLemmas.{IsSound, transition-sound}
+use Rattle.tko_model.specs.declared.state.ServerState.{ServerState}
+use Rattle.tko_model.specs.declared.transition.Transition.{Transition}
+use Rattle.tko_model.specs.Tracker.{becomes, changed, has_room, server_at, softs, stays, transition}
+use Rattle.tko_steps.specs.declared.phase.Call.{Call as CallState}
+use Rattle.tko_steps.specs.declared.phase.Phase.{Phase}
+use Rattle.tko_steps.specs.declared.phase.Phase.TheVariants.{Start, Read, AtThreshold, Limit, Reserving, Holding, Firming, Losing, Loosening, Loosened, Emptied}
+use Rattle.tko_steps.specs.declared.table.Decision.{Decision}
+use Rattle.tko_steps.specs.declared.table.Decision.TheVariants.{Goes, Answers}
+use Rattle.tko_steps.specs.Core.{answer_of}
+use Rattle.tko_steps.specs.Legal.{ChangesAtMostOnce, IsFullAtLimit, IsLegal, IsLegalAt, IsQuiet, TakesEffect}
+use Rattle.tko_steps.specs.Runs.{Call, OwnStep, StepTaken, and_step}
+use Rattle.tko_steps.specs.Table.{lost_try}
+use Rattle.tko_steps.proofs.StartLemmas.{Decides, Marks, Says, SaysAt}
+use Rattle.tko_steps.proofs.TrackerLemmas.{transition-sound}
+
+-- ---- steps of which at most one changes something
+
+once-quiet : (steps : List OwnStep) → All IsQuiet steps → ChangesAtMostOnce steps
+once-quiet [] quiet = tt
+once-quiet (own ∷ older) quiet = inl (All-tail IsQuiet own older quiet)
+
+once-but_one : (newer older : List OwnStep) (own : OwnStep) → All IsQuiet (newer ++ older) → ChangesAtMostOnce (newer ++ own ∷ older)
+once-but_one [] older own quiet = inl quiet
+once-but_one (first ∷ newer) older own quiet =
+    inr (All-head IsQuiet first (newer ++ older) quiet, once-but_one newer older own (All-tail IsQuiet first (newer ++ older) quiet))
+
+-- ---- a call that is legal, what it answers and where
+
+-- the call is legal with this reply at one of its steps, before which the limit held
+pub record IsDone (s : Settings) (call : Call) (answer : Reply) : Type 0 where
+  pub own : OwnStep
+  pub legal : IsLegalAt s call answer own
+  pub limit : softs own.step.before ≤ s.limit
 
 -- what the law says of each call
 pub record IsSoundCall (s : Settings) (call : Call) : Type 0 where
   pub legal : IsLegal s call
   pub once : ChangesAtMostOnce call.steps
   pub full : IsFullAtLimit s call
-  pub owners : IsOwnersAnswer call
-  pub contended : call.answer ≢ Some Contended
 
--- what the law says of one own step of a call
-abbrev OwnerAt : Call → OwnStep → Type 0
-OwnerAt call own =
-    IsOwner own.step.before call.number call.server → (call.answer ≢ Some Worn) × (call.answer ≢ Some Contended)
+IsDone-once : (s : Settings) (call : Call) (answer : Reply) → IsDone s call answer → ChangesAtMostOnce call.steps
+IsDone-once s call answer done =
+    let it = done.legal in
+    subst ChangesAtMostOnce (sym it.steps) (once-but_one it.newer it.older done.own it.others)
 
-pub IsSoundCall-begun_call : (s : Settings) (thread number : ℕ) (op : Op) (server : ℕ)
-    → IsSoundCall s (begun_call thread number op server)
-IsSoundCall-begun_call s thread number op server =
-    let call : Call = begun_call thread number op server in
+-- a call without an answer that changed nothing
+pub sound-quiet : (s : Settings) (call : Call) → call.answer ≡ None → All IsQuiet call.steps → IsSoundCall s call
+sound-quiet s call unanswered quiet =
     record {
-      legal = record { answered = λ reply e ne. cc; contended = λ e. cc; open_yet = λ e. inl (All-nil IsQuiet) };
-      once = tt;
+      legal = record { answered = λ reply e differs. cc; contended = λ e. cc; open_yet = λ e. inl quiet };
+      once = once-quiet call.steps quiet;
       full = λ e. cc;
-      owners = All-nil (OwnerAt call);
-      contended = λ e. cc;
     }
 
--- a step that does the whole call as the sequential tracker does it
-pub record IsWhole (s : Settings) (number : ℕ) (op : Op) (server : ℕ) (step : StepTaken) : Type 0 where
-  pub answer : step.answer ≡ Some (reply_of (tracker_in s step.before) number op server)
-  pub change : (after (tracker_in s step.before) number op server).servers ≡ step.after
-  pub limit : softs step.before ≤ s.limit
+-- a call that took effect and has no answer yet
+pub sound-done : (s : Settings) (call : Call) (answer : Reply) → call.answer ≡ None → IsDone s call answer → IsSoundCall s call
+sound-done s call answer unanswered done =
+    record {
+      legal = record { answered = λ reply e differs. cc; contended = λ e. cc; open_yet = λ e. inr (answer, done.own, done.legal) };
+      once = IsDone-once s call answer done;
+      full = λ e. cc;
+    }
 
-module _ (s : Settings) (thread number : ℕ) (op : Op) (server : ℕ) (own : OwnStep) (whole : IsWhole s number op server own.step) where
-  abbrev call : Call
-  call = and_step (begun_call thread number op server) own
+-- a call that lost every try
+pub sound-contended : (s : Settings) (call : Call) → call.answer ≡ Some Contended → All IsQuiet call.steps → IsSoundCall s call
+sound-contended s call answered quiet =
+    record {
+      legal = record {
+        answered = λ reply e differs. let same : reply ≡ Contended = cc in absurd (differs same);
+        contended = λ e. quiet;
+        open_yet = λ e. cc;
+      };
+      once = once-quiet call.steps quiet;
+      full = λ e. cc;
+    }
 
-  abbrev reply : Reply
-  reply = reply_of (tracker_in s own.step.before) number op server
+-- a call that is answered as it took effect
+pub sound-answered : (s : Settings) (call : Call) (answer : Reply) → call.answer ≡ Some answer → IsDone s call answer → IsSoundCall s call
+sound-answered s call answer answered done =
+    let before = done.own.step.before in
+    let it = server_at before call.server in
+    let sound = transition-sound s (softs before) call.number call.op it.mark it.stamp in
+    let told = done.legal.effect.reply in
+    record {
+      legal = record {
+        answered = λ reply e differs.
+            let same : answer ≡ reply = cc in
+            let P : Reply → Type 0 = λ r. IsLegalAt s call r done.own in
+            (done.own, subst P same done.legal);
+        contended = λ e. let same : answer ≡ Contended = cc in absurd (sound.contended (told ∙ same));
+        open_yet = λ e. cc;
+      };
+      once = IsDone-once s call answer done;
+      full = λ e.
+          let same : answer ≡ Full = cc in
+          let P : Reply → Type 0 = λ r. IsLegalAt s call r done.own in
+          record { own = done.own; legal = subst P same done.legal; limit = omega (arith, sound.full (told ∙ same), done.limit) };
+    }
 
-  abbrev mark : Mark
-  mark = (server_at own.step.before server).mark
+-- ---- one more step
 
-  abbrev stamp : ℕ
-  stamp = (server_at own.step.before server).stamp
+-- the call of a thread at a phase, with the steps that it took
+abbrev pub open_call : ℕ → CallState → List OwnStep → Call
+open_call thread call steps =
+    record { thread = thread; number = call.number; op = call.op; server = call.server; steps = steps; answer = None }
 
-  sound : IsSound s (softs own.step.before) number mark stamp (transition_on (tracker_in s own.step.before) number op server)
-  sound = transition-sound s (softs own.step.before) number op mark stamp
+-- the newest step takes effect, and the older ones changed nothing
+pub done-here : (s : Settings) (call : Call) (own : OwnStep) (answer : Reply) → All IsQuiet call.steps → TakesEffect s call answer own.step
+    → softs own.step.before ≤ s.limit → IsDone s (and_step call own) answer
+done-here s call own answer quiet effect limit =
+    record {
+      own = own;
+      legal = record { newer = []; older = call.steps; steps = refl; effect = record { reply = effect.reply; change = effect.change }; others = quiet };
+      limit = limit;
+    }
 
-  takes_effect : (answer : Reply) → own.step.answer ≡ Some answer → TakesEffect s call answer own.step
-  takes_effect answer e = let told = whole.answer in record { reply = cc; change = whole.change }
+-- the call took effect before, and the newest step changes nothing
+pub done-before : (s : Settings) (call : Call) (own : OwnStep) (answer : Reply) → IsDone s call answer → IsQuiet own
+    → IsDone s (and_step call own) answer
+done-before s call own answer done quiet =
+    let it = done.legal in
+    record {
+      own = done.own;
+      legal = record {
+        newer = own ∷ it.newer;
+        older = it.older;
+        steps = ap (λ steps. own ∷ steps) it.steps;
+        effect = record { reply = it.effect.reply; change = it.effect.change };
+        others = All-cons IsQuiet own (it.newer ++ it.older) quiet it.others;
+      };
+      limit = done.limit;
+    }
 
-  never : (answer : Reply) → reply ≢ answer → own.step.answer ≢ Some answer
-  never answer differs e = let told = whole.answer in absurd (differs cc)
+-- ---- what takes effect
 
-  legal_at-whole : (answer : Reply) → own.step.answer ≡ Some answer → IsLegalAt s call answer own
-  legal_at-whole answer e =
-      record { newer = []; older = []; steps = refl; effect = takes_effect answer e; others = All-nil IsQuiet }
+module _ (s : Settings) (call : Call) (step : StepTaken) where
+  abbrev it : ServerState
+  it = server_at step.before call.server
 
-  legal-whole : IsLegal s call
-  legal-whole =
+  -- an operation that changes nothing here
+  pub effect-stays : (answer : Reply) → transition s (has_room s (softs step.before)) call.number call.op it.mark it.stamp ≡ stays answer
+      → step.after ≡ step.before → TakesEffect s call answer step
+  effect-stays answer decides quiet =
       record {
-        answered = λ answer e differs. (own, legal_at-whole answer e);
-        contended = λ e. absurd (never Contended sound.contended e);
-        open_yet = λ e. let told = whole.answer in cc;
+        reply = ap (λ (t : Transition). t.reply) decides;
+        change = ap (λ (t : Transition). changed step.before call.server t.change) decides ∙ sym quiet;
       }
 
-  -- where full is answered, there are no fewer soft marks than the limit
-  full-whole : IsFullAtLimit s call
-  full-whole e =
-      let legal = legal_at-whole Full e in
-      record { own = own; legal = legal; limit = omega (arith, sound.full legal.effect.reply, whole.limit) }
-
-  owners-whole : IsOwner own.step.before number server → (own.step.answer ≢ Some Worn) × (own.step.answer ≢ Some Contended)
-  owners-whole owned = (never Worn (sound.own owned), never Contended sound.contended)
-
-  pub IsSoundCall-whole : IsSoundCall s (and_step (begun_call thread number op server) own)
-  IsSoundCall-whole =
+  -- an operation that puts this mark there
+  pub effect-becomes : (mark : Mark) (answer : Reply)
+      → transition s (has_room s (softs step.before)) call.number call.op it.mark it.stamp ≡ becomes mark answer
+      → step.after ≡ set step.before call.server (record { mark = mark; stamp = it.stamp + 1 }) → TakesEffect s call answer step
+  effect-becomes mark answer decides wrote =
       record {
-        legal = legal-whole;
-        once = inl (All-nil IsQuiet);
-        full = full-whole;
-        owners = All-cons (OwnerAt call) own [] owners-whole (All-nil (OwnerAt call));
-        contended = never Contended sound.contended;
+        reply = ap (λ (t : Transition). t.reply) decides;
+        change = ap (λ (t : Transition). changed step.before call.server t.change) decides ∙ sym wrote;
       }
 
--- two threads that are responsible for one server have one number, so they are one
-pub HasOneResponsible-core : (core : CoreState) → IsCore core → HasOneResponsible core
-HasOneResponsible-core core is server one other mine others =
-    let marked = mine.marked in
-    let marked_other = others.marked in
-    let same : others.number ≡ mine.number = cc in
-    let named : number_of (thread_at core other) ≡ Some mine.number = others.enrolled ∙ ap Some same in
-    let in_one = number-inside core.threads one mine.number mine.enrolled in
-    let in_other = number-inside core.threads other mine.number named in
-    number-once core.threads core.enrolled other one mine.number is.numbers in_other in_one named mine.enrolled
+-- ---- what each phase knows of the steps so far
+
+-- the same word, or one with an older stamp
+abbrev pub IsNotNewer : ServerState → ServerState → Type 0
+IsNotNewer one other = (one ≡ other) ⊎ (one.stamp < other.stamp)
+
+-- an own step before which as many marks were soft as may be, where the server's word was no older than this one
+pub record SawLimit (s : Settings) (server : ℕ) (found now : ServerState) (steps : List OwnStep) : Type 0 where
+  pub own : OwnStep
+  pub newer : List OwnStep
+  pub older : List OwnStep
+  pub among : steps ≡ newer ++ own ∷ older
+  pub others : All IsQuiet (newer ++ older)
+  pub quiet : IsQuiet own
+  pub limit : softs own.step.before ≡ s.limit
+  pub after_found : IsNotNewer found (server_at own.step.before server)
+  pub before_now : IsNotNewer (server_at own.step.before server) now
+
+abbrev pub Knows : Settings → ℕ → CallState → List OwnStep → ServerState → Phase → Type 0
+Knows s thread call steps now Start = All IsQuiet steps
+Knows s thread call steps now (Read found mark answer) =
+    All IsQuiet steps × Decides s call.number call.op found (becomes mark answer)
+Knows s thread call steps now (AtThreshold found) =
+    All IsQuiet steps × Marks s call.number call.op found × IsNotNewer found now
+Knows s thread call steps now (Limit found) =
+    All IsQuiet steps × Marks s call.number call.op found × SawLimit s call.server found now steps
+Knows s thread call steps now (Reserving found slots) = All IsQuiet steps × Marks s call.number call.op found
+Knows s thread call steps now (Holding found) = All IsQuiet steps × Marks s call.number call.op found
+Knows s thread call steps now Firming = IsDone s (open_call thread call steps) TookSoft
+Knows s thread call steps now Losing = All IsQuiet steps
+Knows s thread call steps now (Loosening found mark answer) =
+    All IsQuiet steps × Decides s call.number call.op found (becomes mark answer)
+Knows s thread call steps now (Loosened found mark answer) =
+    All IsQuiet steps × Decides s call.number call.op found (becomes mark answer)
+Knows s thread call steps now (Emptied answer) = IsDone s (open_call thread call steps) answer
+
+-- an open call at any phase is sound
+pub sound-open : (s : Settings) (thread : ℕ) (call : CallState) (steps : List OwnStep) (now : ServerState) (phase : Phase)
+    → Knows s thread call steps now phase → IsSoundCall s (open_call thread call steps)
+sound-open s thread call steps now Start knows = sound-quiet s (open_call thread call steps) refl knows
+sound-open s thread call steps now (Read found mark answer) knows = sound-quiet s (open_call thread call steps) refl knows.0
+sound-open s thread call steps now (AtThreshold found) knows = sound-quiet s (open_call thread call steps) refl knows.0
+sound-open s thread call steps now (Limit found) knows = sound-quiet s (open_call thread call steps) refl knows.0
+sound-open s thread call steps now (Reserving found slots) knows = sound-quiet s (open_call thread call steps) refl knows.0
+sound-open s thread call steps now (Holding found) knows = sound-quiet s (open_call thread call steps) refl knows.0
+sound-open s thread call steps now Firming knows = sound-done s (open_call thread call steps) TookSoft refl knows
+sound-open s thread call steps now Losing knows = sound-quiet s (open_call thread call steps) refl knows
+sound-open s thread call steps now (Loosening found mark answer) knows = sound-quiet s (open_call thread call steps) refl knows.0
+sound-open s thread call steps now (Loosened found mark answer) knows = sound-quiet s (open_call thread call steps) refl knows.0
+sound-open s thread call steps now (Emptied answer) knows = sound-done s (open_call thread call steps) answer refl knows
+
+IsNotNewer-trans : (one mid other : ServerState) → IsNotNewer one mid → IsNotNewer mid other → IsNotNewer one other
+IsNotNewer-trans one mid other first second =
+    ⊎_elim
+    (λ (same : one ≡ mid). let P : ServerState → Type 0 = λ it. IsNotNewer it other in subst P (sym same) second)
+    (λ (older : one.stamp < mid.stamp).
+    ⊎_elim
+    (λ (same : mid ≡ other). inr (let e : mid.stamp ≡ other.stamp = ap (λ (it : ServerState). it.stamp) same in omega arith))
+    (λ (later : mid.stamp < other.stamp). inr (omega arith))
+    second)
+    first
+
+-- a word that is neither older nor newer is the same
+IsNotNewer-same : (one mid other : ServerState) → IsNotNewer one mid → IsNotNewer mid other → one ≡ other → mid ≡ one
+IsNotNewer-same one mid other first second same =
+    ⊎_elim
+    (λ (is : one ≡ mid). sym is)
+    (λ (older : one.stamp < mid.stamp).
+    let ends : one.stamp ≡ other.stamp = ap (λ (it : ServerState). it.stamp) same in
+    ⊎_elim
+    (λ (is : mid ≡ other). is ∙ sym same)
+    (λ (later : mid.stamp < other.stamp). absurd (omega arith))
+    second)
+    first
+
+-- what a phase knows when the server's word moved on
+pub Knows-kept : (s : Settings) (thread : ℕ) (call : CallState) (steps : List OwnStep) (now new : ServerState) (phase : Phase)
+    → IsNotNewer now new → Knows s thread call steps now phase → Knows s thread call steps new phase
+Knows-kept s thread call steps now new Start on knows = knows
+Knows-kept s thread call steps now new (Read found mark answer) on knows = knows
+Knows-kept s thread call steps now new (AtThreshold found) on knows =
+    (knows.0, knows.1, IsNotNewer-trans found now new knows.2 on)
+Knows-kept s thread call steps now new (Limit found) on knows =
+    let saw = knows.2 in (
+      knows.0,
+      knows.1,
+      record {
+        own = saw.own;
+        newer = saw.newer;
+        older = saw.older;
+        among = saw.among;
+        others = saw.others;
+        quiet = saw.quiet;
+        limit = saw.limit;
+        after_found = saw.after_found;
+        before_now = IsNotNewer-trans (server_at saw.own.step.before call.server) now new saw.before_now on;
+      },
+    )
+Knows-kept s thread call steps now new (Reserving found slots) on knows = knows
+Knows-kept s thread call steps now new (Holding found) on knows = knows
+Knows-kept s thread call steps now new Firming on knows = knows
+Knows-kept s thread call steps now new Losing on knows = knows
+Knows-kept s thread call steps now new (Loosening found mark answer) on knows = knows
+Knows-kept s thread call steps now new (Loosened found mark answer) on knows = knows
+Knows-kept s thread call steps now new (Emptied answer) on knows = knows
+
+-- ---- what a step and its decision leave
+
+-- a step with the answer of its decision
+abbrev pub with_decision : ℕ → StepTaken → Decision → OwnStep
+with_decision at base decision = record { at = at; step = record base { answer = answer_of decision } }
+
+abbrev pub Told : Settings → ℕ → CallState → List OwnStep → ℕ → StepTaken → ServerState → Decision → Type 0
+Told s thread call steps at base now (Goes lost phase) =
+    Knows s thread call (with_decision at base (Goes lost phase) ∷ steps) now phase
+Told s thread call steps at base now (Answers answer) =
+    IsSoundCall s (and_step (open_call thread call steps) (with_decision at base (Answers answer)))
+
+module _ (s : Settings) (thread : ℕ) (call : CallState) (steps : List OwnStep) (at : ℕ) (base : StepTaken) where
+  abbrev opened : Call
+  opened = open_call thread call steps
+
+  abbrev own : Decision → OwnStep
+  own decision = with_decision at base decision
+
+  abbrev told : ServerState → Decision → Type 0
+  told now decision = Told s thread call steps at base now decision
+
+  pub still_quiet : (decision : Decision) → base.after ≡ base.before → All IsQuiet steps → All IsQuiet (own decision ∷ steps)
+  still_quiet decision same quiet = All-cons IsQuiet (own decision) steps same quiet
+
+  -- a try that is lost
+  pub told-lost : (now : ServerState) → base.after ≡ base.before → All IsQuiet steps → told now (lost_try s call)
+  told-lost now same quiet =
+      let again : Decision = Goes (call.lost + 1) Start in
+      let gives_up : Decision = Answers Contended in
+      cond_both (eqb s.tries (call.lost + 1)) gives_up again (told now)
+      (λ e. sound-contended s (and_step opened (own gives_up)) refl (still_quiet gives_up same quiet))
+      (λ e. still_quiet again same quiet)
+
+  -- an answer that changes nothing
+  pub told-stays : (now : ServerState) (answer : Reply) → base.after ≡ base.before → All IsQuiet steps → softs base.before ≤ s.limit
+      → Decides s call.number call.op (server_at base.before call.server) (stays answer) → told now (Answers answer)
+  told-stays now answer same quiet limit decides =
+      let last = own (Answers answer) in
+      sound-answered s (and_step opened last) answer refl
+      (done-here s opened last answer quiet (effect-stays s opened last.step answer (decides (has_room s (softs base.before))) same) limit)
+
+  -- the look that begins a try
+  told-phase : (now : ServerState) (lost : ℕ) (phase : Phase) → base.after ≡ base.before → All IsQuiet steps
+      → SaysAt s call.number call.op now phase → told now (Goes lost phase)
+  told-phase now lost Start same quiet says = absurd says
+  told-phase now lost (Read found mark answer) same quiet says = (still_quiet (Goes lost (Read found mark answer)) same quiet, says.1)
+  told-phase now lost (AtThreshold found) same quiet says = (still_quiet (Goes lost (AtThreshold found)) same quiet, says.1, inl says.0)
+  told-phase now lost (Limit found) same quiet says = absurd says
+  told-phase now lost (Reserving found slots) same quiet says = absurd says
+  told-phase now lost (Holding found) same quiet says = absurd says
+  told-phase now lost Firming same quiet says = absurd says
+  told-phase now lost Losing same quiet says = absurd says
+  told-phase now lost (Loosening found mark answer) same quiet says = (still_quiet (Goes lost (Loosening found mark answer)) same quiet, says.1)
+  told-phase now lost (Loosened found mark answer) same quiet says = absurd says
+  told-phase now lost (Emptied answer) same quiet says = absurd says
+
+  pub told-start : (decision : Decision) → base.after ≡ base.before → All IsQuiet steps → softs base.before ≤ s.limit
+      → Says s call.number call.op (server_at base.before call.server) decision → told (server_at base.before call.server) decision
+  told-start (Goes lost phase) same quiet limit says = told-phase (server_at base.before call.server) lost phase same quiet says
+  told-start (Answers answer) same quiet limit says = told-stays (server_at base.before call.server) answer same quiet limit says
+
+  -- the second look, which finds the word that the first look found
+  pub told-full : (found now : ServerState) → base.after ≡ base.before → All IsQuiet steps → Marks s call.number call.op found
+      → SawLimit s call.server found now steps → found ≡ now → told now (Answers Full)
+  told-full found now same quiet marks saw is =
+      let last = own (Answers Full) in
+      let there = server_at saw.own.step.before call.server in
+      let pinned : there ≡ found = IsNotNewer-same found there now saw.after_found saw.before_now is in
+      let no_room : has_room s (softs saw.own.step.before) ≡ false = le-ltb (softs saw.own.step.before) s.limit (omega (arith, saw.limit)) in
+      let decides : transition s (has_room s (softs saw.own.step.before)) call.number call.op there.mark there.stamp ≡ stays Full =
+      ap (λ (it : ServerState). transition s (has_room s (softs saw.own.step.before)) call.number call.op it.mark it.stamp) pinned
+      ∙ marks (has_room s (softs saw.own.step.before))
+      ∙ ap (λ room. cond room (becomes (Soft call.number) TookSoft) (stays Full)) no_room in
+      sound-answered s (and_step opened last) Full refl
+      (record {
+        own = saw.own;
+        legal = record {
+          newer = last ∷ saw.newer;
+          older = saw.older;
+          steps = ap (λ them. last ∷ them) saw.among;
+          effect = effect-stays s (and_step opened last) saw.own.step Full decides saw.quiet;
+          others = All-cons IsQuiet last (saw.newer ++ saw.older) same saw.others;
+        };
+        limit = omega (arith, saw.limit);
+      })
+
+  -- the look at the soft word, which finds as many settled marks as may be
+  pub told-limit : (found : ServerState) (lost : ℕ) → base.after ≡ base.before → All IsQuiet steps → Marks s call.number call.op found
+      → IsNotNewer found (server_at base.before call.server) → softs base.before ≡ s.limit
+      → told (server_at base.before call.server) (Goes lost (Limit found))
+  told-limit found lost same quiet marks older limit =
+      let next : Decision = Goes lost (Limit found) in (
+        still_quiet next same quiet,
+        marks,
+        record {
+          own = own next;
+          newer = [];
+          older = steps;
+          among = refl;
+          others = quiet;
+          quiet = same;
+          limit = limit;
+          after_found = older;
+          before_now = inl refl;
+        },
+      )
+
+  -- a write of what the operation makes of the word that it found
+  pub done-write : (decision : Decision) (found : ServerState) (mark : Mark) (answer : Reply) → All IsQuiet steps
+      → transition s (has_room s (softs base.before)) call.number call.op found.mark found.stamp ≡ becomes mark answer
+      → server_at base.before call.server ≡ found
+      → base.after ≡ set base.before call.server (record { mark = mark; stamp = found.stamp + 1 })
+      → softs base.before ≤ s.limit → IsDone s (and_step opened (own decision)) answer
+  done-write decision found mark answer quiet decides same wrote limit =
+      let P : ServerState → Type 0 = λ it. transition s (has_room s (softs base.before)) call.number call.op it.mark it.stamp ≡ becomes mark answer in
+      let Q : ServerState → Type 0 = λ it. base.after ≡ set base.before call.server (record { mark = mark; stamp = it.stamp + 1 }) in
+      done-here s opened (own decision) answer quiet
+      (effect-becomes s opened (own decision).step mark answer (subst P (sym same) decides) (subst Q (sym same) wrote)) limit

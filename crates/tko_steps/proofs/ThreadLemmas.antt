@@ -3,35 +3,23 @@ use Rattle.std.proofs.Common.{◌≡◌, ℕ, ◌+◌, ◌<◌, ◌≤◌, Bool,
 use Rattle.std.proofs.lemmas.Bool.{cases_eq, eq-eqb, cases_lt}
 use Rattle.std.proofs.lemmas.Bool.Decides.{nat_tests}
 use Rattle.std.proofs.lemmas.List.{get_or_past}
-use Rattle.std.proofs.lemmas.List.Sums.{sum_by-set, get_or-le-sum_by, count_by-le-length}
-use Rattle.tko_steps.specs.declared.thread.ThreadState.{ThreadState}
-use Rattle.tko_steps.specs.declared.thread.ThreadState.TheVariants.{NotEnrolled, Idle, InCall}
+use Rattle.std.proofs.lemmas.List.Sums.{count_by-le-length}
+use Rattle.tko_steps.specs.declared.phase.ThreadState.{ThreadState}
+use Rattle.tko_steps.specs.declared.phase.ThreadState.TheVariants.{NotEnrolled, Idle, InCall}
 use Rattle.tko_steps.specs.Core.{has_number, is_enrolled, number_of}
-
--- one where a test passes
-abbrev pub bit : Bool → ℕ
-bit test = cond test 1 0
-
--- a count after one place has changed
-pub count_by-set : {X : Type 0} (p : X → Bool) (xs : List X) (i : ℕ) (new d : X) → i < length xs
-    → count_by p (set xs i new) + bit (p (get_or xs i d)) ≡ count_by p xs + bit (p new)
-count_by-set p xs i new d inside = sum_by-set (λ x. cond (p x) 1 0) xs i new d inside
-
-pub bit-le-count_by : {X : Type 0} (p : X → Bool) (xs : List X) (i : ℕ) (d : X) → i < length xs
-    → bit (p (get_or xs i d)) ≤ count_by p xs
-bit-le-count_by p xs i d inside = get_or-le-sum_by (λ x. cond (p x) 1 0) xs i d inside
+use Rattle.tko_steps.proofs.CountLemmas.{bit, bit-le-count_by, count_by-set}
 
 pub has_number-from : (state : ThreadState) (number : ℕ) → number_of state ≡ Some number → has_number number state ≡ true
 has_number-from NotEnrolled number e = cc
 has_number-from (Idle own) number e = eq-eqb own number cc
-has_number-from (InCall own op server) number e = eq-eqb own number cc
+has_number-from (InCall call phase) number e = eq-eqb call.number number cc
 
 -- each number below the count is one thread's, and no other number is any thread's
 abbrev pub OneEach : ℕ → List ThreadState → Type 0
 OneEach enrolled threads = (number : ℕ) → count_by (has_number number) threads ≡ cond (ltb number enrolled) 1 0
 
 -- a count to which a place that passes adds one
-one-le-count_by : {X : Type 0} (p : X → Bool) (xs : List X) (i : ℕ) (d : X) → i < length xs → p (get_or xs i d) ≡ true
+pub one-le-count_by : {X : Type 0} (p : X → Bool) (xs : List X) (i : ℕ) (d : X) → i < length xs → p (get_or xs i d) ≡ true
     → 1 ≤ count_by p xs
 one-le-count_by p xs i d inside passes = omega (arith, bit-le-count_by p xs i d inside, ap bit passes)
 
@@ -76,6 +64,13 @@ pub count_by-set_same : (p : ThreadState → Bool) (threads : List ThreadState) 
     → count_by p (set threads thread new) ≡ count_by p threads
 count_by-set_same p threads thread old new inside stands same =
     omega (arith, count_by-set p threads thread new NotEnrolled inside, ap (λ state. bit (p state)) stands, ap bit same)
+
+-- a count after one thread has changed
+pub count_by-moved : (p : ThreadState → Bool) (threads : List ThreadState) (thread : ℕ) (old new : ThreadState)
+    → thread < length threads → get_or threads thread NotEnrolled ≡ old
+    → count_by p (set threads thread new) + bit (p old) ≡ count_by p threads + bit (p new)
+count_by-moved p threads thread old new inside stands =
+    omega (arith, count_by-set p threads thread new NotEnrolled inside, ap (λ state. bit (p state)) stands)
 
 one_more_each : (x n e : ℕ) → x ≡ cond (ltb n e) 1 0 + cond (eqb e n) 1 0 → x ≡ cond (ltb n (e + 1)) 1 0
 one_more_each x n e h = grind (arith, nat_tests)

@@ -6,8 +6,8 @@ use Rattle.tko_model.specs.declared.settings.Settings.{Settings}
 use Rattle.tko_steps.specs.declared.step.BeginFault.{BeginFault}
 use Rattle.tko_steps.specs.declared.step.BeginFault.TheVariants as fault
 use Rattle.tko_steps.specs.declared.step.Stepped.TheVariants as stepped
-use Rattle.tko_steps.specs.declared.thread.ThreadState.{ThreadState}
-use Rattle.tko_steps.specs.declared.thread.ThreadState.TheVariants.{NotEnrolled, Idle, InCall}
+use Rattle.tko_steps.specs.declared.phase.ThreadState.{ThreadState}
+use Rattle.tko_steps.specs.declared.phase.ThreadState.TheVariants.{NotEnrolled, Idle, InCall}
 use Rattle.tko_steps.specs.Core.{CoreState, abstract_of, after_step_from, begin_fault, fault_at, in_call, thread_at, told_from, unless_fault, with_thread}
 use Rattle.tko_steps.specs.Runs.{Begin, Step, Turn, World, after_turns, began, happens, run, start, with_told}
 
@@ -49,7 +49,7 @@ fault_at-none : (state : ThreadState) (is_server : Bool) → fault_at state is_s
 fault_at-none NotEnrolled is_server e = cc
 fault_at-none (Idle number) true e = ((number, refl), refl)
 fault_at-none (Idle number) false e = cc
-fault_at-none (InCall number op server) is_server e = cc
+fault_at-none (InCall call phase) is_server e = cc
 
 unless_no_thread-none : (test : Bool) (found : Option BeginFault) → cond test found (Some fault.NoThread) ≡ None
     → (test ≡ true) × (found ≡ None)

@@ -1,5 +1,5 @@
--- One thread alone: runs in which no other thread takes a step of a call, and their calls as the
--- sequential tracker does them, one after another.
+-- One thread alone: runs in which no other thread takes a step of a call, and their
+-- calls as the sequential tracker does them, one after another.
 use Rattle.std.specs.Prelude.{◌≡◌, true, ℕ, List, [], ◌∷◌, ◌⊎◌, All, Option, Some, None}
 use Rattle.tko_model.specs.declared.mark.Reply.{Reply}
 use Rattle.tko_model.specs.declared.settings.Settings.{Settings}
@@ -7,7 +7,7 @@ use Rattle.tko_model.specs.Ranges.{IsWithinRanges}
 use Rattle.tko_model.specs.Tracker.{Tracker, after, reply_of}
 use Rattle.tko_steps.specs.Core.{is_call_step}
 use Rattle.tko_steps.specs.Legal.{IsQuiet}
-use Rattle.tko_steps.specs.Runs.{Began, Call, Moment, Took, Turn, World, run}
+use Rattle.tko_steps.specs.Runs.{Turn, Began, Call, Moment, Took, World, run}
 
 -- this moment, if it is a step of a call, is one of the thread at this place
 abbrev pub IsStepOf : ℕ → Moment → Type 0

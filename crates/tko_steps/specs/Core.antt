@@ -1,41 +1,63 @@
--- The core: the tracker's state, the state of each thread, and how many threads are enrolled; and
--- the core after a begin and after a step.
-use Rattle.std.specs.Prelude.{◌≡◌, ℕ, ◌+◌, ◌<◌, ◌≤◌, Bool, true, false, ◌==◌, nat_lt, if◌then◌else◌, List, length, slice_index_or, slice_set, count_by, replicate, All, Option, Some, None}
+-- The core: the words that the threads share and the state of each thread; and the core after a
+-- begin and after a step.
+use Rattle.std.specs.Prelude.{◌≡◌, ℕ, ◌+◌, ◌-◌, ◌<◌, ◌^◌, ◌==◌, Bool, true, false, nat_lt, if◌then◌else◌, List, length, slice_index_or, slice_set, replicate, Option, Some, None}
 use Rattle.tko_model.specs.declared.mark.Mark.{Mark}
 use Rattle.tko_model.specs.declared.mark.Mark.TheVariants as mark
 use Rattle.tko_model.specs.declared.mark.Op.{Op}
+use Rattle.tko_model.specs.declared.mark.Reply.{Reply}
 use Rattle.tko_model.specs.declared.settings.Settings.{Settings}
 use Rattle.tko_model.specs.declared.state.ServerState.{ServerState}
-use Rattle.tko_model.specs.Tracker.{IsTracker, Tracker, after, opened, reply_of, server_at, softs}
+use Rattle.tko_model.specs.Tracker.{opened, server_at}
+use Rattle.tko_word.specs.Words.{IsMark, stamp_end}
 use Rattle.tko_steps.specs.declared.step.BeginFault.{BeginFault}
 use Rattle.tko_steps.specs.declared.step.BeginFault.TheVariants as fault
+use Rattle.tko_steps.specs.declared.table.Action.{Action}
+use Rattle.tko_steps.specs.declared.table.Action.TheVariants.{LookAtServer, LookAtSlots, Exchange, Reserve, Settle, Loosen, Give}
+use Rattle.tko_steps.specs.declared.table.Decision.{Decision}
+use Rattle.tko_steps.specs.declared.table.Decision.TheVariants.{Goes, Answers}
+use Rattle.tko_steps.specs.declared.table.Seen.{Seen}
+use Rattle.tko_steps.specs.declared.table.Seen.TheVariants as seen
+use Rattle.tko_steps.specs.declared.phase.Call.{Call}
+use Rattle.tko_steps.specs.declared.phase.Phase.{Phase}
+use Rattle.tko_steps.specs.declared.phase.Phase.TheVariants.{Start}
+use Rattle.tko_steps.specs.declared.phase.Slots.{Slots}
+use Rattle.tko_steps.specs.declared.phase.ThreadState.{ThreadState}
+use Rattle.tko_steps.specs.declared.phase.ThreadState.TheVariants.{NotEnrolled, Idle, InCall}
 use Rattle.tko_steps.specs.declared.step.Kind.{Kind}
 use Rattle.tko_steps.specs.declared.step.Kind.TheVariants as kind
+use Rattle.tko_steps.specs.declared.step.Place.{Place}
 use Rattle.tko_steps.specs.declared.step.Place.TheVariants as place
 use Rattle.tko_steps.specs.declared.step.Stepped.{Stepped}
 use Rattle.tko_steps.specs.declared.step.Stepped.TheVariants as stepped
+use Rattle.tko_steps.specs.declared.step.Word.{Word}
 use Rattle.tko_steps.specs.declared.step.Word.TheVariants as word
-use Rattle.tko_steps.specs.declared.thread.ThreadState.{ThreadState}
-use Rattle.tko_steps.specs.declared.thread.ThreadState.TheVariants.{NotEnrolled, Idle, InCall}
+use Rattle.tko_steps.specs.Table.{action_of, next_of, same_server, same_slots}
 
-pub record CoreState : Type 0 where
-  pub tracker : Tracker
-  -- by their places
-  pub threads : List ThreadState
+-- what the words hold: each server's mark and stamp, the counts of the soft word, and how many
+-- threads are enrolled
+pub record Shared : Type 0 where
+  pub servers : List ServerState
+  pub slots : Slots
   pub enrolled : ℕ
 
--- the settings that it was opened with
-abbrev pub settings_of : CoreState → Settings
-settings_of core = core.tracker.settings
+pub record CoreState : Type 0 where
+  pub settings : Settings
+  pub shared : Shared
+  -- by their places
+  pub threads : List ThreadState
 
 -- the abstract state: the marks and stamps, and nothing else
 abbrev pub abstract_of : CoreState → List ServerState
-abstract_of core = core.tracker.servers
+abstract_of core = core.shared.servers
 
 -- whether a step of this kind is one of a call
 abbrev pub is_call_step : Kind → Bool
 is_call_step kind.Enrol = false
 is_call_step _ = true
+
+-- the settings that it was opened with
+abbrev pub settings_of : CoreState → Settings
+settings_of core = core.settings
 
 -- the state of the thread of this place
 abbrev pub thread_at : CoreState → ℕ → ThreadState
@@ -45,12 +67,16 @@ thread_at core thread = slice_index_or core.threads thread NotEnrolled
 abbrev pub number_of : ThreadState → Option ℕ
 number_of NotEnrolled = None
 number_of (Idle number) = Some number
-number_of (InCall number op server) = Some number
+number_of (InCall call phase) = Some call.number
 
--- an opened core: each server up, no thread enrolled
+-- opened words: each server up, no slot taken, no thread enrolled
+abbrev pub opened_words : Settings → Shared
+opened_words s =
+    record { servers = (opened s).servers; slots = record { firm = 0; held = 0 }; enrolled = 0 }
+
 abbrev pub opened_core : Settings → CoreState
 opened_core s =
-    record { tracker = opened s; threads = replicate s.threads NotEnrolled; enrolled = 0 }
+    record { settings = s; shared = opened_words s; threads = replicate s.threads NotEnrolled }
 
 -- the core with this state of the thread of this place
 abbrev pub with_thread : CoreState → ℕ → ThreadState → CoreState
@@ -59,7 +85,7 @@ with_thread core thread state = record core { threads = slice_set core.threads t
 -- why a call can't begin, from the state of its thread and whether the server exists
 abbrev pub fault_at : ThreadState → Bool → Option BeginFault
 fault_at NotEnrolled is_server = Some fault.NoThread
-fault_at (InCall number op server) is_server = Some fault.Busy
+fault_at (InCall call phase) is_server = Some fault.Busy
 fault_at (Idle number) is_server = if is_server then None else Some fault.NoServer
 
 abbrev pub begin_fault : CoreState → ℕ → ℕ → Option BeginFault
@@ -73,11 +99,15 @@ abbrev pub unless_fault : {A : Type 0} → Option BeginFault → A → A → A
 unless_fault None new old = new
 unless_fault (Some fault) new old = old
 
+-- a call that begins: no try is lost yet
+abbrev pub begun_by : ℕ → Op → ℕ → Call
+begun_by number op server = record { number = number; op = op; server = server; lost = 0 }
+
 -- the state of an idle thread once its call began
 abbrev pub in_call : ThreadState → Op → ℕ → ThreadState
 in_call NotEnrolled op server = NotEnrolled
-in_call (Idle number) op server = InCall number op server
-in_call (InCall number other at) op server = InCall number other at
+in_call (Idle number) op server = InCall (begun_by number op server) Start
+in_call (InCall call phase) op server = InCall call phase
 
 -- the core after a begin; one that is refused changes nothing
 abbrev pub after_begin : CoreState → ℕ → Op → ℕ → CoreState
@@ -87,47 +117,161 @@ after_begin core thread op server =
     (with_thread core thread (in_call (thread_at core thread) op server))
     core
 
+-- whether a step on this server writes: an exchange that finds another word does not
+abbrev pub wins : Shared → ℕ → Action → Bool
+wins shared server (Exchange found mark) = same_server (server_at shared.servers server) found
+wins shared server (Reserve slots) = same_slots shared.slots slots
+wins shared server action = true
+
+-- the servers after a step
+abbrev pub servers_after : Shared → ℕ → Action → List ServerState
+servers_after shared server (Exchange found mark) =
+    if same_server (server_at shared.servers server) found
+    then slice_set shared.servers server (record { mark = mark; stamp = found.stamp + 1 })
+    else shared.servers
+servers_after shared server action = shared.servers
+
+-- the counts of the soft word after a step
+abbrev pub slots_after : Slots → Action → Slots
+slots_after old (Reserve slots) =
+    if same_slots old slots then record { firm = old.firm; held = old.held + 1 } else old
+slots_after old Settle = record { firm = old.firm + 1; held = old.held - 1 }
+slots_after old Loosen = record { firm = old.firm - 1; held = old.held + 1 }
+slots_after old Give = record { firm = old.firm; held = old.held - 1 }
+slots_after old action = old
+
+abbrev pub shared_after : Shared → ℕ → Action → Shared
+shared_after shared server action =
+    record {
+      servers = servers_after shared server action;
+      slots = slots_after shared.slots action;
+      enrolled = shared.enrolled;
+    }
+
+-- what a step reads
+abbrev pub seen_by : Shared → ℕ → Action → Seen
+seen_by shared server LookAtServer = seen.Server (server_at shared.servers server)
+seen_by shared server LookAtSlots = seen.Slots shared.slots
+seen_by shared server action = seen.Done (wins shared server action)
+
+-- whether a step that read this did what it meant to; a look always does
+abbrev pub is_done : Seen → Bool
+is_done (seen.Server found) = true
+is_done (seen.Slots slots) = true
+is_done (seen.Done won) = won
+
+-- what a step on the words needs: no count goes below 0, and nothing wraps
+abbrev pub CanAct : Shared → ℕ → Action → Type 0
+CanAct shared server LookAtServer = server < length shared.servers
+CanAct shared server LookAtSlots = Unit {0}
+CanAct shared server (Exchange found mark) =
+    (server < length shared.servers) × IsMark mark × (found.stamp + 1 < stamp_end)
+CanAct shared server (Reserve slots) = shared.slots.held + 1 < 2 ^ 32
+CanAct shared server Settle = (0 < shared.slots.held) × (shared.slots.firm + 1 < 2 ^ 32)
+CanAct shared server Loosen = (0 < shared.slots.firm) × (shared.slots.held + 1 < 2 ^ 32)
+CanAct shared server Give = 0 < shared.slots.held
+
+-- the kind of an exchange of a health word
+abbrev pub kind_of_exchange : Mark → Mark → Kind
+kind_of_exchange (mark.Up count) (mark.Up other) = kind.Count
+kind_of_exchange (mark.Up count) new = kind.Mark
+kind_of_exchange old new = kind.Own
+
+abbrev pub kind_of : Action → Kind
+kind_of LookAtServer = kind.Look
+kind_of LookAtSlots = kind.Look
+kind_of (Exchange found new) = kind_of_exchange found.mark new
+kind_of (Reserve slots) = kind.Reserve
+kind_of Settle = kind.Shift
+kind_of Loosen = kind.Shift
+kind_of Give = kind.Give
+
+-- the word that a step is on
+abbrev pub place_of : ℕ → Action → Place
+place_of server LookAtServer = place.Server server
+place_of server (Exchange found mark) = place.Server server
+place_of server action = place.Soft
+
+-- the word of this place is there, and a number of threads fits what is told of it
+abbrev pub IsPlace : Shared → Place → Type 0
+IsPlace shared (place.Server server) = server < length shared.servers
+IsPlace shared place.Soft = Unit {0}
+IsPlace shared place.Enrolment = shared.enrolled < 2 ^ 32
+
+abbrev pub word_at : Shared → Place → Word
+word_at shared (place.Server server) = word.Server (server_at shared.servers server)
+word_at shared place.Soft = word.Soft shared.slots
+word_at shared place.Enrolment = word.Enrolled shared.enrolled
+
+-- the state of the thread once its step was decided
+abbrev pub state_after : Call → Decision → ThreadState
+state_after call (Goes lost phase) = InCall (record call { lost = lost }) phase
+state_after call (Answers reply) = Idle call.number
+
+abbrev pub answer_of : Decision → Option Reply
+answer_of (Goes lost phase) = None
+answer_of (Answers reply) = Some reply
+
+-- what follows the step of a call at this phase
+abbrev pub follows : CoreState → Call → Phase → Decision
+follows core call phase =
+    next_of
+    core.settings
+    call
+    phase
+    (seen_by core.shared call.server (action_of call.number phase))
+
+-- a step of the call of the thread at this place
+abbrev pub after_act : CoreState → ℕ → Call → Phase → CoreState
+after_act core thread call phase =
+    record {
+      settings = core.settings;
+      shared = shared_after core.shared call.server (action_of call.number phase);
+      threads = slice_set core.threads thread (state_after call (follows core call phase));
+    }
+
+abbrev pub told_by_act : CoreState → Call → Phase → Stepped
+told_by_act core call phase =
+    let act = action_of call.number phase in
+    let place = place_of call.server act in
+    stepped.Did
+    (kind_of act)
+    place
+    (word_at core.shared place)
+    (word_at (shared_after core.shared call.server act) place)
+    (is_done (seen_by core.shared call.server act))
+    (answer_of (follows core call phase))
+
 -- an enrolment: the thread draws how many were enrolled before it
 abbrev pub after_enrol : CoreState → ℕ → CoreState
 after_enrol core thread =
-    record (with_thread core thread (Idle core.enrolled)) { enrolled = core.enrolled + 1 }
+    record {
+      settings = core.settings;
+      shared = record core.shared { enrolled = core.shared.enrolled + 1 };
+      threads = slice_set core.threads thread (Idle core.shared.enrolled);
+    }
 
 abbrev pub told_by_enrol : CoreState → Stepped
 told_by_enrol core =
     stepped.Did
     kind.Enrol
     place.Enrolment
-    (word.Enrolled core.enrolled)
-    (word.Enrolled (core.enrolled + 1))
+    (word.Enrolled core.shared.enrolled)
+    (word.Enrolled (core.shared.enrolled + 1))
     true
     None
-
--- a whole call: the sequential tracker's operation with the thread's number
-abbrev pub after_whole : CoreState → ℕ → ℕ → Op → ℕ → CoreState
-after_whole core thread number op server =
-    record (with_thread core thread (Idle number)) { tracker = after core.tracker number op server }
-
-abbrev pub told_by_whole : CoreState → ℕ → Op → ℕ → Stepped
-told_by_whole core number op server =
-    stepped.Did
-    kind.Whole
-    (place.Server server)
-    (word.Server (server_at core.tracker.servers server))
-    (word.Server (server_at (after core.tracker number op server).servers server))
-    true
-    (Some (reply_of core.tracker number op server))
 
 -- the core after a step of the thread at this place, which has this state
 abbrev pub after_step_from : CoreState → ℕ → ThreadState → CoreState
 after_step_from core thread NotEnrolled = after_enrol core thread
 after_step_from core thread (Idle number) = core
-after_step_from core thread (InCall number op server) = after_whole core thread number op server
+after_step_from core thread (InCall call phase) = after_act core thread call phase
 
 -- what that step reports
 abbrev pub told_from : CoreState → ThreadState → Stepped
 told_from core NotEnrolled = told_by_enrol core
 told_from core (Idle number) = stepped.Idle
-told_from core (InCall number op server) = told_by_whole core number op server
+told_from core (InCall call phase) = told_by_act core call phase
 
 abbrev pub after_step : CoreState → ℕ → CoreState
 after_step core thread =
@@ -145,25 +289,19 @@ told_by_step core thread =
 abbrev pub has_number : ℕ → ThreadState → Bool
 has_number number NotEnrolled = false
 has_number number (Idle own) = own == number
-has_number number (InCall own op server) = own == number
+has_number number (InCall call phase) = call.number == number
 
 -- whether a thread is enrolled
 abbrev pub is_enrolled : ThreadState → Bool
 is_enrolled NotEnrolled = false
 is_enrolled (Idle number) = true
-is_enrolled (InCall number op server) = true
+is_enrolled (InCall call phase) = true
 
 -- whether a thread has a call
 abbrev pub has_call : ThreadState → Bool
 has_call NotEnrolled = false
 has_call (Idle number) = false
-has_call (InCall number op server) = true
-
--- a call of a thread is on a server that exists
-abbrev pub IsOnServer : ℕ → ThreadState → Type 0
-IsOnServer servers NotEnrolled = Unit {0}
-IsOnServer servers (Idle number) = Unit {0}
-IsOnServer servers (InCall number op server) = server < servers
+has_call (InCall call phase) = true
 
 -- the number of the thread that a mark names
 abbrev pub owner_of : Mark → Option ℕ
@@ -174,17 +312,3 @@ owner_of (mark.Hard thread) = Some thread
 -- the server's mark names this number
 abbrev pub IsOwner : List ServerState → ℕ → ℕ → Type 0
 IsOwner servers number server = owner_of (server_at servers server).mark ≡ Some number
-
--- what holds of the core in each state of each run
-pub record IsCore (core : CoreState) : Type 0 where
-  pub tracker : IsTracker core.tracker
-  pub threads : length core.threads ≡ core.tracker.settings.threads
-  -- so many threads are enrolled, and each number below that is the number of one thread
-  pub enrolled : count_by is_enrolled core.threads ≡ core.enrolled
-  pub numbers : (number : ℕ) →
-      count_by (has_number number) core.threads ≡ (if nat_lt number core.enrolled then 1 else 0)
-  pub calls : All (IsOnServer (length (abstract_of core))) core.threads
-  -- marks name numbers that were drawn
-  pub owners : (server number : ℕ) →
-      IsOwner (abstract_of core) number server → number < core.enrolled
-  pub limit : softs (abstract_of core) ≤ core.tracker.settings.limit

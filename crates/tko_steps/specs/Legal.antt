@@ -1,12 +1,13 @@
--- Legal calls: each answered call takes effect at one of its own steps, its linearization point, as
--- the sequential tracker would do it there. Only abstract states and own steps are spoken of.
-use Rattle.std.specs.Prelude.{◌≡◌, ◌≢◌, ℕ, List, [], ◌∷◌, ◌++◌, ◌⊎◌, All, Some, None}
+-- Legal calls: each answered call takes effect at one of its own steps, its
+-- linearization point, as the sequential tracker would do it there. Only abstract states and own
+-- steps are spoken of.
+use Rattle.std.specs.Prelude.{◌≡◌, ◌≢◌, List, [], ◌∷◌, ◌++◌, ◌⊎◌, All, Some, None}
 use Rattle.tko_model.specs.declared.mark.Reply.{Reply}
 use Rattle.tko_model.specs.declared.mark.Reply.TheVariants.{Contended, Full, Worn}
 use Rattle.tko_model.specs.declared.settings.Settings.{Settings}
 use Rattle.tko_model.specs.declared.state.ServerState.{ServerState}
 use Rattle.tko_model.specs.Tracker.{Tracker, after, reply_of, softs}
-use Rattle.tko_steps.specs.Core.{CoreState, IsOwner, abstract_of, number_of, thread_at}
+use Rattle.tko_steps.specs.Core.{IsOwner, CoreState, number_of, thread_at}
 use Rattle.tko_steps.specs.Runs.{Began, Call, Moment, OwnStep, StepTaken, Took, calls_of, own_step}
 
 -- the sequential tracker in this abstract state
@@ -98,15 +99,3 @@ ChangesAreOwn (Began thread number op server ∷ past) = ChangesAreOwn past
 ChangesAreOwn (Took step ∷ past) =
     let own : OwnStep = own_step step past in
     (IsQuiet own ⊎ IsNewestStep own (calls_of (Took step ∷ past))) × ChangesAreOwn past
-
--- the thread of this place is responsible for the server: the server's mark names its number
-pub record IsResponsible (core : CoreState) (thread server : ℕ) : Type 0 where
-  pub number : ℕ
-  pub enrolled : number_of (thread_at core thread) ≡ Some number
-  pub marked : IsOwner (abstract_of core) number server
-
--- no two threads are responsible for one server
-abbrev pub HasOneResponsible : CoreState → Type 0
-HasOneResponsible core =
-    (server one other : ℕ) →
-    IsResponsible core one server → IsResponsible core other server → one ≡ other

@@ -2,26 +2,35 @@
 ghost use Rattle.std.specs.Prelude.{◌≡◌, ◌≢◌, ◌≤◌, Some, All};
 ghost use Rattle.tko_model.specs.Tracker.{opened, softs};
 ghost use Rattle.tko_steps.specs.Alone.{InEveryRunAlone, IsIdleUnlessOf, Replays};
-ghost use Rattle.tko_steps.specs.Core.{IsCore, abstract_of, settings_of};
-ghost use Rattle.tko_steps.specs.Legal.{ChangesAreOwn, ChangesAtMostOnce, HasOneResponsible, IsChain, IsFullAtLimit, IsLegal, IsOwnersAnswer, IsUnderNumber, tracker_in};
+ghost use Rattle.tko_steps.specs.Core.{abstract_of, settings_of};
+ghost use Rattle.tko_steps.specs.Cost.{IsShort};
+ghost use Rattle.tko_steps.specs.Invariant.{IsCore};
+ghost use Rattle.tko_steps.specs.Legal.{ChangesAreOwn, ChangesAtMostOnce, IsChain, IsFullAtLimit, IsLegal, IsOwnersAnswer, IsUnderNumber, tracker_in};
+ghost use Rattle.tko_steps.specs.Lost.{ExpectsWhatItSaw, HasLostEachTry, LosesToOthers};
 ghost use Rattle.tko_steps.specs.Runs.{InEveryRun, calls_of};
+ghost use Rattle.tko_steps.specs.Safe.{CountsSlots, HasDistinctNumbers, HasOneResponsible, OwnsItsMarks};
 
 use tko_model::Reply;
 
 /// Over every list of turns, from the core as it opens under settings in range: each answered call
-/// has the sequential tracker's reply and change at one of its own steps, nothing but own steps of
-/// calls changes a mark, no two threads are responsible for one server, and soft marks never exceed
-/// the limit.
+/// has the sequential tracker's reply and change at one of its own steps, or lost every try to
+/// other threads and changed nothing; nothing but own steps of calls changes a mark, no two threads
+/// are responsible for one server, and soft marks never exceed the limit.
 pub fn every_run()
     // each call of the run
     ensures legal { InEveryRun (λ s w. All (IsLegal s) (calls_of w.past)) }
     ensures once { InEveryRun (λ s w.
         All (λ call. ChangesAtMostOnce call.steps) (calls_of w.past)) }
-    ensures contended { InEveryRun (λ s w.
-        All (λ call. call.answer ≢ Some Reply.Contended) (calls_of w.past)) }
     ensures full { InEveryRun (λ s w. All (IsFullAtLimit s) (calls_of w.past)) }
     ensures owners { InEveryRun (λ s w. All IsOwnersAnswer (calls_of w.past)) }
     ensures numbers { InEveryRun (λ s w. All (IsUnderNumber w.core) (calls_of w.past)) }
+    ensures steps { InEveryRun (λ s w. All (IsShort s) (calls_of w.past)) }
+
+    // the tries of a call
+    ensures lost { InEveryRun (λ s w. All (HasLostEachTry s) (calls_of w.past)) }
+    ensures expected { InEveryRun (λ s w.
+        All (λ call. ExpectsWhatItSaw s call.steps) (calls_of w.past)) }
+    ensures others { InEveryRun LosesToOthers }
 
     // the abstract states, one after another
     ensures chain { InEveryRun (λ s w. IsChain (opened s).servers w.past (abstract_of w.core)) }
@@ -32,6 +41,9 @@ pub fn every_run()
     ensures limit { InEveryRun (λ s w. softs (abstract_of w.core) ≤ s.limit) }
     ensures settings { InEveryRun (λ s w. settings_of w.core ≡ s) }
     ensures core { InEveryRun (λ s w. IsCore w.core) }
+    ensures slots { InEveryRun (λ s w. CountsSlots w.core) }
+    ensures owned { InEveryRun (λ s w. OwnsItsMarks w) }
+    ensures distinct { InEveryRun (λ s w. HasDistinctNumbers w.core) }
 {}
 
 /// Over every list of turns in which one thread alone takes steps of calls: the sequential tracker,

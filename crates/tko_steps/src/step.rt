@@ -1,15 +1,28 @@
 //! What a step does and reports.
 
+use crate::Slots;
 use thiserror::Error;
 use tko_model::{Reply, ServerState};
 
 /// What a step does.
 #[derive(Clone, Copy, Debug, PartialEq, Eq)]
 pub enum Kind {
-    /// The thread draws its number.
+    /// It loads a word.
+    Look,
+    /// It exchanges an unmarked health word for an unmarked one.
+    Count,
+    /// It exchanges an unmarked health word for a marked one.
+    Mark,
+    /// It exchanges the health word that its own thread marked.
+    Own,
+    /// It exchanges the soft word for one with one more slot held.
+    Reserve,
+    /// It turns a held slot into a settled mark, or a settled mark into a held slot.
+    Shift,
+    /// It gives a held slot back.
+    Give,
+    /// It draws the thread's number.
     Enrol,
-    /// The thread does a whole call.
-    Whole,
 }
 
 impl Kind {
@@ -20,10 +33,7 @@ impl Kind {
     pub fn is_call_step(self) -> bool
         ensures { result ≡ is_call_step self }
     {
-        match self {
-            Kind::Enrol => false,
-            Kind::Whole => true,
-        }
+        !matches!(self, Kind::Enrol)
     }
 }
 
@@ -31,6 +41,7 @@ impl Kind {
 #[derive(Clone, Copy, Debug, PartialEq, Eq)]
 pub enum Place {
     Server(usize),
+    Soft,
     Enrolment,
 }
 
@@ -39,6 +50,8 @@ pub enum Place {
 pub enum Word {
     /// A server's mark and stamp.
     Server(ServerState),
+    /// The two counts of soft marks.
+    Soft(Slots),
     /// How many threads are enrolled.
     Enrolled(u32),
 }

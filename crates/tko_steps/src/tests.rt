@@ -1,6 +1,6 @@
-//! Runs by hand.
+//! Runs worked out by hand, step by step.
 
-use crate::{BeginFault, Core, Kind, Place, Stepped, Word};
+use crate::{BeginFault, Core, Kind, Place, Slots, Stepped, Word};
 use std::alloc::Global;
 use std::test::Fail;
 use tko_model::{Mark, Op, OpenFault, Reply, ServerState, Settings};
@@ -14,93 +14,267 @@ const SETTINGS: Settings = Settings {
     opening_stamp: 0,
 };
 
-/// A core whose threads enrolled in order, so that each has its place as its number.
-fn enrolled(alloc: Global, settings: Settings) -> Result<Core, OpenFault> {
-    let threads = settings.threads as usize;
+/// A line of a run: a call that begins, or a step with the word that it leaves.
+#[derive(Clone, Copy)]
+enum Line {
+    Begin(usize, Op, usize),
+    Step(usize, Kind, Place, Word, bool, Option<Reply>),
+}
+
+/// A step on a server's word.
+fn on(thread: usize, kind: Kind, server: usize, mark: Mark, stamp: u64) -> Line {
+    let word = Word::Server(ServerState { mark, stamp });
+    Line::Step(thread, kind, Place::Server(server), word, true, None)
+}
+
+/// A step on the soft word.
+fn soft(thread: usize, kind: Kind, firm: u32, held: u32) -> Line {
+    let word = Word::Soft(Slots { firm, held });
+    Line::Step(thread, kind, Place::Soft, word, true, None)
+}
+
+/// The same step, which is lost.
+fn lost(line: Line) -> Line {
+    match line {
+        Line::Step(thread, kind, place, word, _, answer) => {
+            Line::Step(thread, kind, place, word, false, answer)
+        }
+        Line::Begin(..) => line,
+    }
+}
+
+/// The same step, which ends its call.
+fn ends(line: Line, reply: Reply) -> Line {
+    match line {
+        Line::Step(thread, kind, place, word, won, _) => {
+            Line::Step(thread, kind, place, word, won, Some(reply))
+        }
+        Line::Begin(..) => line,
+    }
+}
+
+fn is_told(told: Stepped, line: Line) -> bool {
+    let Stepped::Did {
+        kind,
+        place,
+        left,
+        won,
+        answer,
+        ..
+    } = told
+    else {
+        return false;
+    };
+    match line {
+        Line::Step(_, wanted, at, word, wins, reply) => {
+            kind == wanted && place == at && left == word && won == wins && answer == reply
+        }
+        Line::Begin(..) => false,
+    }
+}
+
+/// The first line that the core does not do.
+fn first_difference(core: &mut Core, lines: &[Line]) -> Option<usize> {
+    for (at, line) in lines.iter().enumerate() {
+        let same = match *line {
+            Line::Begin(thread, op, server) => core.begin(thread, op, server).is_ok(),
+            Line::Step(thread, ..) => is_told(core.step(thread), *line),
+        };
+        if !same {
+            return Some(at);
+        }
+    }
+    None
+}
+
+/// A core whose threads are enrolled in the order of their places.
+fn enrolled(
+    alloc: Global,
+    servers: u32,
+    threads: u32,
+    failures: u32,
+    limit: u32,
+    tries: u32,
+    opening_stamp: u64,
+) -> Result<Core, OpenFault> {
+    let settings = Settings {
+        servers,
+        threads,
+        failures,
+        limit,
+        tries,
+        opening_stamp,
+    };
     let mut core = Core::open(alloc, settings)?;
-    for thread in 0..threads {
+    for thread in 0..threads as usize {
         let _ = core.step(thread);
     }
     Ok(core)
 }
 
-/// The answer of a call that is begun and stepped once.
-fn answer(core: &mut Core, thread: usize, op: Op, server: usize) -> Option<Reply> {
-    core.begin(thread, op, server).ok()?;
-    match core.step(thread) {
-        Stepped::Did { answer, .. } => answer,
-        Stepped::NoThread | Stepped::Idle => None,
-    }
-}
-
-fn server(mark: Mark, stamp: u64) -> Word {
-    Word::Server(ServerState { mark, stamp })
-}
-
 #[test]
-fn each_step_tells_what_it_found_and_left(rt: HostRuntime) -> Result<(), Fail> {
-    let mut core = Core::open(rt.alloc(), SETTINGS)?;
-    let enrolment = |number| Stepped::Did {
-        kind: Kind::Enrol,
-        place: Place::Enrolment,
-        found: Word::Enrolled(number),
-        left: Word::Enrolled(number + 1),
-        won: true,
-        answer: None,
-    };
-    // the thread that comes first draws 0, whatever its place
-    assert_eq!(rt; core.step(1), enrolment(0));
-    assert_eq!(rt; core.step(0), enrolment(1));
-    assert_eq!(rt; core.step(0), Stepped::Idle);
-    assert_eq!(rt; core.step(2), Stepped::NoThread);
-    assert!(rt; core.begin(1, Op::SoftFailure, 0).is_ok());
-    let marks = Stepped::Did {
-        kind: Kind::Whole,
-        place: Place::Server(0),
-        found: server(Mark::Up(0), 0),
-        left: server(Mark::Soft(0), 1),
-        won: true,
-        answer: Some(Reply::TookSoft),
-    };
-    assert_eq!(rt; core.step(1), marks);
-    assert_eq!(rt; core.step(1), Stepped::Idle);
+fn second_soft_mark_is_full(rt: HostRuntime) -> Result<(), Fail> {
+    let mut core = enrolled(rt.alloc(), 2, 2, 1, 1, 3, 0)?;
+    let lines = [
+        Line::Begin(0, Op::SoftFailure, 0),
+        on(0, Kind::Look, 0, Mark::Up(0), 0),
+        soft(0, Kind::Look, 0, 0),
+        soft(0, Kind::Reserve, 0, 1),
+        on(0, Kind::Mark, 0, Mark::Soft(0), 1),
+        ends(soft(0, Kind::Shift, 1, 0), Reply::TookSoft),
+        Line::Begin(1, Op::SoftFailure, 1),
+        on(1, Kind::Look, 1, Mark::Up(0), 0),
+        soft(1, Kind::Look, 1, 0),
+        ends(on(1, Kind::Look, 1, Mark::Up(0), 0), Reply::Full),
+    ];
+    assert_eq!(rt; first_difference(&mut core, &lines), None);
     Ok(())
 }
 
 #[test]
-fn answers_as_by_hand(rt: HostRuntime) -> Result<(), Fail> {
-    let mut core = enrolled(rt.alloc(), SETTINGS)?;
-    for (thread, op, server, reply) in [
-        (0, Op::SoftFailure, 0, Reply::TookSoft),
-        (1, Op::SoftFailure, 1, Reply::Full),
-        (1, Op::HardFailure, 0, Reply::Already(Mark::Soft(0))),
-        (0, Op::HardFailure, 0, Reply::Hardened),
-        (1, Op::SoftFailure, 1, Reply::TookSoft),
-        (1, Op::LookUp, 0, Reply::Marked(Mark::Hard(0))),
-    ] {
-        assert_eq!(rt; answer(&mut core, thread, op, server), Some(reply));
-    }
+fn contended_at_one_try(rt: HostRuntime) -> Result<(), Fail> {
+    let mut core = enrolled(rt.alloc(), 2, 2, 1, 1, 1, 0)?;
+    let lines = [
+        Line::Begin(0, Op::SoftFailure, 0),
+        on(0, Kind::Look, 0, Mark::Up(0), 0),
+        soft(0, Kind::Look, 0, 0),
+        soft(0, Kind::Reserve, 0, 1),
+        on(0, Kind::Mark, 0, Mark::Soft(0), 1),
+        ends(soft(0, Kind::Shift, 1, 0), Reply::TookSoft),
+        Line::Begin(0, Op::Success, 0),
+        on(0, Kind::Look, 0, Mark::Soft(0), 1),
+        soft(0, Kind::Shift, 0, 1),
+        Line::Begin(1, Op::SoftFailure, 1),
+        on(1, Kind::Look, 1, Mark::Up(0), 0),
+        ends(soft(1, Kind::Look, 0, 1), Reply::Contended),
+        on(0, Kind::Own, 0, Mark::Up(0), 2),
+        ends(soft(0, Kind::Give, 0, 0), Reply::Unmarked(Mark::Soft(0))),
+    ];
+    assert_eq!(rt; first_difference(&mut core, &lines), None);
     Ok(())
 }
 
 #[test]
-fn a_worn_server_takes_no_change_but_its_own(rt: HostRuntime) -> Result<(), Fail> {
-    let nearly_worn = Settings {
-        threads: 1,
-        failures: 2,
-        opening_stamp: 2_251_799_813_685_239,
-        ..SETTINGS
-    };
-    let mut core = enrolled(rt.alloc(), nearly_worn)?;
-    for (op, reply) in [
-        (Op::HardFailure, Reply::TookHard),
-        (Op::Success, Reply::Unmarked(Mark::Hard(0))),
-        (Op::SoftFailure, Reply::Worn),
-        (Op::LookUp, Reply::Up(0)),
-        (Op::Success, Reply::Clean),
-    ] {
-        assert_eq!(rt; answer(&mut core, 0, op, 0), Some(reply));
-    }
+fn full_after_changed_word(rt: HostRuntime) -> Result<(), Fail> {
+    let mut core = enrolled(rt.alloc(), 2, 3, 2, 1, 8, 0)?;
+    let lines = [
+        Line::Begin(2, Op::SoftFailure, 1),
+        on(2, Kind::Look, 1, Mark::Up(0), 0),
+        ends(on(2, Kind::Count, 1, Mark::Up(1), 1), Reply::Counted(1)),
+        Line::Begin(2, Op::SoftFailure, 1),
+        on(2, Kind::Look, 1, Mark::Up(1), 1),
+        soft(2, Kind::Look, 0, 0),
+        soft(2, Kind::Reserve, 0, 1),
+        on(2, Kind::Mark, 1, Mark::Soft(2), 2),
+        ends(soft(2, Kind::Shift, 1, 0), Reply::TookSoft),
+        Line::Begin(0, Op::SoftFailure, 0),
+        on(0, Kind::Look, 0, Mark::Up(0), 0),
+        ends(on(0, Kind::Count, 0, Mark::Up(1), 1), Reply::Counted(1)),
+        Line::Begin(0, Op::SoftFailure, 0),
+        on(0, Kind::Look, 0, Mark::Up(1), 1),
+        soft(0, Kind::Look, 1, 0),
+        Line::Begin(1, Op::Success, 0),
+        on(1, Kind::Look, 0, Mark::Up(1), 1),
+        ends(on(1, Kind::Count, 0, Mark::Up(0), 2), Reply::Reset(1)),
+        Line::Begin(1, Op::SoftFailure, 0),
+        on(1, Kind::Look, 0, Mark::Up(0), 2),
+        ends(on(1, Kind::Count, 0, Mark::Up(1), 3), Reply::Counted(1)),
+        on(0, Kind::Look, 0, Mark::Up(1), 3),
+        on(0, Kind::Look, 0, Mark::Up(1), 3),
+        soft(0, Kind::Look, 1, 0),
+        ends(on(0, Kind::Look, 0, Mark::Up(1), 3), Reply::Full),
+    ];
+    assert_eq!(rt; first_difference(&mut core, &lines), None);
+    Ok(())
+}
+
+#[test]
+fn lost_mark_gives_slot_back(rt: HostRuntime) -> Result<(), Fail> {
+    let mut core = enrolled(rt.alloc(), 1, 2, 1, 2, 8, 0)?;
+    let lines = [
+        Line::Begin(0, Op::SoftFailure, 0),
+        Line::Begin(1, Op::SoftFailure, 0),
+        on(0, Kind::Look, 0, Mark::Up(0), 0),
+        soft(0, Kind::Look, 0, 0),
+        soft(0, Kind::Reserve, 0, 1),
+        on(1, Kind::Look, 0, Mark::Up(0), 0),
+        soft(1, Kind::Look, 0, 1),
+        soft(1, Kind::Reserve, 0, 2),
+        on(0, Kind::Mark, 0, Mark::Soft(0), 1),
+        lost(on(1, Kind::Mark, 0, Mark::Soft(0), 1)),
+        ends(soft(0, Kind::Shift, 1, 1), Reply::TookSoft),
+        soft(1, Kind::Give, 1, 0),
+        ends(
+            on(1, Kind::Look, 0, Mark::Soft(0), 1),
+            Reply::Already(Mark::Soft(0)),
+        ),
+    ];
+    assert_eq!(rt; first_difference(&mut core, &lines), None);
+    Ok(())
+}
+
+#[test]
+fn soft_mark_hardens(rt: HostRuntime) -> Result<(), Fail> {
+    let mut core = enrolled(rt.alloc(), 1, 2, 1, 1, 8, 0)?;
+    let lines = [
+        Line::Begin(0, Op::SoftFailure, 0),
+        on(0, Kind::Look, 0, Mark::Up(0), 0),
+        soft(0, Kind::Look, 0, 0),
+        soft(0, Kind::Reserve, 0, 1),
+        on(0, Kind::Mark, 0, Mark::Soft(0), 1),
+        ends(soft(0, Kind::Shift, 1, 0), Reply::TookSoft),
+        Line::Begin(1, Op::HardFailure, 0),
+        ends(
+            on(1, Kind::Look, 0, Mark::Soft(0), 1),
+            Reply::Already(Mark::Soft(0)),
+        ),
+        Line::Begin(0, Op::HardFailure, 0),
+        on(0, Kind::Look, 0, Mark::Soft(0), 1),
+        soft(0, Kind::Shift, 0, 1),
+        on(0, Kind::Own, 0, Mark::Hard(0), 2),
+        ends(soft(0, Kind::Give, 0, 0), Reply::Hardened),
+    ];
+    assert_eq!(rt; first_difference(&mut core, &lines), None);
+    Ok(())
+}
+
+const WORN: u64 = 2_251_799_813_685_240;
+
+#[test]
+fn worn_stamp(rt: HostRuntime) -> Result<(), Fail> {
+    let mut core = enrolled(rt.alloc(), 1, 1, 2, 1, 8, WORN)?;
+    let look = on(0, Kind::Look, 0, Mark::Up(0), WORN);
+    let lines = [
+        Line::Begin(0, Op::SoftFailure, 0),
+        ends(look, Reply::Worn),
+        Line::Begin(0, Op::HardFailure, 0),
+        ends(look, Reply::Worn),
+        Line::Begin(0, Op::LookUp, 0),
+        ends(look, Reply::Up(0)),
+        Line::Begin(0, Op::Success, 0),
+        ends(look, Reply::Clean),
+    ];
+    assert_eq!(rt; first_difference(&mut core, &lines), None);
+    Ok(())
+}
+
+#[test]
+fn last_change_before_the_stamp_is_worn(rt: HostRuntime) -> Result<(), Fail> {
+    let mut core = enrolled(rt.alloc(), 1, 1, 2, 1, 8, WORN - 1)?;
+    let lines = [
+        Line::Begin(0, Op::HardFailure, 0),
+        on(0, Kind::Look, 0, Mark::Up(0), WORN - 1),
+        ends(on(0, Kind::Mark, 0, Mark::Hard(0), WORN), Reply::TookHard),
+        Line::Begin(0, Op::Success, 0),
+        on(0, Kind::Look, 0, Mark::Hard(0), WORN),
+        ends(
+            on(0, Kind::Own, 0, Mark::Up(0), WORN + 1),
+            Reply::Unmarked(Mark::Hard(0)),
+        ),
+        Line::Begin(0, Op::SoftFailure, 0),
+        ends(on(0, Kind::Look, 0, Mark::Up(0), WORN + 1), Reply::Worn),
+    ];
+    assert_eq!(rt; first_difference(&mut core, &lines), None);
     Ok(())
 }
 
@@ -114,5 +288,23 @@ fn begin_tells_the_first_fault(rt: HostRuntime) -> Result<(), Fail> {
     assert_eq!(rt; core.begin(0, Op::LookUp, 1), Ok(()));
     assert_eq!(rt; core.begin(0, Op::LookUp, 9), Err(BeginFault::Busy));
     assert_eq!(rt; core.begin(1, Op::LookUp, 0), Err(BeginFault::NoThread));
+    Ok(())
+}
+
+#[test]
+fn the_thread_that_comes_first_draws_0(rt: HostRuntime) -> Result<(), Fail> {
+    let mut core = Core::open(rt.alloc(), SETTINGS)?;
+    let enrolment = |number| Stepped::Did {
+        kind: Kind::Enrol,
+        place: Place::Enrolment,
+        found: Word::Enrolled(number),
+        left: Word::Enrolled(number + 1),
+        won: true,
+        answer: None,
+    };
+    assert_eq!(rt; core.step(1), enrolment(0));
+    assert_eq!(rt; core.step(0), enrolment(1));
+    assert_eq!(rt; core.step(0), Stepped::Idle);
+    assert_eq!(rt; core.step(2), Stepped::NoThread);
     Ok(())
 }

@@ -1,6 +1,6 @@
 use Rattle.std.proofs.Common.{rules}
 use Rattle.std.proofs.lemmas.Bool.{iff_false}
-use Rattle.tko_runs.proofs.ClaimLemmas.{CanCome-thread, has_come-all, has_come-bad, has_come-more, has_come-none}
+use Rattle.tko_runs.proofs.ClaimLemmas.{has_come-all, has_come-bad, has_come-more, has_come-none}
 use Rattle.tko_model.specs.Ranges.{IsWithinRanges}
 use Rattle.tko_runs.proofs.run.Run.of.Goals as goal
 
@@ -8,10 +8,7 @@ pub returns-in-Err-clause-err : goal.returns-in-Err-clause-err
 returns-in-Err-clause-err c = (c.check.ensures.err c.in-Err.outside).0 c.in-Err.is
 
 pub loop-place-init : goal.loop-place-init
-loop-place-init c = rw c.in_ok-register.ensures (has_come-none c.args.settings _)
-
-pub admits-requires : goal.admits-requires
-admits-requires c = c.loop-place.invariant.threads
+loop-place-init c = rw c.in_ok-state.ensures (has_come-none c.args.settings _)
 
 pub returns-then-not-admits-clause-err : goal.returns-then-not-admits-clause-err
 returns-then-not-admits-clause-err c =
@@ -19,11 +16,6 @@ returns-then-not-admits-clause-err c =
     let cannot = iff_false c.admits.ensures c.if-not-admits.true in
     let bad = has_come-bad _ _ _ _ _ c.loop-place.invariant c.loop-place-test.true cannot in
     (settings, rw c.deref-event-items.ensures.value at bad)
-
-pub record-requires-clause-thread : goal.record-requires-clause-thread
-record-requires-clause-thread c =
-    let can = c.admits.ensures.0 c.if-not-admits.false in
-    rw c.loop-place.invariant.threads (CanCome-thread c.args.settings _ _ can)
 
 pub loop-place-preserved : goal.loop-place-preserved
 loop-place-preserved c =

@@ -1,0 +1,134 @@
+//! The check of a run, with one event changed.
+
+use crate::{Event, Run, RunFault, Schedule, check, play};
+use std::alloc::Global;
+use std::test::Fail;
+use tko_model::{Mark, Reply, ServerState};
+use tko_steps::{Kind, Place, Slots, Word};
+
+/// Two soft failures, of which the second finds no room for a mark.
+const SECOND_IS_FULL: &[u8; 108] = b"schedule 1
+servers 2
+threads 2
+failures 1
+limit 1
+tries 3
+stamp 0
+begin 0 soft 0
+run 0
+begin 1 soft 1
+run 1
+";
+
+/// The places of two steps of the second call among the events of that run: its look at the soft
+/// word, which is step 7, and its second look at the server, which is step 8 and ends it.
+const SLOTS: usize = 10;
+
+const LAST: usize = 11;
+
+/// The fault of that run with another event at a place.
+fn fault_with(alloc: Global, place: usize, event: Event) -> Result<Option<RunFault>, Fail> {
+    let run = play(alloc, &Schedule::read(alloc, SECOND_IS_FULL)?)?;
+    let mut events = Vec::from_slice(alloc, run.events())?;
+    if let Some(slot) = events.get_mut(place) {
+        *slot = event;
+    }
+    let changed = Run::of(alloc, *run.settings(), events)?;
+    Ok(check(alloc, &changed).err())
+}
+
+/// A step of thread 1 on the second server.
+fn step(kind: Kind, found: ServerState, left: ServerState, answer: Option<Reply>) -> Event {
+    Event::Step {
+        thread: 1,
+        kind,
+        place: Place::Server(1),
+        found: Word::Server(found),
+        left: Word::Server(left),
+        answer,
+    }
+}
+
+fn state(mark: Mark, stamp: u64) -> ServerState {
+    ServerState { mark, stamp }
+}
+
+/// A step of thread 1 on the soft word, which holds one settled mark.
+fn on_slots(kind: Kind, firm: u32, held: u32) -> Event {
+    Event::Step {
+        thread: 1,
+        kind,
+        place: Place::Soft,
+        found: Word::Soft(Slots { firm: 1, held: 0 }),
+        left: Word::Soft(Slots { firm, held }),
+        answer: None,
+    }
+}
+
+#[test]
+fn the_order_names_the_steps(rt: HostRuntime) -> Result<(), Fail> {
+    let run = play(rt.alloc(), &Schedule::read(rt.alloc(), SECOND_IS_FULL)?)?;
+    let order = check(rt.alloc(), &run)?;
+    for (call, step) in [(0, None), (1, Some(4)), (2, Some(8)), (3, None)] {
+        assert_eq!(rt; order.at(call), step);
+    }
+    Ok(())
+}
+
+#[test]
+fn changed_answer_is_refused(rt: HostRuntime) -> Result<(), Fail> {
+    let up = state(Mark::Up(0), 0);
+    for (answer, fault) in [
+        (Some(Reply::Full), None),
+        (None, None),
+        (Some(Reply::Contended), None),
+        (Some(Reply::Counted(1)), Some(RunFault::Call(2))),
+    ] {
+        let changed = fault_with(rt.alloc(), LAST, step(Kind::Look, up, up, answer))?;
+        assert_eq!(rt; changed, fault);
+    }
+    Ok(())
+}
+
+#[test]
+fn words_of_servers_follow(rt: HostRuntime) -> Result<(), Fail> {
+    let (up, full) = (state(Mark::Up(0), 0), Some(Reply::Full));
+    for (kind, found, left, fault) in [
+        (Kind::Look, state(Mark::Up(0), 1), up, RunFault::Step(8)),
+        (Kind::Look, up, state(Mark::Up(0), 1), RunFault::Step(8)),
+        (Kind::Give, up, up, RunFault::Step(8)),
+        (Kind::Own, up, up, RunFault::Step(8)),
+        (Kind::Count, up, state(Mark::Up(1), 1), RunFault::Step(8)),
+        (Kind::Mark, up, state(Mark::Up(0), 1), RunFault::Step(8)),
+        (Kind::Mark, up, state(Mark::Hard(2), 1), RunFault::Step(8)),
+        (Kind::Mark, up, state(Mark::Hard(1), 2), RunFault::Step(8)),
+        (Kind::Mark, up, state(Mark::Soft(1), 1), RunFault::Step(8)),
+        (Kind::Count, up, state(Mark::Up(0), 1), RunFault::Call(2)),
+        (Kind::Mark, up, state(Mark::Hard(0), 1), RunFault::Call(2)),
+    ] {
+        let changed = fault_with(rt.alloc(), LAST, step(kind, found, left, full))?;
+        assert_eq!(rt; changed, Some(fault));
+    }
+    let lost = fault_with(rt.alloc(), LAST, step(Kind::Mark, up, up, full))?;
+    assert_eq!(rt; lost, None);
+    Ok(())
+}
+
+#[test]
+fn slots_follow(rt: HostRuntime) -> Result<(), Fail> {
+    for (kind, firm, held, fault) in [
+        (Kind::Look, 1, 0, None),
+        (Kind::Look, 1, 1, Some(RunFault::Step(7))),
+        (Kind::Reserve, 1, 0, None),
+        (Kind::Reserve, 1, 1, Some(RunFault::Step(7))),
+        (Kind::Shift, 0, 1, None),
+        (Kind::Shift, 1, 0, Some(RunFault::Step(7))),
+        (Kind::Shift, 2, 0, Some(RunFault::Step(7))),
+        (Kind::Give, 1, 0, Some(RunFault::Step(7))),
+        (Kind::Mark, 1, 0, Some(RunFault::Step(7))),
+    ] {
+        let changed = fault_with(rt.alloc(), SLOTS, on_slots(kind, firm, held))?;
+        assert_eq!(rt; changed, fault);
+    }
+    Ok(())
+}

@@ -1,0 +1,136 @@
+//! What a step of each kind can leave of the word that it finds, whoever takes it.
+ghost use Rattle.std.specs.Prelude.{◌≡◌, ◌↔◌, true};
+ghost use Rattle.tko_model.specs.Tracker.{IsFit};
+ghost use Rattle.tko_runs.specs.Words.{CanLeave, CanLeaveServer, CanLeaveSlots, CanMark, IsExchange, IsGiven, IsReserved, IsSettled};
+
+use tko_model::{Mark, ServerState, Settings, WORN_STAMP};
+use tko_steps::{Kind, Slots, Word};
+
+/// Whether a step of this kind can leave this of what it finds, while so many slots are held.
+pub(crate) fn can_leave(settings: &Settings, held: u32, kind: Kind, found: Word, left: Word) -> bool
+    ensures { (result ≡ true) ↔ CanLeave settings.now held kind found left }
+{
+    match found {
+        Word::Server(found) => match left {
+            Word::Server(left) => can_leave_server(settings, held, kind, found, left),
+            Word::Soft(_) | Word::Enrolled(_) => false,
+        },
+        Word::Soft(found) => match left {
+            Word::Soft(left) => can_leave_slots(settings, kind, found, left),
+            Word::Server(_) | Word::Enrolled(_) => false,
+        },
+        Word::Enrolled(found) => match left {
+            Word::Enrolled(left) => kind == Kind::Enrol && found.checked_add(1) == Some(left),
+            Word::Server(_) | Word::Soft(_) => false,
+        },
+    }
+}
+
+/// A lost exchange leaves the word as it was; one of the thread's own mark is never lost.
+fn can_leave_server(
+    settings: &Settings,
+    held: u32,
+    kind: Kind,
+    found: ServerState,
+    left: ServerState,
+) -> bool
+    ensures { (result ≡ true) ↔ CanLeaveServer settings.now held kind found left }
+{
+    match kind {
+        Kind::Look => is_same(left, found),
+        Kind::Count => is_same(left, found) || is_exchange(settings, held, kind, found, left),
+        Kind::Mark => is_same(left, found) || is_exchange(settings, held, kind, found, left),
+        Kind::Own => is_exchange(settings, held, kind, found, left),
+        Kind::Reserve | Kind::Shift | Kind::Give | Kind::Enrol => false,
+    }
+}
+
+/// Whether an exchange of this kind that is won can leave this.
+fn is_exchange(
+    settings: &Settings,
+    held: u32,
+    kind: Kind,
+    found: ServerState,
+    left: ServerState,
+) -> bool
+    ensures { (result ≡ true) ↔ IsExchange settings.now held kind found left }
+{
+    can_mark(settings, held, kind, found.mark, left.mark)
+        && found.stamp.checked_add(1) == Some(left.stamp)
+        && is_fit(settings, left)
+}
+
+/// Whether an exchange of this kind can leave this mark in place of that one.
+fn can_mark(settings: &Settings, held: u32, kind: Kind, old: Mark, new: Mark) -> bool
+    ensures { (result ≡ true) ↔ CanMark settings.now held kind old new }
+{
+    match old {
+        Mark::Up(_) => match new {
+            Mark::Up(_) => kind == Kind::Count,
+            Mark::Soft(thread) => kind == Kind::Mark && thread < settings.threads && held > 0,
+            Mark::Hard(thread) => kind == Kind::Mark && thread < settings.threads,
+        },
+        Mark::Soft(owner) => match new {
+            Mark::Up(count) => kind == Kind::Own && count == 0,
+            Mark::Soft(_) => false,
+            Mark::Hard(thread) => kind == Kind::Own && thread == owner,
+        },
+        Mark::Hard(_) => match new {
+            Mark::Up(count) => kind == Kind::Own && count == 0,
+            Mark::Soft(_) | Mark::Hard(_) => false,
+        },
+    }
+}
+
+/// Whether a server can have this mark with this stamp.
+fn is_fit(settings: &Settings, server: ServerState) -> bool
+    ensures { (result ≡ true) ↔ IsFit settings.now server.mark server.stamp }
+{
+    match server.mark {
+        Mark::Up(count) => count < settings.failures && server.stamp <= WORN_STAMP + 2,
+        Mark::Soft(_) => server.stamp <= WORN_STAMP,
+        Mark::Hard(_) => server.stamp <= WORN_STAMP + 1,
+    }
+}
+
+fn can_leave_slots(settings: &Settings, kind: Kind, found: Slots, left: Slots) -> bool
+    ensures { (result ≡ true) ↔ CanLeaveSlots settings.now kind found left }
+{
+    match kind {
+        Kind::Look => left == found,
+        Kind::Reserve => left == found || is_reserved(settings, found, left),
+        Kind::Shift => is_settled(found, left) || is_settled(left, found),
+        Kind::Give => is_given(found, left),
+        Kind::Count | Kind::Mark | Kind::Own | Kind::Enrol => false,
+    }
+}
+
+/// Whether one more slot is held, where one was left.
+fn is_reserved(settings: &Settings, found: Slots, left: Slots) -> bool
+    ensures { (result ≡ true) ↔ IsReserved settings.now found left }
+{
+    left.firm == found.firm
+        && found.held.checked_add(1) == Some(left.held)
+        && found.firm as u64 + (found.held as u64) < settings.limit as u64
+}
+
+/// Whether a held slot became a settled mark.
+fn is_settled(found: Slots, left: Slots) -> bool
+    ensures { (result ≡ true) ↔ IsSettled found left }
+{
+    found.firm.checked_add(1) == Some(left.firm) && left.held.checked_add(1) == Some(found.held)
+}
+
+/// Whether one slot fewer is held.
+fn is_given(found: Slots, left: Slots) -> bool
+    ensures { (result ≡ true) ↔ IsGiven found left }
+{
+    left.firm == found.firm && left.held.checked_add(1) == Some(found.held)
+}
+
+/// Whether two words of servers are equal.
+pub(crate) fn is_same(one: ServerState, other: ServerState) -> bool
+    ensures { (result ≡ true) ↔ (one ≡ other) }
+{
+    one == other
+}

@@ -1,0 +1,56 @@
+//! Runs of any events that are claimed.
+ghost use Rattle.std.specs.Prelude.{◌≡◌, [], IfOk, IfErr};
+ghost use Rattle.tko_runs.specs.States.{TellsClaimFault};
+
+use crate::run::state::State;
+use crate::{Event, Run};
+use std::alloc::Global;
+use thiserror::Error;
+use tko_bytes::NoMemory;
+use tko_model::{Settings, SettingsFault};
+
+/// Why a claim is no run. The settings are judged first.
+#[derive(Clone, Copy, Debug, PartialEq, Eq, Error)]
+pub enum ClaimFault {
+    #[error("settings {0}")]
+    Settings(SettingsFault),
+    /// The number, counted from 1, of the first event that can't come next: a number is out of its
+    /// range, a call is begun by a thread that isn't enrolled or has one, a thread enrols twice or
+    /// not with the number of those before it, or a thread without a call takes a step.
+    #[error("event {0}")]
+    Event(usize),
+    #[error("memory")]
+    Memory,
+}
+
+impl From<NoMemory> for ClaimFault {
+    ghost use Rattle.std.specs.Prelude.{◌≡◌};
+    ghost use Rattle.tko_runs.specs.declared.run.claim.ClaimFault.TheVariants as fault;
+
+    ghost from_gives = { λ _ e. e ≡ fault.Memory };
+
+    fn from(_: NoMemory) -> ClaimFault {
+        ClaimFault::Memory
+    }
+}
+
+impl Run {
+    /// The run that is claimed, whatever words its steps find and leave; `check` judges these.
+    pub fn of(alloc: Global, settings: Settings, events: Vec<Event>) -> Result<Run, ClaimFault>
+        ensures ok { IfOk result (λ run.
+            run ≡ record { settings = settings; events = events.items; skips = [] }) }
+        ensures err { IfErr result (TellsClaimFault settings events.items) }
+    {
+        if let Err(outside) = settings.check() {
+            return Err(ClaimFault::Settings(outside));
+        }
+        let mut state = State::open(alloc, &settings)?;
+        for (place, event) in events.iter().enumerate() {
+            if !state.admits(event) {
+                return Err(ClaimFault::Event(place + 1));
+            }
+            state.record(event);
+        }
+        Ok(Run::new(settings, events, Vec::new(alloc)))
+    }
+}

@@ -1,0 +1,302 @@
+-- Lost tries: what each phase says of the looks and lost tries of its call, and of what other threads changed since.
+use Rattle.std.proofs.Common.{is_some, ◌≡◌, ◌≢◌, ℕ, ◌+◌, ◌<◌, ◌⊎◌, Bool, true, false, cond, not, ◌&&◌, ◌||◌, eqb, List, ◌∷◌, length, Some, None, inl, inr, refl, sym, ap, ◌∙◌, arith}
+use Rattle.std.proofs.lemmas.Bool.{and_from, and_left, and_right, cond-false, cond-true, cond_both, eq-eqb, eqb-false, eqb-true, le-ltb, lt-ltb}
+use Rattle.tko_model.specs.declared.mark.Mark.{Mark}
+use Rattle.tko_model.specs.declared.mark.Mark.TheVariants.{Soft}
+use Rattle.tko_model.specs.declared.mark.Reply.{Reply}
+use Rattle.tko_model.specs.declared.mark.Reply.TheVariants.{Contended, Full, TookSoft}
+use Rattle.tko_model.specs.declared.settings.Settings.{Settings}
+use Rattle.tko_model.specs.declared.state.ServerState.{ServerState}
+use Rattle.tko_model.specs.Tracker.{server_at}
+use Rattle.tko_steps.specs.declared.phase.Call.{Call as CallState}
+use Rattle.tko_steps.specs.declared.phase.Phase.{Phase}
+use Rattle.tko_steps.specs.declared.phase.Phase.TheVariants.{Start, Read, AtThreshold, Limit, Reserving, Holding, Firming, Losing, Loosening, Loosened, Emptied}
+use Rattle.tko_steps.specs.declared.phase.Slots.{Slots}
+use Rattle.tko_steps.specs.declared.phase.ThreadState.TheVariants.{InCall}
+use Rattle.tko_steps.specs.declared.step.Place.{Place}
+use Rattle.tko_steps.specs.declared.step.Place.TheVariants as place
+use Rattle.tko_steps.specs.declared.step.Word.TheVariants as word
+use Rattle.tko_steps.specs.declared.table.Decision.{Decision}
+use Rattle.tko_steps.specs.declared.table.Decision.TheVariants.{Goes, Answers}
+use Rattle.tko_steps.specs.Core.{abstract_of, answer_of, follows, kind_of_exchange, thread_at}
+use Rattle.tko_steps.specs.Invariant.{IsCore}
+use Rattle.tko_steps.specs.Lost.{ExpectsWhatItSaw, HasLostEachTry, IsChangedSince, is_exchange, is_look, is_look_of, last_look, loses_try, lost_tries, same_place, was_seen}
+use Rattle.tko_steps.specs.Runs.{Call, Moment, OwnStep, StepTaken, Took, World}
+use Rattle.tko_steps.specs.Table.{goes, lost_try, same_server, same_slots}
+use Rattle.tko_steps.proofs.FamilyLemmas.{Follows, act_own}
+use Rattle.tko_steps.proofs.FirstLookLemmas.{Leads, LeadsTo, Leads-from_start}
+use Rattle.tko_steps.proofs.TryLemmas.{exchange-is_exchange, exchange-not_look, last_look-elsewhere, last_look-here, last_look-lost, loses_try-change, lost_tries-kept, lost_tries-lost}
+use Rattle.tko_steps.proofs.WiringLemmas.{stepped_from}
+use Rattle.tko_steps.proofs.TrackerLemmas.{is_plain, plain≢}
+
+-- ---- what a call knows of its tries
+
+-- no look of this try has found its server, which lost so many tries before it
+pub record HasNotLooked (s : Settings) (server lost : ℕ) (steps : List OwnStep) : Type 0 where
+  pub count : lost_tries s steps ≡ lost
+  pub looked : last_look s (place.Server server) steps ≡ None
+
+-- this try's last look found its server like this, and it still is, or another thread changed it since
+pub record HasLooked (s : Settings) (w : World) (thread server lost : ℕ) (steps : List OwnStep) (found : ServerState) : Type 0 where
+  pub count : lost_tries s steps ≡ lost
+  pub looked : last_look s (place.Server server) steps ≡ Some (word.Server found)
+  pub since : (server_at (abstract_of w.core) server ≡ found) ⊎ IsChangedSince thread (place.Server server) w.past
+
+-- the same of the soft word
+pub record HasCounted (s : Settings) (w : World) (thread : ℕ) (steps : List OwnStep) (slots : Slots) : Type 0 where
+  pub looked : last_look s place.Soft steps ≡ Some (word.Soft slots)
+  pub since : (w.core.shared.slots ≡ slots) ⊎ IsChangedSince thread place.Soft w.past
+
+abbrev pub Tries : Settings → World → ℕ → CallState → List OwnStep → Phase → Type 0
+Tries s w thread call steps Start = HasNotLooked s call.server call.lost steps
+Tries s w thread call steps (Read found mark answer) =
+    HasLooked s w thread call.server call.lost steps found × (is_plain answer ≡ true)
+Tries s w thread call steps (AtThreshold found) = HasLooked s w thread call.server call.lost steps found
+Tries s w thread call steps (Limit found) = HasLooked s w thread call.server call.lost steps found
+Tries s w thread call steps (Reserving found slots) =
+    HasLooked s w thread call.server call.lost steps found × HasCounted s w thread steps slots
+Tries s w thread call steps (Holding found) = HasLooked s w thread call.server call.lost steps found
+Tries s w thread call steps Firming = Unit {0}
+Tries s w thread call steps Losing = HasNotLooked s call.server (call.lost + 1) steps
+Tries s w thread call steps (Loosening found mark answer) =
+    HasLooked s w thread call.server call.lost steps found × (is_plain answer ≡ true)
+Tries s w thread call steps (Loosened found mark answer) =
+    HasLooked s w thread call.server call.lost steps found × (is_plain answer ≡ true)
+Tries s w thread call steps (Emptied answer) = is_plain answer ≡ true
+
+abbrev pub KnowsTries : Settings → World → ℕ → CallState → List OwnStep → Phase → Type 0
+KnowsTries s w thread call steps phase = ExpectsWhatItSaw s steps × Tries s w thread call steps phase
+
+-- what the law says of the tries of a call
+abbrev pub IsTried : Settings → Call → Type 0
+IsTried s call = HasLostEachTry s call × ExpectsWhatItSaw s call.steps
+
+-- ---- a thread's own step
+
+and_none : (b : Bool) → (b && false) ≡ false
+and_none true = refl
+and_none false = refl
+
+-- what was known of a word since the last look at it, after one more step that is no look at it
+pub since-push : {A : Type 0} (thread : ℕ) (at : Place) (step : StepTaken) (past : List Moment) → is_look_of thread at step ≡ false
+    → (A ⊎ IsChangedSince thread at past) → (A ⊎ IsChangedSince thread at (Took step ∷ past))
+since-push thread at step past no_look (inl same) = inl same
+since-push thread at step past no_look (inr changed) = inr (inr (no_look, changed))
+
+module _ (w : World) (thread : ℕ) (call : CallState) (steps : List OwnStep) (is : IsCore w.core) (inside : thread < length w.core.threads) where
+  abbrev s : Settings
+  s = w.core.settings
+
+  abbrev now : ServerState
+  now = server_at (abstract_of w.core) call.server
+
+  abbrev slots : Slots
+  slots = w.core.shared.slots
+
+  abbrev at_server : Place
+  at_server = place.Server call.server
+
+  abbrev own : Phase → OwnStep
+  own phase = act_own w thread call phase
+
+  abbrev after : Phase → World
+  after phase = stepped_from w thread (InCall call phase)
+
+  abbrev Next : Phase → Decision → Type 0
+  Next phase decision =
+      Follows s (KnowsTries s) (IsTried s) (after phase) thread call steps (own phase) decision
+
+  here : same_place at_server at_server ≡ true
+  here = eq-eqb call.server call.server refl
+
+  abbrev loses : Phase → Bool
+  loses phase = loses_try s (own phase).step (last_look s (own phase).step.place steps)
+
+  -- an answer that is plain
+  answers : (phase : Phase) (answer : Reply) → (own phase).step.answer ≡ Some answer → answer ≢ Contended
+      → ExpectsWhatItSaw s (own phase ∷ steps) → Next phase (Answers answer)
+  answers phase answer is_answer plain expects =
+      (λ e. let same : answer ≡ Contended = cc in absurd (plain same), expects)
+
+  -- a step that loses the try
+  lost-try : (phase : Phase) → follows w.core call phase ≡ lost_try s call
+      → lost_tries s (own phase ∷ steps) ≡ call.lost + 1 → last_look s at_server (own phase ∷ steps) ≡ None
+      → ExpectsWhatItSaw s (own phase ∷ steps) → Next phase (lost_try s call)
+  lost-try phase decided lost none expects =
+      cond_both (eqb s.tries (call.lost + 1)) (Answers Contended) (Goes (call.lost + 1) Start) (Next phase)
+      (λ last. (λ e. lost ∙ sym (eqb-true s.tries (call.lost + 1) last), expects))
+      (λ left. (expects, record { count = lost; looked = none }))
+
+  -- a step that loses the try at once
+  loses-now : (phase : Phase) → follows w.core call phase ≡ lost_try s call → lost_tries s steps ≡ call.lost → loses phase ≡ true
+      → ExpectsWhatItSaw s (own phase ∷ steps) → Next phase (lost_try s call)
+  loses-now phase decided lost loses expects =
+      lost-try phase decided
+      (lost_tries-lost s (own phase) steps loses ∙ ap (λ n. n + 1) lost)
+      (last_look-lost s (own phase) steps at_server loses) expects
+
+  -- the try goes on after a step on the soft word
+  goes-on : (phase : Phase) (found : ServerState) → HasLooked s w thread call.server call.lost steps found
+      → loses phase ≡ false → (own phase).step.place ≡ place.Soft
+      → ((server_at (abstract_of (after phase).core) call.server ≡ found) ⊎ IsChangedSince thread at_server (after phase).past)
+      → HasLooked s (after phase) thread call.server call.lost (own phase ∷ steps) found
+  goes-on phase found has goes_on soft since =
+      record {
+        count = lost_tries-kept s (own phase) steps goes_on ∙ has.count;
+        looked = last_look-elsewhere s (own phase) steps at_server goes_on
+            (ap (λ at. is_look (own phase).step.kind && same_place at at_server) soft ∙ and_none (is_look (own phase).step.kind))
+            ∙ has.looked;
+        since = since;
+      }
+
+  -- the first look of a try
+  start-next : (decision : Decision) → HasNotLooked s call.server call.lost steps → ExpectsWhatItSaw s steps
+      → (own Start).step.answer ≡ answer_of decision → Leads call.op call now decision → Next Start decision
+  start-next (Goes lost phase) knows expects is_answer (same, leads) = to-phase phase leads
+    where
+      loses_not : loses Start ≡ false
+      loses_not = ap (λ it. loses_try s (own Start).step it) knows.looked
+
+      looked : (found : ServerState) → found ≡ now → HasLooked s (after Start) thread call.server lost (own Start ∷ steps) found
+      looked found is_now =
+          record {
+            count = lost_tries-kept s (own Start) steps loses_not ∙ knows.count ∙ sym same;
+            looked = last_look-here s (own Start) steps at_server loses_not here ∙ ap (λ it. Some (word.Server it)) (sym is_now);
+            since = inl (sym is_now);
+          }
+
+      to-phase : (phase : Phase) → LeadsTo call.op call now phase → Next Start (Goes lost phase)
+      to-phase Start leads = absurd leads
+      to-phase (Read found mark answer) leads = ((refl, expects), (looked found leads.0, leads.1))
+      to-phase (AtThreshold found) leads = ((refl, expects), looked found leads.0)
+      to-phase (Limit found) leads = absurd leads
+      to-phase (Reserving found slots) leads = absurd leads
+      to-phase (Holding found) leads = absurd leads
+      to-phase Firming leads = absurd leads
+      to-phase Losing leads = absurd leads
+      to-phase (Loosening found mark answer) leads = ((refl, expects), (looked found leads.0, leads.1))
+      to-phase (Loosened found mark answer) leads = absurd leads
+      to-phase (Emptied answer) leads = absurd leads
+  start-next (Answers answer) knows expects is_answer leads = answers Start answer is_answer leads.0 (refl, expects)
+
+  -- an exchange of the server's word expects what the last look found
+  expects-exchange : (phase : Phase) (found : ServerState) (mark : Mark) → HasLooked s w thread call.server call.lost steps found
+      → (own phase).step.kind ≡ kind_of_exchange found.mark mark → (own phase).step.place ≡ at_server
+      → (own phase).step.found ≡ word.Server now → (own phase).step.won ≡ same_server now found
+      → ExpectsWhatItSaw s steps → ExpectsWhatItSaw s (own phase ∷ steps)
+  expects-exchange phase found mark has of_kind on is_found won expects =
+      let step = (own phase).step in
+      let looked : last_look s step.place steps ≡ Some (word.Server found) = ap (λ at. last_look s at steps) on ∙ has.looked in
+      let seen : was_seen (last_look s step.place steps) step.found ≡ same_server now found =
+      ap (λ it. was_seen it step.found) looked ∙ ap (λ it. was_seen (Some (word.Server found)) it) is_found in
+      let exchange : is_exchange step.kind ≡ true = ap is_exchange of_kind ∙ exchange-is_exchange found.mark mark in
+      (won ∙ sym seen ∙ sym (cond-true _ _ _ exchange), expects)
+
+  exchange-loses : (phase : Phase) (found : ServerState) (mark : Mark) (won : Bool) → HasLooked s w thread call.server call.lost steps found
+      → (own phase).step.kind ≡ kind_of_exchange found.mark mark → (own phase).step.place ≡ at_server
+      → (own phase).step.won ≡ won → loses phase ≡ not won
+  exchange-loses phase found mark won has of_kind on is_won =
+      loses_try-change s (own phase).step (last_look s (own phase).step.place steps) (ap is_look of_kind ∙ exchange-not_look found.mark mark)
+      (ap (λ at. is_some (last_look s at steps)) on ∙ ap is_some has.looked)
+      ∙ ap not is_won
+
+  act-Read : (found : ServerState) (mark : Mark) (answer : Reply) → KnowsTries s w thread call steps (Read found mark answer)
+      → Next (Read found mark answer) (follows w.core call (Read found mark answer))
+  act-Read found mark answer (expects, (has, plain)) =
+      let phase : Phase = Read found mark answer in
+      let expected = expects-exchange phase found mark has refl refl refl refl expects in
+      cond_both (same_server now found) (Answers answer) (lost_try s call) (Next phase)
+      (λ won.
+      answers phase answer (ap (λ b. answer_of (cond b (Answers answer) (lost_try s call))) won) (plain≢ answer Contended plain refl) expected)
+      (λ lost.
+      loses-now phase (cond-false _ _ _ lost) has.count (exchange-loses phase found mark false has refl refl lost) expected)
+
+  act-Holding : (found : ServerState) → KnowsTries s w thread call steps (Holding found)
+      → Next (Holding found) (follows w.core call (Holding found))
+  act-Holding found (expects, has) =
+      let phase : Phase = Holding found in
+      let mark : Mark = Soft call.number in
+      let expected = expects-exchange phase found mark has refl refl refl refl expects in
+      cond_both (same_server now found) (goes call Firming) (goes call Losing) (Next phase)
+      (λ won. (expected, tt))
+      (λ lost.
+      let loses = exchange-loses phase found mark false has refl refl lost in (
+        expected,
+        record {
+          count = lost_tries-lost s (own phase) steps loses ∙ ap (λ n. n + 1) has.count;
+          looked = last_look-lost s (own phase) steps at_server loses;
+        },
+      ))
+
+  act-AtThreshold : (found : ServerState) → KnowsTries s w thread call steps (AtThreshold found)
+      → Next (AtThreshold found) (follows w.core call (AtThreshold found))
+  act-AtThreshold found (expects, has) =
+      let phase : Phase = AtThreshold found in
+      let rest = cond (eqb (slots.firm + slots.held) s.limit) (lost_try s call) (goes call (Reserving found slots)) in
+      let since = since-push thread at_server (own phase).step w.past refl has.since in
+      cond_both (eqb slots.firm s.limit) (goes call (Limit found)) rest (Next phase)
+      (λ full.
+      let firm = eqb-true slots.firm s.limit full in
+      let goes_on : loses phase ≡ false = and_left _ _ (le-ltb slots.firm s.limit (omega (arith, firm))) in
+      ((refl, expects), goes-on phase found has goes_on refl since))
+      (λ below.
+      let apart = eqb-false slots.firm s.limit below in
+      cond_both (eqb (slots.firm + slots.held) s.limit) (lost_try s call) (goes call (Reserving found slots)) (Next phase)
+      (λ held.
+      let loses : loses phase ≡ true = and_from _ _ (lt-ltb slots.firm s.limit (omega (arith, is.room))) held in
+      loses-now phase (cond-false _ _ _ below ∙ cond-true _ _ _ held) has.count loses (refl, expects))
+      (λ left.
+      let goes_on : loses phase ≡ false = and_right _ _ left in (
+        (refl, expects),
+        (
+          goes-on phase found has goes_on refl since,
+          record { looked = last_look-here s (own phase) steps place.Soft goes_on refl; since = inl refl },
+        ),
+      )))
+
+  act-Limit : (found : ServerState) → KnowsTries s w thread call steps (Limit found)
+      → Next (Limit found) (follows w.core call (Limit found))
+  act-Limit found (expects, has) =
+      let phase : Phase = Limit found in
+      let looks : loses phase ≡ loses_try s (own phase).step (Some (word.Server found)) = ap (λ it. loses_try s (own phase).step it) has.looked in
+      cond_both (same_server found now) (Answers Full) (lost_try s call) (Next phase)
+      (λ same.
+      answers phase Full (ap (λ b. answer_of (cond b (Answers Full) (lost_try s call))) same) (λ e. cc) (refl, expects))
+      (λ other.
+      loses-now phase (cond-false _ _ _ other) has.count (looks ∙ ap (λ b. not b || false) other) (refl, expects))
+
+  act-Reserving : (found : ServerState) (before : Slots) → KnowsTries s w thread call steps (Reserving found before)
+      → Next (Reserving found before) (follows w.core call (Reserving found before))
+  act-Reserving found before (expects, (has, counted)) =
+      let phase : Phase = Reserving found before in
+      let seen : was_seen (last_look s place.Soft steps) (word.Soft slots) ≡ same_slots slots before =
+      ap (λ it. was_seen it (word.Soft slots)) counted.looked in
+      let loses_not_won : loses phase ≡ not (same_slots slots before) =
+      loses_try-change s (own phase).step (last_look s place.Soft steps) refl (ap is_some counted.looked) in
+      let since = since-push thread at_server (own phase).step w.past refl has.since in
+      cond_both (same_slots slots before) (goes call (Holding found)) (lost_try s call) (Next phase)
+      (λ won. ((sym seen, expects), goes-on phase found has (loses_not_won ∙ ap not won) refl since))
+      (λ lost. loses-now phase (cond-false _ _ _ lost) has.count (loses_not_won ∙ ap not lost) (sym seen, expects))
+
+  pub tries-act : (phase : Phase) → thread_at w.core thread ≡ InCall call phase → KnowsTries s w thread call steps phase
+      → Next phase (follows w.core call phase)
+  tries-act Start stands (expects, knows) =
+      start-next (follows w.core call Start) knows expects refl (Leads-from_start s call now)
+  tries-act (Read found mark answer) stands knows = act-Read found mark answer knows
+  tries-act (AtThreshold found) stands knows = act-AtThreshold found knows
+  tries-act (Limit found) stands knows = act-Limit found knows
+  tries-act (Reserving found before) stands knows = act-Reserving found before knows
+  tries-act (Holding found) stands knows = act-Holding found knows
+  tries-act Firming stands (expects, knows) = answers Firming TookSoft refl (λ e. cc) (refl, expects)
+  tries-act Losing stands (expects, knows) =
+      lost-try Losing refl
+      (lost_tries-kept s (own Losing) steps refl ∙ knows.count)
+      (last_look-elsewhere s (own Losing) steps at_server refl refl ∙ knows.looked) (refl, expects)
+  tries-act (Loosening found mark answer) stands (expects, (has, plain)) =
+      let phase : Phase = Loosening found mark answer in
+      let since = since-push thread at_server (own phase).step w.past refl has.since in
+      ((refl, expects), (goes-on phase found has refl refl since, plain))
+  tries-act (Loosened found mark answer) stands (expects, (has, plain)) =
+      (expects-exchange (Loosened found mark answer) found mark has refl refl refl refl expects, plain)
+  tries-act (Emptied answer) stands (expects, plain) =
+      answers (Emptied answer) answer refl (plain≢ answer Contended plain refl) (refl, expects)

@@ -1,0 +1,359 @@
+-- One thread alone, its runs: it finds each word as it last saw it, so it loses no try, and its calls are those of the sequential tracker.
+use Rattle.std.proofs.Common.{◌≡◌, ◌≢◌, ℕ, ◌+◌, ◌<◌, ◌≤◌, true, false, cond, eqb, List, [], ◌∷◌, length, get_or, set, All, Some, None, inl, inr, ⊎_elim, refl, sym, ap, ◌∙◌, subst, arith, get_or-set_same, get_or-set_other}
+use Rattle.std.proofs.lemmas.Bool.{cases_eq, cond_both, eqb-false, eqb-true}
+use Rattle.std.proofs.lemmas.List.Elements.{All-nil, All-cons, All-head, All-tail}
+use Rattle.tko_model.specs.declared.mark.Mark.{Mark}
+use Rattle.tko_model.specs.declared.mark.Mark.TheVariants.{Up, Soft, Hard}
+use Rattle.tko_model.specs.declared.mark.Op.{Op}
+use Rattle.tko_model.specs.declared.mark.Reply.TheVariants.{Contended, Full}
+use Rattle.tko_model.specs.declared.settings.Settings.{Settings}
+use Rattle.tko_model.specs.declared.state.ServerState.{ServerState}
+use Rattle.tko_model.specs.Tracker.{opened, server_at}
+use Rattle.tko_steps.specs.declared.phase.Call.{Call as CallState}
+use Rattle.tko_steps.specs.declared.phase.Phase.{Phase}
+use Rattle.tko_steps.specs.declared.phase.Phase.TheVariants.{Start, Read, AtThreshold, Limit, Reserving, Holding, Firming, Losing, Loosening, Loosened, Emptied}
+use Rattle.tko_steps.specs.declared.phase.Slots.{Slots}
+use Rattle.tko_steps.specs.declared.phase.ThreadState.{ThreadState}
+use Rattle.tko_steps.specs.declared.phase.ThreadState.TheVariants.{NotEnrolled, Idle, InCall}
+use Rattle.tko_steps.specs.declared.table.Decision.{Decision}
+use Rattle.tko_steps.specs.declared.table.Decision.TheVariants.{Goes, Answers}
+use Rattle.tko_steps.specs.Runs.{Begin, Step, Turn, Call, Moment, OwnStep, Took, World, after_turns, and_step, began, begun_call, calls_of, happens, own_step, run, start, with_step}
+use Rattle.tko_steps.specs.Alone.{InEveryRunAlone, IsIdleUnlessOf, IsStepOf, Replays}
+use Rattle.tko_steps.specs.Core.{CoreState, abstract_of, after_act, answer_of, begun_by, follows, is_call_step, kind_of, kind_of_exchange, state_after, thread_at}
+use Rattle.tko_steps.specs.Invariant.{IsCore, holds, holds_at}
+use Rattle.tko_steps.specs.Legal.{tracker_in}
+use Rattle.tko_steps.specs.Table.{action_of, goes, lost_try, same_server, same_slots}
+use Rattle.tko_steps.proofs.CountLemmas.{get_or-replicate_same}
+use Rattle.tko_steps.proofs.AloneLemmas.{IsNotContended, Plays, Plays-with_step, Replays-plays}
+use Rattle.tko_steps.proofs.CallLemmas.{All-with_step, latest, with_step-none}
+use Rattle.tko_steps.proofs.EveryCallLemmas.{HoldsBoth, HoldsBoth-happens, HoldsCalls-start, enrol_step}
+use Rattle.tko_steps.proofs.FirstLookLemmas.{Leads, LeadsTo, Leads-from_start}
+use Rattle.tko_steps.proofs.LegalLemmas.{IsSoundCall, open_call}
+use Rattle.tko_steps.proofs.LoserLemmas.{eq-same_slots, passes-count_by}
+use Rattle.tko_steps.proofs.OwnLemmas.{act_step}
+use Rattle.tko_steps.proofs.RunLemmas.{Holds-start}
+use Rattle.tko_steps.proofs.TableLemmas.{eq-same_server}
+use Rattle.tko_steps.proofs.WiringLemmas.{begun, keeps-begin, keeps-step, stepped_from}
+use Rattle.tko_steps.proofs.TrackerLemmas.{is_plain, plain≢}
+
+-- ---- what the thread saw still is there
+
+abbrev SteadyAt : ServerState → Slots → Phase → Type 0
+SteadyAt now slots Start = Unit {0}
+SteadyAt now slots (Read found mark answer) = (now ≡ found) × (is_plain answer ≡ true)
+SteadyAt now slots (AtThreshold found) = now ≡ found
+SteadyAt now slots (Limit found) = now ≡ found
+SteadyAt now slots (Reserving found before) = (now ≡ found) × (slots ≡ before)
+SteadyAt now slots (Holding found) = now ≡ found
+SteadyAt now slots Firming = Unit {0}
+SteadyAt now slots Losing = ⊥
+SteadyAt now slots (Loosening found mark answer) = is_plain answer ≡ true
+SteadyAt now slots (Loosened found mark answer) = is_plain answer ≡ true
+SteadyAt now slots (Emptied answer) = is_plain answer ≡ true
+
+abbrev IsSteady : List ServerState → Slots → ThreadState → Type 0
+IsSteady servers slots NotEnrolled = Unit {0}
+IsSteady servers slots (Idle number) = Unit {0}
+IsSteady servers slots (InCall call phase) = SteadyAt (server_at servers call.server) slots phase
+
+abbrev SteadyNext : CallState → List ServerState → Slots → Decision → Type 0
+SteadyNext call servers slots (Goes lost phase) = SteadyAt (server_at servers call.server) slots phase
+SteadyNext call servers slots (Answers answer) = answer ≢ Contended
+
+steady-state : (call : CallState) (servers : List ServerState) (slots : Slots) (decision : Decision) → SteadyNext call servers slots decision
+    → IsSteady servers slots (state_after call decision)
+steady-state call servers slots (Goes lost phase) next = next
+steady-state call servers slots (Answers answer) next = tt
+
+steady-plain : (call : CallState) (servers : List ServerState) (slots : Slots) (decision : Decision) → SteadyNext call servers slots decision
+    → answer_of decision ≢ Some Contended
+steady-plain call servers slots (Goes lost phase) next = λ e. cc
+steady-plain call servers slots (Answers answer) next = λ e. let same : answer ≡ Contended = cc in next same
+
+-- no other thread holds a slot
+abbrev NoOtherHolds : CoreState → ℕ → Type 0
+NoOtherHolds core thread = (other : ℕ) → (other ≡ thread → ⊥) → holds (thread_at core other) ≡ false
+
+module _ (core : CoreState) (thread : ℕ) (call : CallState) (is : IsCore core) (alone : NoOtherHolds core thread) where
+  abbrev s : Settings
+  s = core.settings
+
+  abbrev now : ServerState
+  now = server_at (abstract_of core) call.server
+
+  abbrev slots : Slots
+  slots = core.shared.slots
+
+  abbrev Next : Phase → Decision → Type 0
+  Next phase decision =
+      let new = after_act core thread call phase in
+      SteadyNext call (abstract_of new) new.shared.slots decision
+
+  -- while the thread holds no slot, nobody does
+  none-held : (phase : Phase) → thread_at core thread ≡ InCall call phase → holds_at phase ≡ false → 1 ≤ slots.held → ⊥
+  none-held phase stands none one =
+      let found = passes-count_by holds core.threads NotEnrolled (omega (arith, one, is.held)) in
+      ⊎_elim
+      (λ (same : found.at ≡ thread).
+      let mine : holds (thread_at core found.at) ≡ false = ap (λ at. holds (thread_at core at)) same ∙ ap holds stands ∙ none in
+      let theirs = found.passes in
+      cc)
+      (λ (apart : found.at ≡ thread → ⊥).
+      let theirs = found.passes in
+      let not = alone found.at apart in
+      cc)
+      (cases_eq found.at thread)
+
+  start-next : (decision : Decision) → Leads call.op call now decision → Next Start decision
+  start-next (Goes lost phase) (same, leads) = to-phase phase leads
+    where
+      to-phase : (phase : Phase) → LeadsTo call.op call now phase → SteadyAt now slots phase
+      to-phase Start leads = absurd leads
+      to-phase (Read found mark answer) leads = (sym leads.0, leads.1)
+      to-phase (AtThreshold found) leads = sym leads.0
+      to-phase (Limit found) leads = absurd leads
+      to-phase (Reserving found before) leads = absurd leads
+      to-phase (Holding found) leads = absurd leads
+      to-phase Firming leads = absurd leads
+      to-phase Losing leads = absurd leads
+      to-phase (Loosening found mark answer) leads = leads.1
+      to-phase (Loosened found mark answer) leads = absurd leads
+      to-phase (Emptied answer) leads = absurd leads
+  start-next (Answers answer) leads = leads.0
+
+  steady-act : (phase : Phase) → thread_at core thread ≡ InCall call phase → SteadyAt now slots phase → Next phase (follows core call phase)
+  steady-act Start stands knows = start-next (follows core call Start) (Leads-from_start s call now)
+  steady-act (Read found mark answer) stands knows =
+      let phase : Phase = Read found mark answer in
+      cond_both (same_server now found) (Answers answer) (lost_try s call) (Next phase)
+      (λ won. plain≢ answer Contended knows.1 refl)
+      (λ lost. let same = eq-same_server now found knows.0 in cc)
+  steady-act (AtThreshold found) stands knows =
+      let phase : Phase = AtThreshold found in
+      let rest = cond (eqb (slots.firm + slots.held) s.limit) (lost_try s call) (goes call (Reserving found slots)) in
+      cond_both (eqb slots.firm s.limit) (goes call (Limit found)) rest (Next phase)
+      (λ full. knows)
+      (λ below. cond_both (eqb (slots.firm + slots.held) s.limit) (lost_try s call) (goes call (Reserving found slots)) (Next phase)
+      (λ held.
+      let all = eqb-true (slots.firm + slots.held) s.limit held in
+      let apart = eqb-false slots.firm s.limit below in
+      absurd (none-held phase stands refl (omega (arith, all, apart))))
+      (λ left. (knows, refl)))
+  steady-act (Limit found) stands knows =
+      let phase : Phase = Limit found in
+      cond_both (same_server found now) (Answers Full) (lost_try s call) (Next phase)
+      (λ same. λ e. cc)
+      (λ other. let same = eq-same_server found now (sym knows) in cc)
+  steady-act (Reserving found before) stands knows =
+      let phase : Phase = Reserving found before in
+      cond_both (same_slots slots before) (goes call (Holding found)) (lost_try s call) (Next phase)
+      (λ won. knows.0)
+      (λ lost. let same = eq-same_slots slots before knows.1 in cc)
+  steady-act (Holding found) stands knows =
+      let phase : Phase = Holding found in
+      cond_both (same_server now found) (goes call Firming) (goes call Losing) (Next phase)
+      (λ won. tt)
+      (λ lost. let same = eq-same_server now found knows in cc)
+  steady-act Firming stands knows = λ e. cc
+  steady-act Losing stands knows = absurd knows
+  steady-act (Loosening found mark answer) stands knows = knows
+  steady-act (Loosened found mark answer) stands knows = knows
+  steady-act (Emptied answer) stands knows = plain≢ answer Contended knows refl
+
+exchange-is_call_step : (old new : Mark) → is_call_step (kind_of_exchange old new) ≡ true
+exchange-is_call_step (Up a) (Up b) = refl
+exchange-is_call_step (Up a) (Soft b) = refl
+exchange-is_call_step (Up a) (Hard b) = refl
+exchange-is_call_step (Soft a) new = refl
+exchange-is_call_step (Hard a) new = refl
+
+act-is_call_step : (number : ℕ) (phase : Phase) → is_call_step (kind_of (action_of number phase)) ≡ true
+act-is_call_step number Start = refl
+act-is_call_step number (Read found mark answer) = exchange-is_call_step found.mark mark
+act-is_call_step number (AtThreshold found) = refl
+act-is_call_step number (Limit found) = refl
+act-is_call_step number (Reserving found slots) = refl
+act-is_call_step number (Holding found) = exchange-is_call_step found.mark (Soft number)
+act-is_call_step number Firming = refl
+act-is_call_step number Losing = refl
+act-is_call_step number (Loosening found mark answer) = refl
+act-is_call_step number (Loosened found mark answer) = exchange-is_call_step found.mark mark
+act-is_call_step number (Emptied answer) = refl
+
+-- ---- the world
+
+-- what holds of the world in each run of this thread alone
+pub record HoldsAlone (s : Settings) (thread : ℕ) (w : World) : Type 0 where
+  pub calls : All (IsIdleUnlessOf thread) (calls_of w.past)
+  pub plain : All IsNotContended (calls_of w.past)
+  pub plays : Plays s (opened s).servers thread (calls_of w.past) (abstract_of w.core)
+  pub others : NoOtherHolds w.core thread
+  pub steady : IsSteady (abstract_of w.core) w.core.shared.slots (thread_at w.core thread)
+
+HoldsAlone-start : (s : Settings) (thread : ℕ) → HoldsAlone s thread (start s)
+HoldsAlone-start s thread =
+    record {
+      calls = All-nil (IsIdleUnlessOf thread);
+      plain = All-nil IsNotContended;
+      plays = refl;
+      others = λ other apart. ap holds (get_or-replicate_same s.threads other NotEnrolled);
+      steady = let P : ThreadState → Type 0 = λ it. IsSteady (opened s).servers (start s).core.shared.slots it in
+          subst P (sym (get_or-replicate_same s.threads thread NotEnrolled)) tt;
+    }
+
+-- one thread has another state, that holds no slot
+others-set : (threads : List ThreadState) (thread own : ℕ) (new : ThreadState) → own < length threads → holds new ≡ false
+    → ((other : ℕ) → (other ≡ thread → ⊥) → holds (get_or threads other NotEnrolled) ≡ false)
+    → (other : ℕ) → (other ≡ thread → ⊥) → holds (get_or (set threads own new) other NotEnrolled) ≡ false
+others-set threads thread own new inside none others other apart =
+    ⊎_elim
+    (λ (here : other ≡ own). rw (here, get_or-set_same threads own new NotEnrolled inside) none)
+    (λ (there : other ≡ own → ⊥). ap holds (get_or-set_other threads own other new NotEnrolled there) ∙ others other apart)
+    (cases_eq other own)
+
+-- the state of a thread that begins or enrols knows nothing of the words
+steady-set : (servers : List ServerState) (slots : Slots) (threads : List ThreadState) (thread own : ℕ) (new : ThreadState) → own < length threads
+    → IsSteady servers slots new → IsSteady servers slots (get_or threads thread NotEnrolled)
+    → IsSteady servers slots (get_or (set threads own new) thread NotEnrolled)
+steady-set servers slots threads thread own new inside fresh steady =
+    let P : ThreadState → Type 0 = IsSteady servers slots in
+    ⊎_elim
+    (λ (here : thread ≡ own).
+    let now : get_or (set threads own new) thread NotEnrolled ≡ new = rw (here, get_or-set_same threads own new NotEnrolled inside) refl in
+    subst P (sym now) fresh)
+    (λ (there : thread ≡ own → ⊥). subst P (sym (get_or-set_other threads own thread new NotEnrolled there)) steady)
+    (cases_eq thread own)
+
+HoldsAlone-begun : (s : Settings) (w : World) (thread own number : ℕ) (op : Op) (server : ℕ) → HoldsBoth s w → HoldsAlone s thread w
+    → own < length w.core.threads → thread_at w.core own ≡ Idle number → HoldsAlone s thread (begun w own op server)
+HoldsAlone-begun s w thread own number op server both kept inside stands =
+    let call : Call = begun_call own number op server in
+    let new : ThreadState = InCall (begun_by number op server) Start in
+    let calls = calls_of w.past in
+    let first = (opened s).servers in
+    let servers = abstract_of w.core in
+    let after = begun w own op server in
+    let is_call : calls_of after.past ≡ call ∷ calls = rw stands refl in
+    let is_set : after.core.threads ≡ set w.core.threads own new = rw stands refl in
+    let I : List Call → Type 0 = λ all. All (IsIdleUnlessOf thread) all in
+    let N : List Call → Type 0 = λ all. All IsNotContended all in
+    let L : List Call → Type 0 = λ all. Plays s first thread all servers in
+    let O : List ThreadState → Type 0 = λ all. (other : ℕ) → (other ≡ thread → ⊥) → holds (get_or all other NotEnrolled) ≡ false in
+    let S : List ThreadState → Type 0 = λ all. IsSteady servers w.core.shared.slots (get_or all thread NotEnrolled) in
+    let plays : Plays s first thread (call ∷ calls) servers =
+    ⊎_elim
+    (λ (mine : own ≡ thread).
+    let sound : All (IsSoundCall s) calls = let P : Settings → Type 0 = λ it. All (IsSoundCall it) calls in subst P both.0.settings both.1.calls in
+    inr (record {
+      mine = mine;
+      entry = servers;
+      replayed = Replays-plays s first thread calls servers sound kept.plain kept.plays;
+      chain = refl;
+    }))
+    (λ (other : own ≡ thread → ⊥). inl (record { other = other; steps = refl; answer = refl }, kept.plays))
+    (cases_eq own thread) in
+    record {
+      calls = subst I (sym is_call) (All-cons (IsIdleUnlessOf thread) call calls (λ apart. (refl, refl)) kept.calls);
+      plain = subst N (sym is_call) (All-cons IsNotContended call calls (λ e. cc) kept.plain);
+      plays = subst L (sym is_call) plays;
+      others = subst O (sym is_set) (others-set w.core.threads thread own new inside refl kept.others);
+      steady = subst S (sym is_set) (steady-set servers w.core.shared.slots w.core.threads thread own new inside tt kept.steady);
+    }
+
+HoldsAlone-enrolled : (s : Settings) (w : World) (thread own : ℕ) → HoldsBoth s w → HoldsAlone s thread w → own < length w.core.threads
+    → thread_at w.core own ≡ NotEnrolled → HoldsAlone s thread (stepped_from w own NotEnrolled)
+HoldsAlone-enrolled s w thread own both kept inside stands =
+    let calls = calls_of w.past in
+    let step : OwnStep = own_step (enrol_step w.core own) w.past in
+    let none : latest own calls ≡ None = rw stands at (both.1.stand own) in
+    let same : with_step step calls ≡ calls = with_step-none step calls none in
+    let I : List Call → Type 0 = λ all. All (IsIdleUnlessOf thread) all in
+    let N : List Call → Type 0 = λ all. All IsNotContended all in
+    let L : List Call → Type 0 = λ all. Plays s (opened s).servers thread all (abstract_of w.core) in
+    record {
+      calls = subst I (sym same) kept.calls;
+      plain = subst N (sym same) kept.plain;
+      plays = subst L (sym same) kept.plays;
+      others = others-set w.core.threads thread own (Idle w.core.shared.enrolled) inside refl kept.others;
+      steady = steady-set (abstract_of w.core) w.core.shared.slots w.core.threads thread own (Idle w.core.shared.enrolled) inside tt kept.steady;
+    }
+
+HoldsAlone-act : (s : Settings) (w : World) (thread : ℕ) (call : CallState) (phase : Phase) → HoldsBoth s w → HoldsAlone s thread w
+    → thread < length w.core.threads → thread_at w.core thread ≡ InCall call phase
+    → HoldsAlone s thread (stepped_from w thread (InCall call phase))
+HoldsAlone-act s w thread call phase both kept inside stands =
+    let calls = calls_of w.past in
+    let own : OwnStep = own_step (act_step w.core thread call phase) w.past in
+    let decision = follows w.core call phase in
+    let new = after_act w.core thread call phase in
+    let mine = rw stands at (both.1.stand thread) in
+    let open_one = open_call thread call mine.0 in
+    let knows : SteadyAt (server_at (abstract_of w.core) call.server) w.core.shared.slots phase =
+    (let P : ThreadState → Type 0 = IsSteady (abstract_of w.core) w.core.shared.slots in subst P stands kept.steady) in
+    let next = steady-act w.core thread call both.0.core kept.others phase stands knows in
+    let S : ThreadState → Type 0 = IsSteady (abstract_of new) new.shared.slots in
+    let now : get_or new.threads thread NotEnrolled ≡ state_after call decision =
+    get_or-set_same w.core.threads thread (state_after call decision) NotEnrolled inside in
+    record {
+      calls = All-with_step (IsIdleUnlessOf thread) own calls kept.calls
+          (λ it found. let same : open_one ≡ it = cc (found, mine.1) in
+          let Q : Call → Type 0 = λ at. IsIdleUnlessOf thread (and_step at own) in
+          subst Q same (λ apart. absurd (apart refl)));
+      plain = All-with_step IsNotContended own calls kept.plain
+          (λ it found. steady-plain call (abstract_of new) new.shared.slots decision next);
+      plays = Plays-with_step s (opened s).servers thread own open_one calls (abstract_of w.core) refl refl mine.1 kept.plays;
+      others = λ other apart.
+          ap holds (get_or-set_other w.core.threads thread other (state_after call decision) NotEnrolled apart) ∙ kept.others other apart;
+      steady = subst S (sym now) (steady-state call (abstract_of new) new.shared.slots decision next);
+    }
+
+-- the same, where no other thread took a step of a call up to now
+abbrev IsAlone : Settings → ℕ → World → Type 0
+IsAlone s thread w = HoldsBoth s w × (All (IsStepOf thread) w.past → HoldsAlone s thread w)
+
+HoldsAlone-stepped_from : (s : Settings) (w : World) (thread own : ℕ) (state : ThreadState) → IsAlone s thread w → own < length w.core.threads
+    → thread_at w.core own ≡ state → All (IsStepOf thread) (stepped_from w own state).past
+    → HoldsAlone s thread (stepped_from w own state)
+HoldsAlone-stepped_from s w thread own NotEnrolled (both, alone) inside stands all =
+    let moment : Moment = Took (enrol_step w.core own) in
+    HoldsAlone-enrolled s w thread own both (alone (All-tail (IsStepOf thread) moment w.past all)) inside stands
+HoldsAlone-stepped_from s w thread own (Idle number) (both, alone) inside stands all = alone all
+HoldsAlone-stepped_from s w thread own (InCall call phase) (both, alone) inside stands all =
+    let moment : Moment = Took (act_step w.core own call phase) in
+    let same : own ≡ thread = All-head (IsStepOf thread) moment w.past all (act-is_call_step call.number phase) in
+    let P : ℕ → Type 0 = λ it. HoldsAlone s it (stepped_from w own (InCall call phase)) in
+    let Q : ℕ → Type 0 = λ it. HoldsAlone s it w in
+    let holds = alone (All-tail (IsStepOf thread) moment w.past all) in
+    subst P same (HoldsAlone-act s w own call phase both (subst Q (sym same) holds) inside stands)
+
+IsAlone-happens : (s : Settings) (w : World) (thread : ℕ) (turn : Turn) → IsAlone s thread w → IsAlone s thread (happens w turn)
+IsAlone-happens s w thread (Begin own op server) alone =
+    let P : World → Type 0 = λ new. All (IsStepOf thread) new.past → HoldsAlone s thread new in (
+      HoldsBoth-happens s w (Begin own op server) alone.0,
+      keeps-begin P w own op server alone.1
+          (λ number inside stands on_server all.
+          HoldsAlone-begun s w thread own number op server alone.0 (alone.1 (All-tail (IsStepOf thread) (began w.core own op server) w.past all)) inside stands),
+    )
+IsAlone-happens s w thread (Step own) alone =
+    let P : World → Type 0 = λ new. All (IsStepOf thread) new.past → HoldsAlone s thread new in (
+      HoldsBoth-happens s w (Step own) alone.0,
+      keeps-step P w own alone.1 (λ inside all. HoldsAlone-stepped_from s w thread own (thread_at w.core own) alone inside refl all),
+    )
+
+IsAlone-after_turns : (s : Settings) (w : World) (thread : ℕ) (turns : List Turn) → IsAlone s thread w
+    → IsAlone s thread (after_turns w turns)
+IsAlone-after_turns s w thread [] alone = alone
+IsAlone-after_turns s w thread (turn ∷ turns) alone =
+    IsAlone-after_turns s (happens w turn) thread turns (IsAlone-happens s w thread turn alone)
+
+pub HoldsAlone-run : InEveryRunAlone (λ s thread w. HoldsBoth s w × HoldsAlone s thread w)
+HoldsAlone-run s ranges thread turns all =
+    let alone = IsAlone-after_turns s (start s) thread turns ((Holds-start s ranges, HoldsCalls-start s), λ none. HoldsAlone-start s thread) in
+    (alone.0, alone.1 all)
+
+pub Replays-run : InEveryRunAlone (λ s thread w. Replays (opened s) (calls_of w.past) (tracker_in s (abstract_of w.core)))
+Replays-run s ranges thread turns all =
+    let w = run s turns in
+    let both = HoldsAlone-run s ranges thread turns all in
+    let P : Settings → Type 0 = λ it. All (IsSoundCall it) (calls_of w.past) in
+    Replays-plays s (opened s).servers thread (calls_of w.past) (abstract_of w.core) (subst P both.0.0.settings both.0.1.calls) both.1.plain both.1.plays

@@ -1,0 +1,64 @@
+-- The tries of a call: what one more own step makes of the last look and of the number of lost tries.
+use Rattle.std.proofs.Common.{is_some, ◌≡◌, ◌+◌, Bool, true, false, not, ◌&&◌, ◌||◌, List, ◌∷◌, Option, Some, None, refl, ◌∙◌, arith}
+use Rattle.std.proofs.lemmas.Bool.{cond-false, cond-true}
+use Rattle.tko_model.specs.declared.mark.Mark.{Mark}
+use Rattle.tko_model.specs.declared.mark.Mark.TheVariants.{Up, Soft, Hard}
+use Rattle.tko_model.specs.declared.settings.Settings.{Settings}
+use Rattle.tko_steps.specs.declared.step.Place.{Place}
+use Rattle.tko_steps.specs.declared.step.Word.{Word}
+use Rattle.tko_steps.specs.Core.{kind_of_exchange}
+use Rattle.tko_steps.specs.Lost.{is_exchange, is_look, last_look, loses_try, lost_tries, same_place}
+use Rattle.tko_steps.specs.Runs.{OwnStep, StepTaken}
+
+pub exchange-not_look : (old new : Mark) → is_look (kind_of_exchange old new) ≡ false
+exchange-not_look (Up a) (Up b) = refl
+exchange-not_look (Up a) (Soft b) = refl
+exchange-not_look (Up a) (Hard b) = refl
+exchange-not_look (Soft a) new = refl
+exchange-not_look (Hard a) new = refl
+
+pub exchange-is_exchange : (old new : Mark) → is_exchange (kind_of_exchange old new) ≡ true
+exchange-is_exchange (Up a) (Up b) = refl
+exchange-is_exchange (Up a) (Soft b) = refl
+exchange-is_exchange (Up a) (Hard b) = refl
+exchange-is_exchange (Soft a) new = refl
+exchange-is_exchange (Hard a) new = refl
+
+or_false : (b : Bool) → (b || false) ≡ b
+or_false true = refl
+or_false false = refl
+
+and_some : (b c : Bool) → c ≡ true → (b && c) ≡ b
+and_some true c is = is
+and_some false c is = refl
+
+-- a step that is no look at a word that this try looked at loses its try exactly where it is lost
+pub loses_try-change : (s : Settings) (step : StepTaken) (seen : Option Word) → is_look step.kind ≡ false → is_some seen ≡ true
+    → loses_try s step seen ≡ not step.won
+loses_try-change s step seen no_look looked =
+    rw no_look (or_false (not step.won && is_some seen) ∙ and_some (not step.won) (is_some seen) looked)
+
+module _ (s : Settings) (own : OwnStep) (older : List OwnStep) where
+  abbrev loses : Bool
+  loses = loses_try s own.step (last_look s own.step.place older)
+
+  -- a step after which the try goes on
+  pub last_look-here : (at : Place) → loses ≡ false → (is_look own.step.kind && same_place own.step.place at) ≡ true
+      → last_look s at (own ∷ older) ≡ Some own.step.found
+  last_look-here at goes_on here =
+      cond-false _ _ _ goes_on ∙ cond-true _ _ _ here
+
+  pub last_look-elsewhere : (at : Place) → loses ≡ false → (is_look own.step.kind && same_place own.step.place at) ≡ false
+      → last_look s at (own ∷ older) ≡ last_look s at older
+  last_look-elsewhere at goes_on there =
+      cond-false _ _ _ goes_on ∙ cond-false _ _ _ there
+
+  pub lost_tries-kept : loses ≡ false → lost_tries s (own ∷ older) ≡ lost_tries s older
+  lost_tries-kept goes_on = rw goes_on (omega arith)
+
+  -- a step that loses the try
+  pub last_look-lost : (at : Place) → loses ≡ true → last_look s at (own ∷ older) ≡ None
+  last_look-lost at lost = cond-true _ _ _ lost
+
+  pub lost_tries-lost : loses ≡ true → lost_tries s (own ∷ older) ≡ lost_tries s older + 1
+  lost_tries-lost lost = rw lost refl

@@ -1,0 +1,24 @@
+use Rattle.std.proofs.Common.{subst, sym}
+use Rattle.tko_steps.specs.Core.{CanAct, CoreState, after_act}
+use Rattle.tko_steps.specs.Invariant.{IsCore}
+use Rattle.tko_steps.specs.Table.{action_of}
+use Rattle.tko_steps.proofs.CoreLemmas.{CanAct-at, IsCore-after_act}
+use Rattle.tko_steps.proofs.atomic.Core.act.Goals as goal
+
+pub act-seen-requires : goal.act-seen-requires
+act-seen-requires c =
+    let call = c.args.call in
+    let phase = c.args.phase in
+    let P : CoreState → Type 0 = λ core. CanAct core.shared call.server (action_of call.number phase) in
+    let is = subst IsCore c.self.view_is c.self.invariant in
+    rw c.action-action.ensures
+    (subst P (sym c.self.view_is) (CanAct-at c.args.self.now c.args.thread call is c.requires.thread phase c.requires.state))
+
+pub invariant_of-self : goal.invariant_of-self
+invariant_of-self c =
+    let call = c.args.call in
+    let phase = c.args.phase in
+    let P : CoreState → Type 0 = λ core. IsCore (after_act core c.args.thread call phase) in
+    let is = subst IsCore c.self.view_is c.self.invariant in
+    rw (c.state.ensures, c.next-following.ensures, c.act-seen.ensures.state, c.act-seen.ensures.seen, c.action-action.ensures)
+    (subst P (sym c.self.view_is) (IsCore-after_act c.args.self.now c.args.thread call is c.requires.thread phase c.requires.state))

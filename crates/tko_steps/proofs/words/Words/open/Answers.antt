@@ -1,0 +1,8 @@
+use Rattle.std.proofs.Common.{rules}
+use Rattle.tko_steps.proofs.WordsLemmas.{opened_is}
+use Rattle.tko_steps.proofs.words.Words.open.Goals as goal
+
+pub returns : goal.returns
+returns c =
+    opened_is c.args.settings.now c.pack-server.result c.pack_soft.result c.in_ok-health.health.items (search rules)
+    c.pack-server.ensures.back c.pack_soft.ensures.firm c.pack_soft.ensures.held

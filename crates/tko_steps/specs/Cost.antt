@@ -1,0 +1,19 @@
+-- How many steps a call takes at most.
+use Rattle.std.specs.Prelude.{ℕ, ◌+◌, ◌*◌, ◌≤◌, length}
+use Rattle.tko_model.specs.declared.mark.Op.{Op}
+use Rattle.tko_model.specs.declared.mark.Op.TheVariants.{LookUp, SoftFailure, HardFailure, Success, Release}
+use Rattle.tko_model.specs.declared.settings.Settings.{Settings}
+use Rattle.tko_steps.specs.Runs.{Call}
+
+-- the most steps of a call of this operation: a try of a soft failure takes five, one of a hard
+-- failure or a success two, and the try that gives up the thread's own soft mark four
+abbrev pub most_steps : Settings → Op → ℕ
+most_steps s LookUp = 1
+most_steps s SoftFailure = 5 * s.tries
+most_steps s HardFailure = 2 * s.tries + 2
+most_steps s Success = 2 * s.tries + 2
+most_steps s Release = 4
+
+-- a call, answered or open, took no more
+abbrev pub IsShort : Settings → Call → Type 0
+IsShort s call = length call.steps ≤ most_steps s call.op

@@ -1,0 +1,326 @@
+//! The one decision: what a call does after each of its steps.
+ghost use Rattle.std.specs.Prelude.{◌≡◌, ◌<◌};
+ghost use Rattle.tko_model.specs.Ranges.{IsWithinRanges};
+ghost use Rattle.tko_steps.specs.Table.{action_of, after_change, after_look, after_slots, at_threshold, from_start, from_up, goes, lost_try, next_of, on_others, on_own_hard, on_own_soft, same_server};
+
+use crate::{Call, Kind, Phase, Place, Slots, ThreadState};
+use tko_model::{Mark, Op, Reply, ServerState, Settings, WORN_STAMP};
+
+/// One step on one word.
+#[derive(Clone, Copy)]
+pub enum Action {
+    LookAtServer,
+    LookAtSlots,
+    /// Exchanges the server, if it is still as found, for this mark and a stamp that is one more.
+    Exchange { found: ServerState, mark: Mark },
+    /// Takes one more slot, if the soft word still has these counts.
+    Reserve { slots: Slots },
+    /// Turns a held slot into a settled mark.
+    Settle,
+    /// Turns a settled mark into a held slot.
+    Loosen,
+    /// Gives a held slot back.
+    Give,
+}
+
+/// What a step read.
+#[derive(Clone, Copy)]
+pub enum Seen {
+    Server(ServerState),
+    Slots(Slots),
+    /// Whether the step wrote: an exchange that found another word did not.
+    Done(bool),
+}
+
+/// What follows a step.
+#[derive(Clone, Copy)]
+pub enum Decision {
+    /// The call goes on at this phase, with so many lost tries.
+    Goes { lost: u32, phase: Phase },
+    Answers(Reply),
+}
+
+impl Action {
+    ghost use Rattle.tko_steps.specs.Core.{kind_of, kind_of_exchange, place_of};
+
+    /// What the step does, by name.
+    pub fn kind(&self) -> Kind
+        ensures { result ≡ kind_of self.now }
+    {
+        match *self {
+            Action::LookAtServer | Action::LookAtSlots => Kind::Look,
+            Action::Exchange { found, mark } => Action::kind_of_exchange(found.mark, mark),
+            Action::Reserve { .. } => Kind::Reserve,
+            Action::Settle | Action::Loosen => Kind::Shift,
+            Action::Give => Kind::Give,
+        }
+    }
+
+    fn kind_of_exchange(old: Mark, new: Mark) -> Kind
+        ensures { result ≡ kind_of_exchange old new }
+    {
+        match (old, new) {
+            (Mark::Up(_), Mark::Up(_)) => Kind::Count,
+            (Mark::Up(_), Mark::Soft(_) | Mark::Hard(_)) => Kind::Mark,
+            (Mark::Soft(_) | Mark::Hard(_), _) => Kind::Own,
+        }
+    }
+
+    /// The word that the step of a call on this server is on.
+    pub fn place(&self, server: usize) -> Place
+        ensures { result ≡ place_of server self.now }
+    {
+        match *self {
+            Action::LookAtServer | Action::Exchange { .. } => Place::Server(server),
+            Action::LookAtSlots
+            | Action::Reserve { .. }
+            | Action::Settle
+            | Action::Loosen
+            | Action::Give => Place::Soft,
+        }
+    }
+}
+
+impl Seen {
+    ghost use Rattle.tko_steps.specs.Core.{is_done};
+
+    /// Whether the step did what it meant to; a look always does.
+    pub fn is_done(&self) -> bool
+        ensures { result ≡ is_done self.now }
+    {
+        match *self {
+            Seen::Server(_) | Seen::Slots(_) => true,
+            Seen::Done(won) => won,
+        }
+    }
+}
+
+impl Decision {
+    ghost use Rattle.tko_steps.specs.Core.{answer_of, state_after};
+
+    /// The state of the thread of this call then.
+    pub fn state(&self, call: &Call) -> ThreadState
+        ensures { result ≡ state_after call.now self.now }
+    {
+        match *self {
+            Decision::Goes { lost, phase } => ThreadState::InCall {
+                call: Call { lost, ..*call },
+                phase,
+            },
+            Decision::Answers(_) => ThreadState::Idle {
+                number: call.number,
+            },
+        }
+    }
+
+    /// The reply, where the call ends.
+    pub fn answer(&self) -> Option<Reply>
+        ensures { result ≡ answer_of self.now }
+    {
+        match *self {
+            Decision::Goes { .. } => None,
+            Decision::Answers(reply) => Some(reply),
+        }
+    }
+}
+
+impl Phase {
+    /// The step that a call takes from this phase.
+    pub fn action(&self, call: &Call) -> Action
+        ensures { result ≡ action_of call.now.number self.now }
+    {
+        match *self {
+            Phase::Start | Phase::Limit { .. } => Action::LookAtServer,
+            Phase::AtThreshold { .. } => Action::LookAtSlots,
+            Phase::Read { found, mark, .. } => Action::Exchange { found, mark },
+            Phase::Reserving { slots, .. } => Action::Reserve { slots },
+            Phase::Holding { found } => Action::Exchange {
+                found,
+                mark: Mark::Soft(call.number),
+            },
+            Phase::Firming => Action::Settle,
+            Phase::Loosening { .. } => Action::Loosen,
+            Phase::Loosened { found, mark, .. } => Action::Exchange { found, mark },
+            Phase::Losing | Phase::Emptied { .. } => Action::Give,
+        }
+    }
+}
+
+/// What a call does once the step of its phase has read this.
+pub fn next(settings: &Settings, call: &Call, phase: Phase, seen: Seen) -> Decision
+    requires settings { IsWithinRanges settings.now }
+    requires tries { call.now.lost < settings.now.tries }
+    ensures { result ≡ next_of settings.now call.now phase seen }
+{
+    match seen {
+        Seen::Server(found) => after_look(settings, call, phase, found),
+        Seen::Slots(slots) => after_slots(settings, call, phase, slots),
+        Seen::Done(won) => after_change(settings, call, phase, won),
+    }
+}
+
+/// It loaded the server's word.
+fn after_look(settings: &Settings, call: &Call, phase: Phase, found: ServerState) -> Decision
+    requires settings { IsWithinRanges settings.now }
+    requires tries { call.now.lost < settings.now.tries }
+    ensures { result ≡ after_look settings.now call.now phase found }
+{
+    match phase {
+        Phase::Start => from_start(settings, call, found),
+        Phase::Limit { found: before } if is_same(before, found) => Decision::Answers(Reply::Full),
+        Phase::Limit { .. } => lost_try(settings, call),
+        _ => goes(call, phase),
+    }
+}
+
+/// It loaded the soft word.
+fn after_slots(settings: &Settings, call: &Call, phase: Phase, slots: Slots) -> Decision
+    requires { call.now.lost < settings.now.tries }
+    ensures { result ≡ after_slots settings.now call.now phase slots }
+{
+    match phase {
+        Phase::AtThreshold { found } => at_threshold(settings, call, found, slots),
+        _ => goes(call, phase),
+    }
+}
+
+/// It exchanged a word, or changed the soft word.
+fn after_change(settings: &Settings, call: &Call, phase: Phase, won: bool) -> Decision
+    requires { call.now.lost < settings.now.tries }
+    ensures { result ≡ after_change settings.now call.now phase won }
+{
+    match phase {
+        Phase::Read { reply, .. } if won => Decision::Answers(reply),
+        Phase::Reserving { found, .. } if won => goes(call, Phase::Holding { found }),
+        Phase::Holding { .. } if won => goes(call, Phase::Firming),
+        Phase::Holding { .. } => goes(call, Phase::Losing),
+        Phase::Firming => Decision::Answers(Reply::TookSoft),
+        Phase::Read { .. } | Phase::Reserving { .. } | Phase::Losing => lost_try(settings, call),
+        Phase::Loosening { found, mark, reply } => {
+            goes(call, Phase::Loosened { found, mark, reply })
+        }
+        Phase::Loosened { reply, .. } => goes(call, Phase::Emptied { reply }),
+        Phase::Emptied { reply } => Decision::Answers(reply),
+        Phase::Start | Phase::AtThreshold { .. } | Phase::Limit { .. } => goes(call, phase),
+    }
+}
+
+fn goes(call: &Call, phase: Phase) -> Decision
+    ensures { result ≡ goes call.now phase }
+{
+    Decision::Goes {
+        lost: call.lost,
+        phase,
+    }
+}
+
+/// One more try is lost: the call begins again, unless that was its last try.
+fn lost_try(settings: &Settings, call: &Call) -> Decision
+    requires { call.now.lost < settings.now.tries }
+    ensures { result ≡ lost_try settings.now call.now }
+{
+    if settings.tries == call.lost + 1 {
+        return Decision::Answers(Reply::Contended);
+    }
+    Decision::Goes {
+        lost: call.lost + 1,
+        phase: Phase::Start,
+    }
+}
+
+/// The first look found the server like this.
+fn from_start(settings: &Settings, call: &Call, found: ServerState) -> Decision
+    requires { IsWithinRanges settings.now }
+    ensures { result ≡ from_start settings.now call.now found }
+{
+    match found.mark {
+        Mark::Up(count) => from_up(settings, call, found, count),
+        Mark::Soft(owner) if owner == call.number => on_own_soft(call, found),
+        Mark::Hard(owner) if owner == call.number => on_own_hard(call, found),
+        Mark::Soft(_) | Mark::Hard(_) => Decision::Answers(on_others(call.op, found.mark)),
+    }
+}
+
+/// On a server that another thread marked.
+fn on_others(op: Op, mark: Mark) -> Reply
+    ensures { result ≡ on_others op mark }
+{
+    match op {
+        Op::LookUp => Reply::Marked(mark),
+        Op::Release => Reply::NotMine(mark),
+        Op::SoftFailure | Op::HardFailure | Op::Success => Reply::Already(mark),
+    }
+}
+
+fn on_own_soft(call: &Call, found: ServerState) -> Decision
+    ensures { result ≡ on_own_soft call.now found }
+{
+    let (mark, reply) = match call.op {
+        Op::LookUp => return Decision::Answers(Reply::Marked(found.mark)),
+        Op::SoftFailure => return Decision::Answers(Reply::Already(found.mark)),
+        Op::HardFailure => (Mark::Hard(call.number), Reply::Hardened),
+        Op::Success => (Mark::Up(0), Reply::Unmarked(found.mark)),
+        Op::Release => (Mark::Up(0), Reply::Released(found.mark)),
+    };
+    goes(call, Phase::Loosening { found, mark, reply })
+}
+
+fn on_own_hard(call: &Call, found: ServerState) -> Decision
+    ensures { result ≡ on_own_hard call.now found }
+{
+    let reply = match call.op {
+        Op::LookUp => return Decision::Answers(Reply::Marked(found.mark)),
+        Op::SoftFailure | Op::HardFailure => return Decision::Answers(Reply::Already(found.mark)),
+        Op::Success => Reply::Unmarked(found.mark),
+        Op::Release => Reply::Released(found.mark),
+    };
+    goes(
+        call,
+        Phase::Read {
+            found,
+            mark: Mark::Up(0),
+            reply,
+        },
+    )
+}
+
+/// On an unmarked server with this count of soft failures.
+fn from_up(settings: &Settings, call: &Call, found: ServerState, count: u32) -> Decision
+    requires { IsWithinRanges settings.now }
+    ensures { result ≡ from_up settings.now call.now found count }
+{
+    let (mark, reply) = match call.op {
+        Op::LookUp => return Decision::Answers(Reply::Up(count)),
+        Op::Release => return Decision::Answers(Reply::NotMine(found.mark)),
+        Op::Success if count == 0 => return Decision::Answers(Reply::Clean),
+        _ if found.stamp >= WORN_STAMP => return Decision::Answers(Reply::Worn),
+        Op::SoftFailure if count >= settings.failures - 1 => {
+            return goes(call, Phase::AtThreshold { found });
+        }
+        Op::SoftFailure => (Mark::Up(count + 1), Reply::Counted(count + 1)),
+        Op::HardFailure => (Mark::Hard(call.number), Reply::TookHard),
+        Op::Success => (Mark::Up(0), Reply::Reset(count)),
+    };
+    goes(call, Phase::Read { found, mark, reply })
+}
+
+/// A soft mark may be made where a slot is left, and none where as many are settled as may be.
+fn at_threshold(settings: &Settings, call: &Call, found: ServerState, slots: Slots) -> Decision
+    requires { call.now.lost < settings.now.tries }
+    ensures { result ≡ at_threshold settings.now call.now found slots }
+{
+    if slots.firm == settings.limit {
+        return goes(call, Phase::Limit { found });
+    }
+    if slots.firm as u64 + slots.held as u64 == settings.limit as u64 {
+        return lost_try(settings, call);
+    }
+    goes(call, Phase::Reserving { found, slots })
+}
+
+/// Whether it is the same mark and the same stamp.
+pub(crate) fn is_same(one: ServerState, other: ServerState) -> bool
+    ensures { result ≡ same_server one other }
+{
+    one == other
+}
