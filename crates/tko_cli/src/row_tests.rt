@@ -16,16 +16,19 @@ const SAME_SERVER: &str =
 
 /// Options, the input, and the output.
 const ROWS: [(&str, &str, &str); 14] = [
+    // limit_zero_never_marks_soft
     (
         "--failures 1 --limit 0 --outcomes timeout",
         "get a\r\nstats tko\r\n",
         "SERVER_ERROR no server\r\nSTAT dry:0 up:0\r\nEND\r\ntrail 1 0 sent timeout full\n",
     ),
+    // bad_chunk_then_version
     (
         "--outcomes miss",
         "set a 0 0 2\r\nxyz\r\nversion\r\n",
         "CLIENT_ERROR bad data chunk\r\nVERSION tkoproxy 1\r\n",
     ),
+    // keys_are_routed_one_by_one, and the two rows after it
     (
         "--outcomes hit:x,miss",
         "get a b\r\n",
@@ -41,22 +44,26 @@ const ROWS: [(&str, &str, &str); 14] = [
         "set a 0 0 1 noreply\r\nx\r\n",
         "trail 1 0 sent reply clean\n",
     ),
+    // gets_joins_cas_values
     (
         "--outcomes hit:x,hit:yz",
         "gets a b\r\n",
         "VALUE a 0 1 1\r\nx\r\nVALUE b 0 2 1\r\nyz\r\nEND\r\n\
         trail 1 0 sent reply clean\ntrail 2 0 sent reply clean\n",
     ),
+    // misspelled_noreply_is_a_bad_line
     (
         "--outcomes miss",
         "set a 0 0 1 norply\r\nx\r\nversion\r\n",
         "CLIENT_ERROR bad command line format\r\nERROR\r\nVERSION tkoproxy 1\r\n",
     ),
+    // empty_line_and_lone_words
     (
         "--outcomes miss",
         "\r\nget\r\nstats foo\r\n",
         "ERROR\r\nCLIENT_ERROR bad command line format\r\nERROR\r\n",
     ),
+    // lenient_spelling_is_printed_plain
     (
         "--outcomes line:7",
         "incr  a 007\n",
@@ -72,8 +79,10 @@ const ROWS: [(&str, &str, &str); 14] = [
         "set a 0 0 18446744073709551615\r\n",
         "SERVER_ERROR object too large for cache\r\n",
     ),
+    // unfinished_data
     ("--outcomes miss", "set a 0 0 5\r\nhe", ""),
     ("--outcomes miss", "quit\r\nget a\r\n", ""),
+    // expiry_replaced_on_failover
     (
         "--servers 2 --outcomes refused,line:STORED",
         "set a 0 0 1\r\nx\r\n",
@@ -93,6 +102,7 @@ fn each_request_has_its_reply_and_its_trail(rt: HostRuntime) -> Result<(), Fail>
 #[test]
 fn the_configuration_names_the_servers(rt: HostRuntime) -> Result<(), Fail> {
     let rows = [
+        // status_names_the_addresses
         (
             TWO_POOLS,
             "refused,miss",
@@ -100,6 +110,7 @@ fn the_configuration_names_the_servers(rt: HostRuntime) -> Result<(), Fail> {
             STAT 127.0.0.1:11213 up:0\r\nEND\r\n\
             trail 1 0 sent refused took-hard\ntrail 1 2 sent reply clean\n",
         ),
+        // one_server_in_two_pools
         (
             SAME_SERVER,
             "refused",
@@ -141,7 +152,7 @@ fn faults_of_options_have_an_order(rt: HostRuntime) -> Result<(), Fail> {
 }
 
 #[test]
-fn data_of_1_mib_is_stored_and_more_is_refused(rt: HostRuntime) -> Result<(), Fail> {
+fn largest_data(rt: HostRuntime) -> Result<(), Fail> {
     let alloc = rt.alloc();
     let data = "x".repeat(alloc, 1_048_576)?;
     let input = format!(in alloc;
