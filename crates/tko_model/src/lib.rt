@@ -5,10 +5,12 @@
 //! - `Op` and `Reply`: the operations of a tracker, and its replies.
 //! - `Transition`: what an operation answers and changes, decided for one server.
 //! - `Look` and `Clear`: what a look-up found, and the permission to send one request.
+//! - `Duty`: the right of the thread that marked a server to probe it.
 //! - `Plain`: the sequential tracker, which defines what all other trackers do.
 //! - `append_mark`, `append_reply`, `op_word`: marks, replies and operations as text.
 #![tactic(auto)]
 
+mod duty;
 mod look;
 mod mark;
 mod plain;
@@ -17,6 +19,7 @@ mod state;
 mod text;
 mod transition;
 
+pub use duty::Duty;
 pub use look::{Clear, Look};
 pub use mark::{Mark, Op, Reply};
 pub use plain::{OpenFault, Plain};

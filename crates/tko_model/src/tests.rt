@@ -1,6 +1,6 @@
 //! Replies of the tracker that were worked out by hand.
 
-use crate::{Mark, Op, OpenFault, Plain, Reply, Settings, SettingsFault};
+use crate::{Duty, Mark, Op, OpenFault, Plain, Reply, Settings, SettingsFault};
 use std::process::Abort;
 use std::test::Fail;
 
@@ -69,4 +69,20 @@ fn a_worn_server_takes_no_change(rt: HostRuntime) -> Result<(), Fail> {
     let fault = Plain::open(rt.alloc(), past).err();
     assert!(rt; matches!(fault, Some(OpenFault::Settings(SettingsFault::Stamp))));
     Ok(())
+}
+
+#[test]
+fn only_the_thread_that_marked_a_server_may_probe_it(rt: HostRuntime) {
+    for (mark, own) in [
+        (Mark::Up(1), false),
+        (Mark::Soft(1), true),
+        (Mark::Soft(0), false),
+        (Mark::Hard(1), true),
+        (Mark::Hard(2), false),
+    ] {
+        match Duty::of(7, mark, 1) {
+            Some(duty) => assert_eq!(rt; (own, duty.server()), (true, 7)),
+            None => assert!(rt; !own),
+        }
+    }
 }
