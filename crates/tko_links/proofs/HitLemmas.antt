@@ -1,5 +1,5 @@
 -- What comes of the bytes of a hit.
-use Rattle.std.proofs.Common.{◌≡◌, ℕ, List, refl, Err, None}
+use Rattle.std.proofs.Common.{ℕ, List, refl, Err, None}
 use Rattle.tko_text.specs.declared.request.Request.{Request}
 use Rattle.tko_text.specs.declared.response.fault.ReadFault.TheVariants.{Memory}
 use Rattle.tko_text.specs.Responses.{ReadsResponse}

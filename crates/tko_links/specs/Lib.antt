@@ -1,2 +1,13 @@
+pub mod ExchangeParts
+pub mod ExchangeTimes
+pub mod Exchanges
+pub mod Faults
+pub mod Incoming
 pub mod Links
+pub mod MemoryWires
 pub mod Scripted
+pub mod TcpAddresses
+pub mod TcpWires
+pub mod WireRecords
+pub mod Wired
+pub mod Wires

@@ -5,14 +5,15 @@ use Rattle.tko_links.specs.declared.links.Outcome.{Outcome}
 use Rattle.tko_links.specs.declared.links.Outcome.TheVariants as outcome
 use Rattle.tko_links.specs.declared.links.NoMemory.{NoMemory}
 
--- how often a server can be sent to
+-- how often a server can be sent to, and how often it can be probed
 abbrev pub most_sends : ℕ
 most_sends = 18446744073709551615
 
--- an item of a links record: this request was sent to this server, and that came of it; without an
--- outcome where memory ran out
+-- an item of a links record: this request was sent to this server, or the server was probed, and that
+-- came of it; without an outcome where memory ran out
 pub data LinksItem : Type 0 where
   Sent : (server : ℕ) (request : Request) (outcome : Option Outcome) → LinksItem
+  Probed : (server : ℕ) (outcome : Option Outcome) → LinksItem
 
 -- whether a request was sent where this came of it
 abbrev pub is_sent : Outcome → Bool
@@ -22,12 +23,12 @@ is_sent outcome.Refused = true
 is_sent outcome.Broken = true
 is_sent outcome.Spent = false
 
--- whether a call counted a send; an error for lack of memory says it itself
+-- whether a call counted a send or a probe; an error for lack of memory says it itself
 abbrev pub is_counted : Result Outcome NoMemory → Bool
 is_counted (Ok came) = is_sent came
 is_counted (Err fault) = fault.sent
 
--- a call's part of the count of a server: one where it sent to that one
+-- a call's part of the count of a server: one where it sent to that one, or probed it
 abbrev pub part_of : Bool → ℕ → ℕ → ℕ
 part_of sent to server = if sent && (to == server) then 1 else 0
 
@@ -42,3 +43,10 @@ abbrev pub Exchanged : {L : Type 0} → (L → LinksItem → L → Type 0) → L
 Exchanged exchanges old server request result new =
     MatchBool (is_counted result)
     (exchanges old (Sent server request (outcome_in result)) new) (new ≡ old)
+
+-- a call that counted a probe is one item, and one that counted none changed nothing
+abbrev pub WasProbed : {L : Type 0} → (L → LinksItem → L → Type 0) → L → ℕ
+    → Result Outcome NoMemory → L → Type 0
+WasProbed exchanges old server result new =
+    MatchBool (is_counted result)
+    (exchanges old (Probed server (outcome_in result)) new) (new ≡ old)

@@ -1,5 +1,5 @@
 -- Links that play a list of scripts: what each script gives to a request, and what a send changes.
-use Rattle.std.specs.Prelude.{◌≡◌, ℕ, ◌+◌, List, [], ◌∷◌, ◌++◌, codes, drop, length, map, slice_get, slice_index, slice_set, Option, Some, None, Result, Ok, Err}
+use Rattle.std.specs.Prelude.{◌≡◌, ℕ, ◌+◌, List, [], ◌∷◌, ◌++◌, codes, drop, flat_map, length, slice_get, slice_index, slice_set, Option, Some, None, Result, Ok, Err}
 use Rattle.std.specs.Fmt.{decimal}
 use Rattle.tko_text.specs.declared.request.Request.{Request}
 use Rattle.tko_text.specs.declared.request.Request.TheVariants as request
@@ -12,12 +12,14 @@ use Rattle.tko_links.specs.declared.links.Outcome.{Outcome}
 use Rattle.tko_links.specs.declared.links.Outcome.TheVariants as outcome
 use Rattle.tko_links.specs.declared.scripted.Script.{Script}
 use Rattle.tko_links.specs.declared.scripted.Script.TheVariants as script
-use Rattle.tko_links.specs.Links.{LinksItem, Sent}
+use Rattle.tko_links.specs.Links.{LinksItem, Sent, Probed}
 
--- the scripts that are left, how often each server was sent to, and the bytes of each request sent
+-- the scripts that are left, how often each server was sent to and probed, and the bytes of each
+-- request sent
 pub record ScriptedState : Type 0 where
   pub scripts : List Script
   pub sends : List ℕ
+  pub probes : List ℕ
   pub requests : List (List ℕ)
 
 -- what comes of an answer's bytes, by what a reading of them gives; nothing where memory ran out
@@ -55,6 +57,7 @@ Hits text _ came = came ≡ Some outcome.Broken
 abbrev pub Gives : Script → Request → Option Outcome → Type 0
 Gives script.Refused request came = came ≡ Some outcome.Refused
 Gives script.Timeout request came = came ≡ Some outcome.Timeout
+Gives script.Broken request came = came ≡ Some outcome.Broken
 Gives (script.Bytes bytes) request came = Answers bytes.items request came
 Gives (script.Hit text) request came = Hits text.items request came
 
@@ -63,34 +66,47 @@ abbrev pub NextGives : Option Script → Request → Option Outcome → Type 0
 NextGives None request came = came ≡ Some outcome.Refused
 NextGives (Some next) request came = Gives next request came
 
+-- one more at this server
+abbrev pub raised : List ℕ → ℕ → List ℕ
+raised counts server = slice_set counts server (slice_index counts server + 1)
+
 -- a request was counted at its server, and its bytes are kept
 abbrev pub counted : ScriptedState → ℕ → Request → ScriptedState
 counted old server request =
     record old {
-      sends = slice_set old.sends server (slice_index old.sends server + 1);
+      sends = raised old.sends server;
       requests = old.requests ++ request_text request ∷ [];
     }
 
--- what came of an item is what the next script gives
+-- what came of an item is what the next script gives; a probe asks for the version
 abbrev pub IsGiven : Option Script → LinksItem → Type 0
 IsGiven next (Sent server request came) = NextGives next request came
+IsGiven next (Probed server came) = NextGives next request.Version came
 
--- the bytes that went out in an item
-abbrev pub sent_text : LinksItem → List ℕ
-sent_text (Sent server request came) = request_text request
+-- the bytes of the request that was sent in an item; those of a probe are not kept
+abbrev pub texts_in : LinksItem → List (List ℕ)
+texts_in (Sent server request came) = request_text request ∷ []
+texts_in (Probed server came) = []
 
 -- how often each server was sent to after an item
 abbrev pub sends_after : List ℕ → LinksItem → List ℕ
-sends_after sends (Sent server request came) =
-    slice_set sends server (slice_index sends server + 1)
+sends_after sends (Sent server request came) = raised sends server
+sends_after sends (Probed server came) = sends
 
--- one item: it uses the next script, which gives what came, its bytes are kept, and it is counted
+-- how often each server was probed after an item
+abbrev pub probes_after : List ℕ → LinksItem → List ℕ
+probes_after probes (Sent server request came) = probes
+probes_after probes (Probed server came) = raised probes server
+
+-- one item: it uses the next script, which gives what came, it is counted, and the bytes of a
+-- request are kept
 pub record IsPlayed (old : ScriptedState) (it : LinksItem) (new : ScriptedState) : Type 0 where
   pub outcome : IsGiven (slice_get old.scripts 0) it
   pub state : new ≡ record {
     scripts = drop 1 old.scripts;
     sends = sends_after old.sends it;
-    requests = old.requests ++ sent_text it ∷ [];
+    probes = probes_after old.probes it;
+    requests = old.requests ++ texts_in it;
   }
 
 -- these scripts, one after another, give what came of these items
@@ -104,11 +120,17 @@ abbrev pub sends_after_all : List ℕ → List LinksItem → List ℕ
 sends_after_all sends [] = sends
 sends_after_all sends (it ∷ items) = sends_after_all (sends_after sends it) items
 
--- over these items the scripts are used in order, each send is counted, and the bytes of each
--- request are kept in order
+-- how often each server was probed after these items
+abbrev pub probes_after_all : List ℕ → List LinksItem → List ℕ
+probes_after_all probes [] = probes
+probes_after_all probes (it ∷ items) = probes_after_all (probes_after probes it) items
+
+-- over these items the scripts are used in order, each send and each probe is counted, and the bytes
+-- of each request are kept in order
 pub record IsReplay (old : ScriptedState) (items : List LinksItem) (new : ScriptedState)
     : Type 0 where
   pub outcomes : GiveInOrder old.scripts items
   pub scripts : new.scripts ≡ drop (length items) old.scripts
   pub sends : new.sends ≡ sends_after_all old.sends items
-  pub requests : new.requests ≡ old.requests ++ map sent_text items
+  pub probes : new.probes ≡ probes_after_all old.probes items
+  pub requests : new.requests ≡ old.requests ++ flat_map texts_in items

@@ -4,18 +4,48 @@
 //!   `NoMemory`, which says whether the request was counted.
 //! - `Scripted`: links in memory that play a list of `Script`s, and keep the bytes of each request
 //!   as a `RequestText`.
+//! - `Wire`: the connections to the servers and their bytes; `TcpWire`: those over TCP; `MemoryWire`:
+//!   a wire in memory, whose servers play lists of `PeerStep`s.
+//! - `Wired`: links over a wire; `TcpLinks`: those over TCP.
 //! - `IoRuntime`: a runtime that lets a call wait and use the network.
 #![tactic(auto)]
 
+mod counting;
+mod exchange_time;
+mod exchanging;
+mod fault;
+mod incoming;
 mod io_runtime;
 mod laws;
 mod links;
+mod memory_wire;
+mod peer;
 mod scripted;
+mod tcp_address;
+mod tcp_connect;
+mod tcp_connection;
+mod tcp_server;
+mod tcp_wire;
+mod wire;
+mod wired;
+mod wired_law;
 
 pub use io_runtime::IoRuntime;
-pub use laws::scripted_replays;
+pub use laws::{scripted_replays, tcp_counts};
 pub use links::{Links, NoMemory, Outcome};
+pub use memory_wire::MemoryWire;
+pub use peer::PeerStep;
 pub use scripted::{RequestText, Script, Scripted};
+pub use tcp_wire::TcpWire;
+pub use wire::{Wire, WireFault};
+pub use wired::{TcpLinks, Wired};
+pub use wired_law::wired_records;
 
 #[cfg(test)]
+mod tcp_links_tests;
+#[cfg(test)]
+mod tcp_tests;
+#[cfg(test)]
 mod tests;
+#[cfg(test)]
+mod wired_tests;

@@ -9,14 +9,16 @@ use itoa::Buffer;
 use std::alloc::Global;
 use std::marker::Model;
 use tko_bytes::append;
-use tko_model::Clear;
+use tko_model::{Clear, Duty};
 use tko_text::{Key, ReadFault, Request, Response};
 
-/// What comes of the next request, whatever it is.
+/// What comes of the next request or probe, whatever it is.
 #[derive(Debug, Drop)]
 pub enum Script {
     Refused,
     Timeout,
+    /// The connection fails in the middle of the exchange.
+    Broken,
     /// The server answers these bytes, and then its end of the connection closes.
     Bytes(Vec<u8>),
     /// The server answers a value of the asked key with these bytes, flags 0 and, where it was
@@ -46,19 +48,20 @@ impl RequestText {
     }
 }
 
-/// Links that play one script for each request, and refuse where the list is used up. They keep the
-/// bytes of each request sent.
+/// Links that play one script for each request and for each probe, and refuse where the list is used
+/// up. They keep the bytes of each request sent.
 #[derive(Debug, Drop)]
 pub struct Scripted {
     alloc: Global,
     scripts: Vec<Script>,
     next: usize,
     sends: Vec<u64>,
+    probes: Vec<u64>,
     requests: Vec<RequestText>,
 }
 
 impl Model for Scripted {
-    ghost use Rattle.std.specs.Prelude.{◌≤◌, drop, vec_len};
+    ghost use Rattle.std.specs.Prelude.{◌≡◌, ◌≤◌, drop, vec_len};
     ghost use Rattle.tko_links.specs.Scripted.{ScriptedState};
 
     ghost Value = { ScriptedState };
@@ -66,10 +69,12 @@ impl Model for Scripted {
     ghost view = { λ links. record {
       scripts = drop links.next links.scripts.items;
       sends = links.sends.items;
+      probes = links.probes.items;
       requests = links.requests.items;
     } };
 
-    ghost invariant = { λ links. links.next ≤ vec_len links.scripts };
+    ghost invariant = { λ links.
+        (links.next ≤ vec_len links.scripts) × (vec_len links.probes ≡ vec_len links.sends) };
 }
 
 impl Script {
@@ -83,6 +88,7 @@ impl Script {
         match self {
             Script::Refused => Ok(Outcome::Refused),
             Script::Timeout => Ok(Outcome::Timeout),
+            Script::Broken => Ok(Outcome::Broken),
             Script::Bytes(bytes) => read_answer(alloc, request, bytes.as_slice()),
             Script::Hit(text) => hit(alloc, request, text.as_slice()),
         }
@@ -179,22 +185,29 @@ impl Scripted {
     ghost use Rattle.std.specs.Prelude.{drop, slice_get};
     ghost use Rattle.tko_links.specs.Scripted.{NextGives, counted};
 
-    /// Links to so many servers, none of which was sent to.
+    /// Links to so many servers, none of which was sent to or probed.
     pub fn new(
         alloc: Global,
         servers: usize,
         scripts: Vec<Script>,
     ) -> Result<Scripted, tko_bytes::NoMemory>
         ensures { IfOk result (λ links. links
-            ≡ record { scripts = scripts.items; sends = replicate servers 0; requests = [] }) }
+            ≡ record {
+              scripts = scripts.items;
+              sends = replicate servers 0;
+              probes = replicate servers 0;
+              requests = [];
+            }) }
     {
         let sends = vec![in alloc; 0; servers]?;
+        let probes = vec![in alloc; 0; servers]?;
         let requests = Vec::new(alloc);
         Ok(Scripted {
             alloc,
             scripts,
             next: 0,
             sends,
+            probes,
             requests,
         })
     }
@@ -243,6 +256,8 @@ impl Links for Scripted {
 
     ghost sent = { λ links server. slice_index links.sends server };
 
+    ghost probed = { λ links server. slice_index links.probes server };
+
     ghost exchanges = { λ old it new. IsPlayed old it new };
 
     fn exchange<R: IoRuntime>(
@@ -259,7 +274,20 @@ impl Links for Scripted {
         self.play(request)
     }
 
+    fn probe<R: IoRuntime>(&mut self, _rt: &R, duty: Duty) -> Result<Outcome, NoMemory> {
+        let server = duty.server();
+        if self.probes[server] == u64::MAX {
+            return Ok(Outcome::Spent);
+        }
+        self.probes[server] += 1;
+        self.play(&Request::Version)
+    }
+
     fn sends(&self, server: usize) -> u64 {
         self.sends[server]
+    }
+
+    fn probes(&self, server: usize) -> u64 {
+        self.probes[server]
     }
 }

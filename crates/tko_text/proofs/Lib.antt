@@ -12,6 +12,7 @@ pub mod ReadAgainLemmas
 pub mod ReadingLemmas
 pub mod ResponseBodyLemmas
 pub mod ResponseLaws
+pub mod ResponseLengthLemmas
 pub mod ResponseLemmas
 pub mod ResponseLineLemmas
 pub mod ResponseTextLemmas

@@ -172,7 +172,7 @@ module _ (kind : Kind) (bytes arguments rest : List ℕ) (split : SplitsLine byt
 pub value_split : (bytes word arguments rest : List ℕ) → word ≡ codes "VALUE" → SplitsLine bytes (record { word = word; rest = arguments }) rest → SplitsLine bytes (value_line arguments) rest
 value_split bytes word arguments rest same split = subst (λ (w : List ℕ). SplitsLine bytes (record { word = w; rest = arguments }) rest) same split
 
-same_kind : (request : Request) (kind other : Kind) → kind_of request ≡ Some kind → kind_of request ≡ Some other → other ≡ kind
+pub same_kind : (request : Request) (kind other : Kind) → kind_of request ≡ Some kind → kind_of request ≡ Some other → other ≡ kind
 same_kind request kind other a b = let e : Some other ≡ Some kind = sym b ∙ a in cc
 
 module _ (request : Request) (kind : Kind) (bytes : List ℕ) (of : kind_of request ≡ Some kind) where

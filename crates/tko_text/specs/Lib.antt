@@ -11,6 +11,7 @@ pub mod Reading
 pub mod Requests
 pub mod ResponseFaults
 pub mod ResponseKinds
+pub mod ResponseLengths
 pub mod ResponseLines
 pub mod Responses
 pub mod SentRequests

@@ -1,5 +1,6 @@
 //! What a server answers.
 ghost use Rattle.std.specs.Prelude.{◌≡◌, ◌≤◌, ◌++◌, length, IfOk, OnOk, OnErr};
+ghost use Rattle.tko_text.specs.ResponseLengths.{IsLeastLength};
 ghost use Rattle.tko_text.specs.Responses.{ReadsResponse, response_text};
 
 use crate::{NoMemory, Request};
@@ -43,6 +44,15 @@ impl Response {
         reader::read(alloc, request, bytes)
     }
 
+    /// How long the answer to the request has to be at least, if it begins with these bytes. It is
+    /// 0 until they announce a value. So bytes that come in small pieces need not be read anew
+    /// before so many have come.
+    pub fn least_len(request: &Request, bytes: &[u8]) -> usize
+        ensures { IsLeastLength request.now bytes.now result }
+    {
+        least::least_len(request, bytes)
+    }
+
     /// Puts the written form at the end of a buffer.
     pub fn append_to(&self, out: &mut Vec<u8>) -> Result<(), NoMemory>
         ensures ok { OnOk result (out.new.items ≡ out.old.items ++ response_text self.now) }
@@ -65,6 +75,7 @@ mod body;
 mod fault;
 mod kind;
 mod laws;
+mod least;
 mod line;
 mod reader;
 mod writer;

@@ -16,9 +16,9 @@ use tko_bytes::{Words, number, split_word};
 
 /// What the first line of a value announces beside its key.
 #[derive(Clone, Copy, Debug)]
-struct Head {
+pub(super) struct Head {
     flags: u32,
-    size: usize,
+    pub(super) size: usize,
     unique: Option<u64>,
 }
 
@@ -162,7 +162,7 @@ fn read_value<'a>(
 }
 
 /// What the first line of a value of this key announces after the word `VALUE`.
-fn value_head(arguments: &[u8], key: &[u8], unique: bool) -> Option<Head>
+pub(super) fn value_head(arguments: &[u8], key: &[u8], unique: bool) -> Option<Head>
     ensures { MatchOption result (NoHead (value_line arguments.now) key.now unique)
         (λ head. (is_some head.unique ≡ unique)
         × IsHead (value_line arguments.now) key.now head.flags head.size head.unique) }

@@ -1,0 +1,56 @@
+-- Connections to servers: what each call on them did, and what it says.
+use Rattle.std.specs.Prelude.{◌≡◌, ◌≢◌, ℕ, Bool, true, false, List, ◌&&◌, ◌==◌, if◌then◌else◌, length, nat_lt, take, Result, Ok, Err}
+use Rattle.tko_links.specs.declared.wire.WireFault.{WireFault}
+
+-- an item of a wire's record: one call, and what it did
+pub data WireItem : Type 0 where
+  -- a connection was made, or could not be made
+  Connected : (server : ℕ) → WireItem
+  Unconnected : (server : ℕ) → WireItem
+  -- these bytes were taken from the front of a piece; none of a piece that is not empty is a failure
+  Wrote : (server : ℕ) (bytes : List ℕ) → WireItem
+  -- these bytes came; none are the end of input
+  Got : (server : ℕ) (bytes : List ℕ) → WireItem
+  -- a read or a write failed
+  Failed : (server : ℕ) (fault : WireFault) → WireItem
+  -- the connection was given up
+  Shut : (server : ℕ) → WireItem
+  -- before an exchange: whether the connection can still be used
+  Checked : (server : ℕ) (usable : Bool) → WireItem
+
+abbrev pub is_ok : {A E : Type 0} → Result A E → Bool
+is_ok (Ok done) = true
+is_ok (Err fault) = false
+
+-- how many failures the result of a connect or a read is
+abbrev pub faults_in : {A : Type 0} → Result A WireFault → ℕ
+faults_in (Ok done) = 0
+faults_in (Err fault) = 1
+
+-- how many failures the result of a write of this piece is
+abbrev pub refusals_in : List ℕ → Result ℕ WireFault → ℕ
+refusals_in piece (Ok count) = if nat_lt 0 (length piece) && (count == 0) then 1 else 0
+refusals_in piece (Err fault) = 1
+
+-- the item of a connect
+abbrev pub connect_item : ℕ → Result Unit WireFault → WireItem
+connect_item server (Ok done) = Connected server
+connect_item server (Err fault) = Unconnected server
+
+-- the item of a write of this piece
+abbrev pub write_item : ℕ → List ℕ → Result ℕ WireFault → WireItem
+write_item server piece (Ok count) = Wrote server (take count piece)
+write_item server piece (Err fault) = Failed server fault
+
+-- the item of a read that left this in its buffer
+abbrev pub read_item : ℕ → List ℕ → Result ℕ WireFault → WireItem
+read_item server buffer (Ok count) = Got server (take count buffer)
+read_item server buffer (Err fault) = Failed server fault
+
+-- which servers are connected: the same at each
+abbrev pub AllSame : (ℕ → Bool) → (ℕ → Bool) → Type 0
+AllSame old new = (other : ℕ) → new other ≡ old other
+
+-- the same but at this server
+abbrev pub OthersSame : ℕ → (ℕ → Bool) → (ℕ → Bool) → Type 0
+OthersSame server old new = (other : ℕ) → other ≢ server → new other ≡ old other

@@ -1,0 +1,85 @@
+//! A server, and the connection to it.
+ghost use Rattle.std.specs.Prelude.{◌≡◌, ◌≤◌, false, IfOk, length};
+ghost use Rattle.tko_links.specs.TcpWires.{is_open};
+ghost use Rattle.tko_links.specs.Wires.{is_ok};
+
+use crate::io_runtime::IoRuntime;
+use crate::tcp_connection::TcpConnection;
+use crate::wire::WireFault;
+use std::time::Duration;
+
+/// A server's address, and the connection to it where there is one.
+#[derive(Drop)]
+pub(crate) struct TcpServer {
+    address: String,
+    limit: Duration,
+    connection: Option<TcpConnection>,
+}
+
+impl TcpServer {
+    pub(crate) fn new(address: String, limit: Duration) -> TcpServer
+        ensures { is_open result ≡ false }
+    {
+        TcpServer {
+            address,
+            limit,
+            connection: None,
+        }
+    }
+
+    pub(crate) fn is_open(&self) -> bool
+        ensures { result ≡ is_open self.now }
+    {
+        self.connection.is_some()
+    }
+
+    /// Connects. A connection that was there is given up.
+    pub(crate) fn connect<R: IoRuntime>(&mut self, rt: &R) -> Result<(), WireFault>
+        ensures { is_open self.new ≡ is_ok result }
+    {
+        self.shut();
+        let connection = TcpConnection::open(rt, self.address.as_str(), self.limit)?;
+        self.connection = Some(connection);
+        Ok(())
+    }
+
+    pub(crate) fn write<R: IoRuntime>(&mut self, rt: &R, bytes: &[u8]) -> Result<usize, WireFault>
+        ensures count { IfOk result (λ count. count ≤ length bytes.now) }
+        ensures kept { is_open self.new ≡ is_open self.old }
+    {
+        match &mut self.connection {
+            Some(connection) => connection.write(rt, bytes),
+            None => Err(WireFault::Other),
+        }
+    }
+
+    pub(crate) fn read<R: IoRuntime>(
+        &mut self,
+        rt: &R,
+        buffer: &mut [u8],
+    ) -> Result<usize, WireFault>
+        ensures count { IfOk result (λ count. count ≤ length buffer.new) }
+        ensures kept { is_open self.new ≡ is_open self.old }
+    {
+        match &mut self.connection {
+            Some(connection) => connection.read(rt, buffer),
+            None => Err(WireFault::Other),
+        }
+    }
+
+    /// Begins an exchange: whether the connection can be used for it.
+    pub(crate) fn begin<R: IoRuntime>(&mut self, rt: &R) -> bool
+        ensures { is_open self.new ≡ is_open self.old }
+    {
+        match &mut self.connection {
+            Some(connection) => connection.begin(rt),
+            None => false,
+        }
+    }
+
+    pub(crate) fn shut(&mut self)
+        ensures { is_open self.new ≡ false }
+    {
+        self.connection = None;
+    }
+}

@@ -1,0 +1,148 @@
+//! The connections to the servers over the system's sockets.
+//!
+//! Of a socket nothing is known but counts: which bytes it takes and gives, and when it fails, no
+//! contract says. What contracts see is which servers are connected, and how often calls failed.
+ghost use Rattle.std.specs.Prelude.{◌≡◌, ◌+◌, ◌<◌, false, IfOk, get_or, length, replicate};
+ghost use Rattle.tko_links.specs.TcpWires.{IsTcpStep};
+ghost use Rattle.tko_links.specs.Wires.{faults_in, refusals_in};
+
+use crate::counting::raise;
+use crate::io_runtime::IoRuntime;
+use crate::tcp_server::TcpServer;
+use crate::wire::{Wire, WireFault};
+use std::alloc::Global;
+use std::marker::Model;
+use std::sync::Wait;
+use std::time::Duration;
+use tko_bytes::NoMemory;
+
+/// Connections to servers over TCP.
+#[derive(Drop)]
+pub struct TcpWire {
+    servers: Vec<TcpServer>,
+    failures: u64,
+}
+
+impl Model for TcpWire {
+    ghost use Rattle.std.specs.Prelude.{map};
+    ghost use Rattle.tko_links.specs.TcpWires.{TcpState, is_open};
+
+    ghost Value = { TcpState };
+
+    ghost view = { λ wire. record {
+      connected = map is_open wire.servers.items;
+      failures = wire.failures;
+    } };
+}
+
+impl TcpWire {
+    /// Connections to the servers with these addresses, none of which is connected yet. An exchange
+    /// may take so long, of which connecting is a part.
+    pub fn new(alloc: Global, addresses: &[String], time_limit_ms: u32) -> Result<TcpWire, NoMemory>
+        ensures { IfOk result (λ wire. wire
+            ≡ record { connected = replicate (length addresses.now) false; failures = 0 }) }
+    {
+        let limit = Duration::from_millis(u64::from(time_limit_ms));
+        let mut servers = Vec::new(alloc);
+        for address in addresses {
+            let address = String::from_str(alloc, address.as_str())?;
+            servers.push(TcpServer::new(address, limit))?;
+        }
+        Ok(TcpWire {
+            servers,
+            failures: 0,
+        })
+    }
+}
+
+/// Counts the result of a connect or a read, and returns it.
+fn counted<R: Wait, T>(
+    rt: &R,
+    failures: &mut u64,
+    called: Result<T, WireFault>,
+) -> Result<T, WireFault>
+    ensures same { result ≡ called }
+    ensures failures { failures.new ≡ failures.old + faults_in called }
+{
+    match called {
+        Ok(done) => Ok(done),
+        Err(fault) => {
+            raise(rt, failures);
+            Err(fault)
+        }
+    }
+}
+
+/// Counts the result of a write of this piece, and returns it.
+fn counted_write<R: Wait>(
+    rt: &R,
+    failures: &mut u64,
+    piece: &[u8],
+    written: Result<usize, WireFault>,
+) -> Result<usize, WireFault>
+    ensures same { result ≡ written }
+    ensures failures { failures.new ≡ failures.old + refusals_in piece.now written }
+{
+    match written {
+        Ok(0) if !piece.is_empty() => {
+            raise(rt, failures);
+            Ok(0)
+        }
+        Ok(count) => Ok(count),
+        Err(fault) => {
+            raise(rt, failures);
+            Err(fault)
+        }
+    }
+}
+
+impl Wire for TcpWire {
+    ghost servers = { λ wire. length wire.connected };
+
+    ghost is_connected = { λ wire server. get_or wire.connected server false };
+
+    ghost failures = { λ wire. wire.failures };
+
+    ghost steps = { λ old it new. IsTcpStep old it new };
+
+    fn connect<R: IoRuntime>(&mut self, rt: &R, server: usize) -> Result<(), WireFault> {
+        let connected = self.servers[server].connect(rt);
+        counted(rt, &mut self.failures, connected)
+    }
+
+    fn write<R: IoRuntime>(
+        &mut self,
+        rt: &R,
+        server: usize,
+        bytes: &[u8],
+    ) -> Result<usize, WireFault> {
+        let written = self.servers[server].write(rt, bytes);
+        counted_write(rt, &mut self.failures, bytes, written)
+    }
+
+    fn read<R: IoRuntime>(
+        &mut self,
+        rt: &R,
+        server: usize,
+        buffer: &mut [u8],
+    ) -> Result<usize, WireFault> {
+        let read = self.servers[server].read(rt, buffer);
+        counted(rt, &mut self.failures, read)
+    }
+
+    fn shut(&mut self, server: usize) {
+        self.servers[server].shut();
+    }
+
+    fn is_usable<R: IoRuntime>(&mut self, rt: &R, server: usize) -> bool {
+        self.servers[server].begin(rt)
+    }
+
+    fn is_connected(&self, server: usize) -> bool {
+        self.servers[server].is_open()
+    }
+
+    fn servers(&self) -> usize {
+        self.servers.len()
+    }
+}
