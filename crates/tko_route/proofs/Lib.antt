@@ -1,2 +1,5 @@
 mod HealthLemmas
-mod TrailLemmas
+pub mod MadeLemmas
+pub mod RoutingLemmas
+mod SeatingLemmas
+pub mod TrailLemmas

@@ -1,12 +1,13 @@
 -- The items of a health record, and what they mean where one thread has a tracker to itself.
-use Rattle.std.specs.Prelude.{◌≡◌, ℕ, List, [], ◌∷◌}
+use Rattle.std.specs.Prelude.{◌≡◌, ℕ, List, [], ◌∷◌, None}
 use Rattle.tko_model.specs.declared.look.Look.{Look}
 use Rattle.tko_model.specs.declared.look.Look.TheVariants as look
 use Rattle.tko_model.specs.declared.mark.Op.TheVariants.{LookUp}
 use Rattle.tko_model.specs.declared.mark.Reply.{Reply}
 use Rattle.tko_model.specs.declared.mark.Reply.TheVariants as reply
-use Rattle.tko_model.specs.Records.{HealthItem, Called}
-use Rattle.tko_model.specs.Tracker.{Tracker, reply_of, after}
+use Rattle.tko_model.specs.Looks.{duty_of}
+use Rattle.tko_model.specs.Records.{HealthItem, Called, NoDuty}
+use Rattle.tko_model.specs.Tracker.{Tracker, reply_of, after, server_at}
 
 -- the reply that a look is
 abbrev pub reply_of_look : Look → Reply
@@ -27,13 +28,17 @@ pub record OneThread : Type 0 where
   pub tracker : Tracker
   pub thread : ℕ
 
--- an item has the reply that the tracker gives to this thread
+-- an item has the reply that the tracker gives to this thread; the right to probe a server is denied
+-- where its mark is not the thread's own
 abbrev pub HasReply : Tracker → ℕ → HealthItem → Type 0
 HasReply tracker thread (Called op server answer) = answer ≡ reply_of tracker thread op server
+HasReply tracker thread (NoDuty server) =
+    duty_of server (server_at tracker.servers server).mark thread ≡ None
 
 -- the tracker after an item of this thread
 abbrev pub after_item : Tracker → ℕ → HealthItem → Tracker
 after_item tracker thread (Called op server answer) = after tracker thread op server
+after_item tracker thread (NoDuty server) = tracker
 
 -- the tracker's own reply, and the tracker after it
 pub record IsTrackerStep (old : OneThread) (it : HealthItem) (new : OneThread) : Type 0 where

@@ -1,13 +1,14 @@
 //! The health of servers, as a router asks for it.
-ghost use Rattle.std.specs.Prelude.{◌≡◌, ◌<◌};
-ghost use Rattle.tko_model.specs.Records.{Called};
+ghost use Rattle.std.specs.Prelude.{◌≡◌, ◌<◌, IfSome, IfNone};
+ghost use Rattle.tko_model.specs.Records.{Called, NoDuty};
 ghost use Rattle.tko_route.specs.Health.{Names, look_item};
 
 use tko_links::IoRuntime;
-use tko_model::{Look, Reply};
+use tko_model::{Duty, Look, Reply};
 
 /// What is known of the servers' health, and what a router reports of them. Each call is one item
-/// of a record that contracts see: the operation, the server and the reply.
+/// of a record that contracts see: the operation, the server and the reply. So is each call of `duty`
+/// that denies the right; one that grants it changes nothing.
 pub trait Health {
     ghost use Rattle.std.specs.Prelude.{ℕ};
     ghost use Rattle.tko_model.specs.Records.{HealthItem};
@@ -48,6 +49,13 @@ pub trait Health {
     fn release<R: IoRuntime>(&mut self, rt: &R, server: usize) -> Reply
         requires { server < servers self.old }
         ensures step { steps self.old (Called Release server result) self.new }
+        ensures servers { servers self.new ≡ servers self.old };
+
+    /// The caller's right to probe a server, where the server's mark is its own.
+    fn duty<R: IoRuntime>(&mut self, rt: &R, server: usize) -> Option<Duty>
+        requires { server < servers self.old }
+        ensures some { IfSome result (λ duty. (duty ≡ server) × (self.new ≡ self.old)) }
+        ensures none { IfNone result (steps self.old (NoDuty server) self.new) }
         ensures servers { servers self.new ≡ servers self.old };
 
     fn servers(&self) -> usize

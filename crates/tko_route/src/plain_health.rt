@@ -1,12 +1,14 @@
 //! Health that one thread keeps.
-ghost use Rattle.std.specs.Prelude.{◌≡◌, ◌<◌, length};
-ghost use Rattle.tko_model.specs.Records.{Called};
+ghost use Rattle.std.specs.Prelude.{◌≡◌, ◌<◌, IfNone, IfSome, length};
+ghost use Rattle.tko_model.specs.Looks.{duty_of};
+ghost use Rattle.tko_model.specs.Records.{Called, NoDuty};
+ghost use Rattle.tko_model.specs.Tracker.{server_at};
 ghost use Rattle.tko_route.specs.Health.{IsTrackerStep};
 
 use crate::health::Health;
 use std::marker::Model;
 use tko_links::IoRuntime;
-use tko_model::{Look, Op, Plain, Reply};
+use tko_model::{Duty, Look, Op, Plain, Reply};
 
 /// The sequential tracker, used by one thread. Contracts see the tracker and the thread's number.
 #[derive(Debug, Drop)]
@@ -73,6 +75,18 @@ impl Health for PlainHealth {
 
     fn release<R: IoRuntime>(&mut self, _rt: &R, server: usize) -> Reply {
         self.apply(Op::Release, server)
+    }
+
+    /// Grants the right exactly where the mark is this thread's own.
+    fn duty<R: IoRuntime>(&mut self, _rt: &R, server: usize) -> Option<Duty>
+        requires { server < length self.old.tracker.servers }
+        ensures exact { result
+            ≡ duty_of server (server_at self.old.tracker.servers server).mark self.old.thread }
+        ensures some { IfSome result (λ duty. (duty ≡ server) × (self.new ≡ self.old)) }
+        ensures none { IfNone result (IsTrackerStep self.old (NoDuty server) self.new) }
+        ensures servers { length self.new.tracker.servers ≡ length self.old.tracker.servers }
+    {
+        Duty::of(server, self.plain.mark(server), self.thread)
     }
 
     fn servers(&self) -> usize {

@@ -2,6 +2,7 @@
 ghost use Rattle.std.specs.Prelude.{◌≡◌, IfOk, length};
 
 mod limits;
+mod shared;
 
 use crate::{Attempt, Health, PlainHealth, RouteFault, Routed, Trail, route};
 use std::alloc::Global;
@@ -9,6 +10,7 @@ use std::net::{Net, TcpStream};
 use std::process::Abort;
 use std::sync::Wait;
 use std::test::Fail;
+use std::time::Clock;
 use tko_links::{Links, Script, Scripted};
 use tko_model::{Look, Mark, Plain, Reply, Settings};
 use tko_text::{Data, Entry, Key, Keys, Request, Response, Verb};
@@ -39,7 +41,7 @@ fn bytes(alloc: Global, text: &[u8]) -> Result<Script, Fail> {
 }
 
 /// Asks both servers in order.
-fn ask<R: Wait + Net<Stream = TcpStream>>(
+fn ask<R: Wait + Net<Stream = TcpStream> + Clock>(
     rt: &R,
     alloc: Global,
     health: &mut PlainHealth,
@@ -171,7 +173,7 @@ fn the_second_server_gets_the_replaced_expiry(rt: HostRuntime) -> Result<(), Fai
 }
 
 /// The tracker's own calls, each by its operation.
-fn calls<R: Wait + Net<Stream = TcpStream>>(rt: &R, health: &mut PlainHealth) -> [Reply; 4]
+fn calls<R: Wait + Net<Stream = TcpStream> + Clock>(rt: &R, health: &mut PlainHealth) -> [Reply; 4]
     requires { length health.old.tracker.servers ≡ 2 }
     ensures { length health.new.tracker.servers ≡ 2 }
 {

@@ -6,6 +6,7 @@ use std::alloc::Global;
 use std::net::{Net, TcpStream};
 use std::sync::Wait;
 use std::test::Fail;
+use std::time::Clock;
 use tko_links::{Script, Scripted};
 use tko_model::{Plain, Settings};
 use tko_text::{Key, Keys, Request, Response};
@@ -65,7 +66,7 @@ fn links_of(alloc: Global, servers: u32, scripts: Vec<Script>) -> Result<Scripte
 }
 
 /// Asks these servers in order.
-fn ask_all<R: Wait + Net<Stream = TcpStream>>(
+fn ask_all<R: Wait + Net<Stream = TcpStream> + Clock>(
     rt: &R,
     alloc: Global,
     health: &mut PlainHealth,

@@ -1,0 +1,11 @@
+use Rattle.std.proofs.Common.{◌≡◌, ◌++◌, ◌∷◌, [], rules, vec_capacity}
+use Rattle.tko_route.proofs.RoutingLemmas.{underway_again}
+use Rattle.tko_route.specs.Trail.{server_of}
+use Rattle.tko_route.proofs.routing.Waiting.record.Goals as goal
+
+pub returns-clause-underway : goal.returns-clause-underway
+returns-clause-underway g c = λ targets awaited.
+    let at : server_of c.conclude.result ≡ c.args.self.server = search rules in
+    let parts : c.push_reserved.new.self.items ≡ c.args.self.attempts ++ c.conclude.result ∷ [] = search rules in
+    let room : vec_capacity c.push_reserved.new.self ≡ c.args.self.room = search rules in
+    underway_again c.conclude.result awaited at parts room

@@ -1,0 +1,103 @@
+//! The two halves of an attempt: look-ups until a server is up, and the record of an outcome.
+ghost use Rattle.std.specs.Prelude.{◌≡◌, ◌↔◌, ◌-◌, ◌<◌, ◌≤◌, All, IfNone, IfSome, IsSome, IsTrue, length, map, take, vec_capacity};
+ghost use Rattle.tko_route.specs.Routing.{CanSend, Concluded, IsDone};
+ghost use Rattle.tko_route.specs.Trail.{IsRecorded, NoneAnswered, answer_of, form_at, op_of, server_of};
+ghost use Rattle.tko_text.specs.declared.request.Request.{Request};
+
+use crate::attempt::Attempt;
+use crate::health::Health;
+use tko_links::{IoRuntime, Outcome};
+use tko_model::{Clear, Look, Reply};
+use tko_text::Request;
+
+/// Whether the last of these attempts was answered.
+pub(crate) fn is_answered(attempts: &[Attempt]) -> bool
+    ensures { IsTrue result ↔ IsSome (answer_of attempts.now) }
+{
+    matches!(attempts.last(), Some(last) if last.is_answer())
+}
+
+/// Brings a request from the form of the place before into the form of this place.
+fn prepare(request: &mut Request, place: usize, exptime: u32)
+    ensures { (original : Request) → request.old ≡ form_at exptime original (place - 1)
+        → request.new ≡ form_at exptime original place }
+{
+    if place == 1 {
+        request.replace_expiry(exptime);
+    }
+}
+
+/// Looks up the targets after those tried, in order, until one is up. Marked ones are skipped.
+pub(crate) fn look_on<R: IoRuntime, H: Health>(
+    rt: &R,
+    health: &mut H,
+    targets: &[usize],
+    request: &mut Request,
+    exptime: u32,
+    attempts: &mut Vec<Attempt>,
+) -> Option<Clear>
+    requires health { All (λ target. target < H.servers health.old) targets.now }
+    requires room { length targets.now ≤ vec_capacity attempts.old }
+    requires tried { map server_of attempts.old.items
+        ≡ take (length attempts.old.items) targets.now }
+    requires unanswered { NoneAnswered attempts.old.items }
+    ensures some { IfSome result (λ clear. CanSend H.steps targets.now
+        health.old attempts.old.items attempts.new.items clear health.new) }
+    ensures none { IfNone result (IsDone H.steps targets.now
+        health.old attempts.old.items attempts.new.items health.new) }
+    ensures some_request { IfSome result (λ clear. (original : Request)
+        → request.old ≡ form_at exptime original (length attempts.old.items - 1)
+        → request.new ≡ form_at exptime original (length attempts.new.items)) }
+    ensures none_request { IfNone result ((original : Request)
+        → request.old ≡ form_at exptime original (length attempts.old.items - 1)
+        → request.new ≡ form_at exptime original (length attempts.new.items - 1)) }
+    ensures room { vec_capacity attempts.new ≡ vec_capacity attempts.old }
+    ensures servers { H.servers health.new ≡ H.servers health.old }
+{
+    while attempts.len() < targets.len() {
+        let server = targets[attempts.len()];
+        prepare(request, attempts.len(), exptime);
+        match health.look_up(rt, server) {
+            Look::Up(_, clear) => return Some(clear),
+            Look::Marked(mark) => attempts.push_reserved(Attempt::Skipped(server, mark)),
+        }
+    }
+    None
+}
+
+/// Records the outcome of a send at the tracker. This is the table of outcomes.
+fn record_outcome<R: IoRuntime, H: Health>(
+    rt: &R,
+    health: &mut H,
+    server: usize,
+    outcome: &Outcome,
+) -> Option<Reply>
+    requires { server < H.servers health.old }
+    ensures recorded { IsRecorded H.steps health.old server (op_of outcome.now) result health.new }
+    ensures servers { H.servers health.new ≡ H.servers health.old }
+{
+    match outcome {
+        Outcome::Reply(_) => Some(health.success(rt, server)),
+        Outcome::Refused => Some(health.hard_failure(rt, server)),
+        Outcome::Timeout | Outcome::Broken => Some(health.soft_failure(rt, server)),
+        Outcome::Spent => None,
+    }
+}
+
+/// Records what came of a send, which makes this attempt.
+pub(crate) fn conclude<R: IoRuntime, H: Health>(
+    rt: &R,
+    health: &mut H,
+    server: usize,
+    outcome: Outcome,
+) -> Attempt
+    requires { server < H.servers health.old }
+    ensures ends { Concluded H.steps health.old server outcome result health.new }
+    ensures server { server_of result ≡ server }
+    ensures servers { H.servers health.new ≡ H.servers health.old }
+{
+    match record_outcome(rt, health, server, &outcome) {
+        Some(reply) => Attempt::Sent(server, outcome, reply),
+        None => Attempt::Spent(server),
+    }
+}

@@ -1,0 +1,40 @@
+//! What came of a routed request.
+ghost use Rattle.std.specs.Option.{option_copied};
+ghost use Rattle.std.specs.Prelude.{◌≡◌};
+ghost use Rattle.tko_route.specs.Trail.{answer_of};
+
+use crate::attempt::{Attempt, Trail};
+use tko_links::Outcome;
+use tko_text::Response;
+
+/// A routed request.
+#[derive(Debug, Drop)]
+pub struct Routed {
+    pub trail: Trail,
+}
+
+impl Routed {
+    pub(crate) fn of(attempts: Vec<Attempt>) -> Routed
+        ensures { result.trail ≡ attempts.items }
+    {
+        let trail = Trail::of(attempts);
+        Routed { trail }
+    }
+
+    /// The response of the last attempt, if it got one.
+    pub fn response(&self) -> Option<&Response>
+        ensures { option_copied result ≡ answer_of self.now.trail }
+    {
+        match self.trail.attempts().last() {
+            Some(Attempt::Sent(_, Outcome::Reply(response), _)) => Some(response),
+            _ => None,
+        }
+    }
+}
+
+/// Memory ran out: the attempts until then, and whether one more request was sent.
+#[derive(Debug, Drop)]
+pub struct RouteFault {
+    pub trail: Trail,
+    pub sent: bool,
+}
