@@ -22,14 +22,14 @@ number_of Reply n = n.reply
 number_of NoServer n = n.no_server
 number_of Probe n = n.probe
 
--- one more of the kind, and as many as before of every other
-abbrev pub raised : Kind → Numbers → Numbers
-raised Request n = record n { request = n.request + 1 }
-raised Attempt n = record n { attempt = n.attempt + 1 }
-raised Skip n = record n { skip = n.skip + 1 }
-raised Reply n = record n { reply = n.reply + 1 }
-raised NoServer n = record n { no_server = n.no_server + 1 }
-raised Probe n = record n { probe = n.probe + 1 }
+-- so many more of the kind, and as many as before of every other
+abbrev pub raised : Kind → ℕ → Numbers → Numbers
+raised Request by n = record n { request = n.request + by }
+raised Attempt by n = record n { attempt = n.attempt + by }
+raised Skip by n = record n { skip = n.skip + by }
+raised Reply by n = record n { reply = n.reply + by }
+raised NoServer by n = record n { no_server = n.no_server + by }
+raised Probe by n = record n { probe = n.probe + by }
 
 -- the share of a place in a ledger of this name, before anything was counted
 abbrev pub fresh_share : ℕ → ℕ → Share
@@ -50,11 +50,16 @@ abbrev pub IsFull : Kind → Book → Share → Type 0
 IsFull kind book share =
     (number_of kind book.totals ≡ most) ⊎ (number_of kind share.numbers ≡ most)
 
--- one more of the kind in the book and in the share, and nothing else
-pub record IsAdded (kind : Kind) (book : Book) (share : Share) (book' : Book) (share' : Share)
-    : Type 0 where
-  pub in_book : book' ≡ record book { totals = raised kind book.totals }
-  pub in_share : share' ≡ record share { numbers = raised kind share.numbers }
+-- the book or the share would come to more of the kind than is counted, with so many more
+abbrev pub IsTooMany : Kind → ℕ → Book → Share → Type 0
+IsTooMany kind by book share =
+    (most < number_of kind book.totals + by) ⊎ (most < number_of kind share.numbers + by)
+
+-- so many more of the kind in the book and in the share, and nothing else
+pub record IsAdded (kind : Kind) (by : ℕ) (book : Book) (share : Share) (book' : Book)
+    (share' : Share) : Type 0 where
+  pub in_book : book' ≡ record book { totals = raised kind by book.totals }
+  pub in_share : share' ≡ record share { numbers = raised kind by share.numbers }
 
 -- whether a share has this place
 abbrev pub is_at : ℕ → Share → Bool

@@ -1,6 +1,6 @@
 //! A ledger's book, and the shares of it.
 ghost use Rattle.std.specs.Prelude.{◌≡◌, ◌↔◌, IfErr, IfOk, IsErrOf, OnErr, OnOk};
-ghost use Rattle.tko_desk.specs.Ledger.{IsAdded, IsFull, IsOpened, fresh_shares};
+ghost use Rattle.tko_desk.specs.Ledger.{IsAdded, IsFull, IsOpened, IsTooMany, fresh_shares};
 
 use crate::{Kind, NoMemory, Numbers};
 use std::alloc::Global;
@@ -21,7 +21,7 @@ pub struct Share {
     pub(crate) numbers: Numbers,
 }
 
-/// The book or the share has counted 2^64 - 1 of this kind, and counts no more of it.
+/// The book or the share would come to more than 2^64 - 1 of this kind, and counts no more of it.
 #[derive(Clone, Copy, Debug, PartialEq, Eq)]
 pub struct LedgerFull {
     pub kind: Kind,
@@ -44,7 +44,7 @@ impl Book {
 
     /// Counts one more of a kind, in the book and in the share.
     pub fn add(&mut self, share: &mut Share, kind: Kind) -> Result<(), LedgerFull>
-        ensures ok { OnOk result (IsAdded kind self.old share.old self.new share.new) }
+        ensures ok { OnOk result (IsAdded kind 1 self.old share.old self.new share.new) }
         ensures full { IsErrOf result (record { kind = kind }) ↔ IsFull kind self.old share.old }
         ensures err { OnErr result ((self.new ≡ self.old) × (share.new ≡ share.old)) }
         ensures kind { IfErr result (λ full. full.kind ≡ kind) }
@@ -52,8 +52,24 @@ impl Book {
         if self.totals.of(kind) == u64::MAX || share.numbers.of(kind) == u64::MAX {
             return Err(LedgerFull { kind });
         }
-        self.totals.raise(kind);
-        share.numbers.raise(kind);
+        self.totals.raise(kind, 1);
+        share.numbers.raise(kind, 1);
+        Ok(())
+    }
+
+    /// Counts so many more of a kind, in the book and in the share: all of them, or none.
+    pub fn add_many(&mut self, share: &mut Share, kind: Kind, by: u64) -> Result<(), LedgerFull>
+        ensures ok { OnOk result (IsAdded kind by self.old share.old self.new share.new) }
+        ensures full { IsErrOf result (record { kind = kind })
+            ↔ IsTooMany kind by self.old share.old }
+        ensures err { OnErr result ((self.new ≡ self.old) × (share.new ≡ share.old)) }
+        ensures kind { IfErr result (λ full. full.kind ≡ kind) }
+    {
+        if self.totals.has_no_room(kind, by) || share.numbers.has_no_room(kind, by) {
+            return Err(LedgerFull { kind });
+        }
+        self.totals.raise(kind, by);
+        share.numbers.raise(kind, by);
         Ok(())
     }
 

@@ -1,5 +1,5 @@
 //! What a ledger counts.
-ghost use Rattle.std.specs.Prelude.{◌≡◌, ◌<◌};
+ghost use Rattle.std.specs.Prelude.{◌≡◌, ◌+◌, ◌≤◌, ◌<◌, ◌↔◌, IsTrue};
 ghost use Rattle.tko_desk.specs.Ledger.{most, none, number_of, raised};
 
 /// What is counted.
@@ -83,18 +83,25 @@ impl Numbers {
         }
     }
 
-    /// Counts one more.
-    pub(crate) fn raise(&mut self, kind: Kind)
-        requires { number_of kind self.old < most }
-        ensures { self.new ≡ raised kind self.old }
+    /// Whether so many more of a kind are more than is counted.
+    pub(crate) fn has_no_room(&self, kind: Kind, by: u64) -> bool
+        ensures { IsTrue result ↔ (most < number_of kind self.now + by) }
+    {
+        self.of(kind).checked_add(by).is_none()
+    }
+
+    /// Counts so many more.
+    pub(crate) fn raise(&mut self, kind: Kind, by: u64)
+        requires { number_of kind self.old + by ≤ most }
+        ensures { self.new ≡ raised kind by self.old }
     {
         match kind {
-            Kind::Request => self.request += 1,
-            Kind::Attempt => self.attempt += 1,
-            Kind::Skip => self.skip += 1,
-            Kind::Reply => self.reply += 1,
-            Kind::NoServer => self.no_server += 1,
-            Kind::Probe => self.probe += 1,
+            Kind::Request => self.request += by,
+            Kind::Attempt => self.attempt += by,
+            Kind::Skip => self.skip += by,
+            Kind::Reply => self.reply += by,
+            Kind::NoServer => self.no_server += by,
+            Kind::Probe => self.probe += by,
         }
     }
 }

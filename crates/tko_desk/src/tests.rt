@@ -1,6 +1,6 @@
 //! A ledger that is opened, added to and gathered.
 
-use crate::{Book, Kind, gather};
+use crate::{Book, Kind, LedgerFull, gather};
 use std::test::Fail;
 
 #[test]
@@ -13,6 +13,22 @@ fn shares_add_up(rt: HostRuntime) -> Result<(), Fail> {
     assert_eq!(rt; totals.numbers.of(Kind::Request), 2);
     assert_eq!(rt; totals.numbers.of(Kind::NoServer), 1);
     assert_eq!(rt; totals.numbers.of(Kind::Probe), 0);
+    Ok(())
+}
+
+#[test]
+fn a_sum_above_the_greatest_is_refused(rt: HostRuntime) -> Result<(), Fail> {
+    let (mut book, mut shares) = Book::open(rt.alloc(), 7, 2)?;
+    let kind = Kind::Skip;
+    assert_eq!(rt; book.add_many(&mut shares[0], kind, u64::MAX - 1), Ok(()));
+    assert_eq!(rt;
+        book.add_many(&mut shares[1], kind, 2),
+        Err(LedgerFull { kind })
+    );
+    assert_eq!(rt; book.add_many(&mut shares[1], kind, 1), Ok(()));
+    assert_eq!(rt; book.add(&mut shares[1], kind), Err(LedgerFull { kind }));
+    assert_eq!(rt; book.totals().of(kind), u64::MAX);
+    assert_eq!(rt; shares[1].numbers().of(kind), 1);
     Ok(())
 }
 

@@ -6,6 +6,7 @@ ghost use Rattle.tko_pools.specs.Flaws.{Reports};
 ghost use Rattle.tko_pools.specs.Json.{pool_list};
 ghost use Rattle.tko_pools.specs.Reasons.{children_reason, pools_reason, reason_of};
 
+mod copying;
 mod in_order;
 
 use crate::flaws::{Flaw, pools_flaw, unknown_child};

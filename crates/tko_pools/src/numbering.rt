@@ -41,6 +41,14 @@ impl Addresses {
         Addresses { texts }
     }
 
+    pub(crate) fn copy(&self, alloc: Global) -> Result<Addresses, AllocError>
+        ensures { IfOk result (λ copy. copy ≡ self.now) }
+    {
+        Ok(Addresses {
+            texts: copy_texts(alloc, &self.texts)?,
+        })
+    }
+
     pub(crate) fn texts(&self) -> &[String]
         ensures { map string_bytes result.now ≡ self.now }
     {
@@ -100,6 +108,16 @@ impl Addresses {
         }
         Ok(numbers)
     }
+}
+
+fn copy_texts(alloc: Global, texts: &[String]) -> Result<Vec<String>, AllocError>
+    ensures { IfOk result (λ copies. map string_bytes copies.items ≡ map string_bytes texts.now) }
+{
+    let mut copies = Vec::new(alloc);
+    for text in texts {
+        copies.push(String::from_str(alloc, text.as_str())?)?;
+    }
+    Ok(copies)
 }
 
 /// The place of a text.

@@ -1,0 +1,29 @@
+//! Copies of a configuration, for parts of a program that each own one.
+ghost use Rattle.std.specs.Prelude.{◌≡◌, IfOk, map};
+
+use super::Config;
+use std::alloc::{AllocError, Global};
+use tko_bytes::NoMemory;
+
+impl Config {
+    pub fn copy(&self, alloc: Global) -> Result<Config, NoMemory>
+        ensures { IfOk result (λ config. config ≡ self.now) }
+    {
+        Ok(Config {
+            addresses: self.addresses.copy(alloc)?,
+            children: copy_children(alloc, &self.children)?,
+            failover_exptime: self.failover_exptime,
+        })
+    }
+}
+
+fn copy_children(alloc: Global, children: &[Vec<usize>]) -> Result<Vec<Vec<usize>>, AllocError>
+    ensures { IfOk result (λ copies. map (λ child. child.items) copies.items
+        ≡ map (λ child. child.items) children.now) }
+{
+    let mut copies = Vec::new(alloc);
+    for child in children {
+        copies.push(child.to_vec(alloc)?)?;
+    }
+    Ok(copies)
+}
