@@ -1,8 +1,12 @@
 mod AnsweringLemmas
+mod EventLemmas
 mod ListLemmas
 mod NeverLemmas
 mod OutboxLemmas
+mod PartsLemmas
+mod ProberLemmas
 mod ResultLemmas
+mod RoundLemmas
 mod ServedLemmas
 mod StatusLemmas
 mod TextFacts

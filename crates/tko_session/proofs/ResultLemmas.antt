@@ -1,6 +1,6 @@
 -- What holds of a result, by its two cases.
-use Rattle.std.proofs.Common.{Result, Ok, Err}
-use Rattle.std.specs.Prelude.{IfOk, OnOk, OnErr}
+use Rattle.std.proofs.Common.{◌≡◌, Result, Ok, Err}
+use Rattle.std.specs.Prelude.{IfOk, IsErrOf, OnOk, OnErr}
 
 -- a fact is one at an Err
 pub on_err : {T E P : Type 0} (r : Result T E) → P → OnErr r P
@@ -22,3 +22,13 @@ either_way (Err e) p q f = q
 pub on_ok : {T E A B : Type 0} (r : Result T E) → OnOk r A → (A → B) → OnOk r B
 on_ok (Ok x) a f = f a
 on_ok (Err e) a f = tt
+
+-- what follows from a fact at an Err
+pub on_errs : {T E A B : Type 0} (r : Result T E) → OnErr r A → (A → B) → OnErr r B
+on_errs (Ok x) a f = tt
+on_errs (Err e) a f = f a
+
+-- an error is the one that a result is
+pub same_error : {T E : Type 0} (r : Result T E) (x y : E) → r ≡ Err x → IsErrOf r y → x ≡ y
+same_error (Ok value) x y is other = cc
+same_error (Err e) x y is other = cc

@@ -1,6 +1,9 @@
 -- Laws of a whole session: nothing yet, one delivery more, one piece more, the end.
-use Rattle.std.proofs.Common.{◌≡◌, ◌≢◌, ℕ, ◌+◌, ◌<◌, ◌^◌, List, [], ◌++◌, length, refl, sym, ap, subst, ◌∙◌, append_assoc, append-nil, length-append, arith, add-zero}
+use Rattle.std.proofs.Common.{◌≡◌, ◌≢◌, ℕ, ◌+◌, ◌<◌, ◌^◌, List, [], ◌∷◌, ◌++◌, length, refl, sym, ap, subst, ◌∙◌, append_assoc, append-nil, length-append, arith, add-zero, Some, false}
+use Rattle.tko_model.specs.Records.{HealthItem}
 use Rattle.tko_model.proofs.RecordLemmas.{gains_append, gains_none}
+use Rattle.tko_links.specs.Links.{LinksItem}
+use Rattle.tko_session.specs.declared.parts.Parts.{Parts}
 use Rattle.tko_text.specs.Reading.{Gives, Never, start}
 use Rattle.tko_text.proofs.CuttingLemmas.{fed-fed}
 use Rattle.tko_text.proofs.GivesLemmas.{Gives-append, Gives-fed, Gives-none}
@@ -9,12 +12,14 @@ use Rattle.tko_session.specs.declared.session.Progress.{Progress}
 use Rattle.tko_session.specs.declared.session.Progress.TheVariants.{More, NeedsInput, LineTooLong, Quit}
 use Rattle.tko_session.specs.declared.session.Report.{Report}
 use Rattle.tko_session.specs.Io.{Writes, capped}
-use Rattle.tko_session.specs.Turns.{Turn}
-use Rattle.tko_session.specs.SessionState.{SessionState, Answered, AnsweredPart, fed_state, fresh, items_of, text_of}
+use Rattle.tko_session.specs.Events.{Event, IdleRound, IsEvent, Rounded, turns_of}
+use Rattle.tko_session.specs.TrailEvents.{TrailEvent}
+use Rattle.tko_session.specs.SessionState.{SessionState, Answered, AnsweredPart, ProgressIs, fed_state, fresh, items_of, probed_by, sent_by, text_of}
 use Rattle.tko_session.specs.Served.{CameTooLong, Delivered, DeliveredPart, Served, ServedSoFar, StoppedByLine, StoppedByRead, StoppedByWrite, StoppedEarly, Transcript, at_end_of_input, at_quit}
+use Rattle.tko_session.proofs.EventLemmas.{idles-append, order-append}
 use Rattle.tko_session.proofs.NeverLemmas.{reading_goes_on}
 use Rattle.tko_session.proofs.TextFacts.{open_start}
-use Rattle.tko_session.proofs.TurnLemmas.{capped-more, goes_on-none, in_session, in_session_of, items-append, text-append, turned_append, turned_none, turns_in_session, turns_progress}
+use Rattle.tko_session.proofs.TurnLemmas.{capped-more, goes_on-none, in_session, in_session_of, items-append, text-append, turned_append, turned_idle, turned_none, events_in_session, events_progress}
 
 module _ {O : Type 0} {takes : O → List ℕ → O → Type 0} where
   -- two writes are one
@@ -45,30 +50,18 @@ module _ {O : Type 0} {takes : O → List ℕ → O → Type 0} where
   pub writes_none : (x : O) (a : ℕ) → takes x [] x → Writes takes x [] x a a
   writes_none x a nothing = record { output = nothing; counted = ap capped (sym (add-zero a)) }
 
-module _ {W : Type 0} {step : W → Turn → W → Type 0} {sent : W → ℕ → ℕ} where
-  -- all turns are a part of them
-  pub part_of : {progress : Progress} {old new : SessionState} {before after : W}
-      → Answered step sent progress old before new after → AnsweredPart step old before new
-  part_of {progress} {old} {new} {before} {after} answered = record {
-    turns = answered.turns;
-    left = new.reading;
-    reached = after;
-    gives = answered.turned.gives;
-    gains = answered.turned.gains;
-    in_session = in_session progress (items_of answered.turns) new.reading answered.progress_is;
-    outbox = answered.outbox;
-  }
-
-module _ {O W : Type 0} {takes : O → List ℕ → O → Type 0} {step : W → Turn → W → Type 0} where
-  -- no turn was made
+module _ {O W : Type 0} {takes : O → List ℕ → O → Type 0} {step : W → Event → W → Type 0} where
+  -- nothing was answered
   pub not_delivered : (at : SessionState) (writer : O) (written : ℕ) (world : W) → takes writer [] writer
       → DeliveredPart takes step at writer written world writer written
   not_delivered at writer written world nothing = record {
-    turns = [];
+    events = [];
     left = at.reading;
     reached = world;
+    owed = at.owes;
     gives = Gives-none at.reading;
     gains = gains_none world;
+    order = refl;
     in_session = in_session_of [] goes_on-none;
     front = [];
     unwritten = [];
@@ -76,137 +69,161 @@ module _ {O W : Type 0} {takes : O → List ℕ → O → Type 0} {step : W → 
     output = writes_none writer written nothing;
   }
 
-  -- turns were answered, and the front of their replies was written
+  -- items were answered, and the front of their replies was written
   pub part_delivered : {old mid : SessionState} {writer writer' : O} {written written' : ℕ} {before : W} (front unwritten : List ℕ)
       → AnsweredPart step old before mid → old.outbox ≡ [] → mid.outbox ≡ front ++ unwritten
       → Writes takes writer front writer' written written'
       → DeliveredPart takes step old writer written before writer' written'
   part_delivered front unwritten part empty split wrote = record {
-    turns = part.turns;
+    events = part.events;
     left = part.left;
     reached = part.reached;
+    owed = part.owed;
     gives = part.gives;
     gains = part.gains;
+    order = part.order;
     in_session = part.in_session;
     front = front;
     unwritten = unwritten;
-    text = sym (part.outbox ∙ ap (λ xs. xs ++ text_of part.turns) empty) ∙ split;
+    text = sym (part.outbox ∙ ap (λ xs. xs ++ text_of (turns_of part.events)) empty) ∙ split;
     output = wrote;
   }
 
-module _ {O W : Type 0} {takes : O → List ℕ → O → Type 0} {step : W → Turn → W → Type 0} {sent : W → ℕ → ℕ} where
-  pub delivered_none : (at : SessionState) (writer : O) (written : ℕ) (world : W) → takes writer [] writer → at.outbox ≡ []
-      → Delivered takes step sent More at writer written world at writer written world
-  delivered_none at writer written world nothing empty = record {
-    turns = [];
+module _ {O W : Type 0} {takes : O → List ℕ → O → Type 0} {step : W → Event → W → Type 0} {sent probed : W → ℕ → ℕ} where
+  pub delivered_none : (at : SessionState) (writer : O) (written : ℕ) (world : W) → takes writer [] writer → at.outbox ≡ [] → at.owes ≡ false
+      → Delivered takes step sent probed 0 More at writer written world at writer written world
+  delivered_none at writer written world nothing empty none = record {
+    events = [];
     turned = turned_none at world;
+    idle = refl;
     output = writes_none writer written nothing;
     outbox = empty;
+    owes = none;
     progress_is = goes_on-none;
   }
 
-  -- turns were answered, their replies were written, and the outbox was cleared
+  -- items were answered, their replies were written, the owed round was run, and the outbox was
+  -- cleared
   pub delivered_of : {progress : Progress} {old mid new : SessionState} {writer writer' : O} {written written' : ℕ} {before after : W}
-      → Answered step sent progress old before mid after → old.outbox ≡ []
+      → Answered step sent probed progress old before mid after → old.outbox ≡ [] → mid.owes ≡ false
       → Writes takes writer mid.outbox writer' written written' → new ≡ record mid { outbox = [] }
-      → Delivered takes step sent progress old writer written before new writer' written' after
-  delivered_of {progress} {old} {mid} {new} {writer} {writer'} {written} {written'} {before} {after} answered empty wrote cleared =
+      → Delivered takes step sent probed 0 progress old writer written before new writer' written' after
+  delivered_of {progress} {old} {mid} {new} {writer} {writer'} {written} {written'} {before} {after} answered empty none wrote cleared =
       rw cleared (record {
-        turns = answered.turns;
+        events = answered.events;
         turned = record {
           gives = answered.turned.gives;
           gains = answered.turned.gains;
+          order = answered.turned.order;
           sends = answered.turned.sends;
+          probes = answered.turned.probes;
           requests = answered.turned.requests;
         };
+        idle = answered.idles;
         output =
-            let text : mid.outbox ≡ text_of answered.turns = answered.outbox ∙ ap (λ xs. xs ++ text_of answered.turns) empty in
+            let text : mid.outbox ≡ text_of (turns_of answered.events) =
+            answered.outbox ∙ ap (λ xs. xs ++ text_of (turns_of answered.events)) empty in
             subst (λ xs. Writes takes writer xs writer' written written') text wrote;
         outbox = refl;
+        owes = none;
         progress_is = answered.progress_is;
       })
 
   pub delivered_append : ((x y z : O) (bytes more : List ℕ) → takes x bytes y → takes y more z → takes x (bytes ++ more) z)
-      → {progress : Progress} {old mid new : SessionState} {writer writer' writer'' : O} {written written' written'' : ℕ} {before between after : W}
-      → Delivered takes step sent More old writer written before mid writer' written' between
-      → Delivered takes step sent progress mid writer' written' between new writer'' written'' after
-      → Delivered takes step sent progress old writer written before new writer'' written'' after
-  delivered_append goes_on {progress} {old} {mid} {new} {writer} {writer'} {writer''} {written} {written'} {written''} front back = record {
-    turns = front.turns ++ back.turns;
+      → {idles more : ℕ} {progress : Progress} {old mid new : SessionState} {writer writer' writer'' : O} {written written' written'' : ℕ} {before between after : W}
+      → Delivered takes step sent probed idles More old writer written before mid writer' written' between
+      → Delivered takes step sent probed more progress mid writer' written' between new writer'' written'' after
+      → Delivered takes step sent probed (idles + more) progress old writer written before new writer'' written'' after
+  delivered_append goes_on {idles} {more} {progress} {old} {mid} {new} {writer} {writer'} {writer''} {written} {written'} {written''} front back = record {
+    events = front.events ++ back.events;
     turned = turned_append front.turned back.turned;
+    idle = omega (arith, front.idle, back.idle, idles-append front.events back.events);
     output =
         let all = writes_append goes_on front.output back.output in
-        subst (λ text. Writes takes writer text writer'' written written'') (sym (text-append front.turns back.turns)) all;
+        subst (λ text. Writes takes writer text writer'' written written'') (sym (text-append front.events back.events)) all;
     outbox = back.outbox;
-    progress_is = turns_progress progress front.turns back.turns new.reading front.progress_is back.progress_is;
+    owes = back.owes;
+    progress_is = events_progress progress front.events back.events new.reading front.progress_is back.progress_is;
   }
 
-  -- turns stay the same turns when more bytes come behind them
-  pub delivered_fed : {old new : SessionState} {writer writer' : O} {written written' : ℕ} {before after : W} → (piece : List ℕ)
-      → Delivered takes step sent NeedsInput old writer written before new writer' written' after
-      → Delivered takes step sent More (fed_state old piece) writer written before (fed_state new piece) writer' written' after
+  -- events stay the same events when more bytes come behind them
+  pub delivered_fed : {idles : ℕ} {old new : SessionState} {writer writer' : O} {written written' : ℕ} {before after : W} → (piece : List ℕ)
+      → Delivered takes step sent probed idles NeedsInput old writer written before new writer' written' after
+      → Delivered takes step sent probed idles More (fed_state old piece) writer written before (fed_state new piece) writer' written' after
   delivered_fed piece delivered = record {
-    turns = delivered.turns;
+    events = delivered.events;
     turned = record {
       gives = Gives-fed _ _ _ piece delivered.turned.gives;
       gains = delivered.turned.gains;
+      order = delivered.turned.order;
       sends = delivered.turned.sends;
+      probes = delivered.turned.probes;
       requests = delivered.turned.requests;
     };
+    idle = delivered.idle;
     output = delivered.output;
     outbox = delivered.outbox;
+    owes = delivered.owes;
     progress_is = delivered.progress_is.0;
   }
 
-  pub delivered_part : {progress : Progress} {old new : SessionState} {writer writer' : O} {written written' : ℕ} {before after : W}
-      → Delivered takes step sent progress old writer written before new writer' written' after
+  pub delivered_part : {idles : ℕ} {progress : Progress} {old new : SessionState} {writer writer' : O} {written written' : ℕ} {before after : W}
+      → Delivered takes step sent probed idles progress old writer written before new writer' written' after
       → DeliveredPart takes step old writer written before writer' written'
-  delivered_part {progress} {old} {new} {writer} {writer'} {written} {written'} {before} {after} delivered = record {
-    turns = delivered.turns;
+  delivered_part {idles} {progress} {old} {new} {writer} {writer'} {written} {written'} {before} {after} delivered = record {
+    events = delivered.events;
     left = new.reading;
     reached = after;
+    owed = new.owes;
     gives = delivered.turned.gives;
     gains = delivered.turned.gains;
-    in_session = in_session progress (items_of delivered.turns) new.reading delivered.progress_is;
-    front = text_of delivered.turns;
+    order = delivered.turned.order;
+    in_session = in_session progress (items_of (turns_of delivered.events)) new.reading delivered.progress_is;
+    front = text_of (turns_of delivered.events);
     unwritten = [];
-    text = sym (append-nil (text_of delivered.turns));
+    text = sym (append-nil (text_of (turns_of delivered.events)));
     output = delivered.output;
   }
 
   pub part_append : ((x y z : O) (bytes more : List ℕ) → takes x bytes y → takes y more z → takes x (bytes ++ more) z)
-      → {old mid : SessionState} {writer writer' writer'' : O} {written written' written'' : ℕ} {before between : W}
-      → Delivered takes step sent More old writer written before mid writer' written' between
+      → {idles : ℕ} {old mid : SessionState} {writer writer' writer'' : O} {written written' written'' : ℕ} {before between : W}
+      → Delivered takes step sent probed idles More old writer written before mid writer' written' between
       → DeliveredPart takes step mid writer' written' between writer'' written''
       → DeliveredPart takes step old writer written before writer'' written''
-  part_append goes_on {old} {mid} {writer} {writer'} {writer''} {written} {written'} {written''} first back = record {
-    turns = first.turns ++ back.turns;
+  part_append goes_on {idles} {old} {mid} {writer} {writer'} {writer''} {written} {written'} {written''} first back = record {
+    events = first.events ++ back.events;
     left = back.left;
     reached = back.reached;
+    owed = back.owed;
     gives =
         let gives = Gives-append _ _ _ _ _ first.turned.gives back.gives in
-        subst (λ items. Gives old.reading items back.left) (sym (items-append first.turns back.turns)) gives;
+        subst (λ items. Gives old.reading items back.left) (sym (items-append first.events back.events)) gives;
     gains = gains_append first.turned.gains back.gains;
-    in_session = turns_in_session first.turns back.turns first.progress_is back.in_session;
-    front = text_of first.turns ++ back.front;
+    order = order-append old.owes mid.owes back.owed first.events back.events first.turned.order back.order;
+    in_session = events_in_session first.events back.events first.progress_is back.in_session;
+    front = text_of (turns_of first.events) ++ back.front;
     unwritten = back.unwritten;
     text =
-        text-append first.turns back.turns ∙ ap (λ text. text_of first.turns ++ text) back.text
-        ∙ sym (append_assoc (text_of first.turns) back.front back.unwritten);
+        text-append first.events back.events ∙ ap (λ text. text_of (turns_of first.events) ++ text) back.text
+        ∙ sym (append_assoc (text_of (turns_of first.events)) back.front back.unwritten);
     output = writes_append goes_on first.output back.output;
   }
 
-module _ {I O W : Type 0} {gives : I → List ℕ → I → Type 0} {takes : O → List ℕ → O → Type 0} {step : W → Turn → W → Type 0} {sent : W → ℕ → ℕ} where
+module _ {I O W : Type 0} {gives : I → List ℕ → I → Type 0} {idled : I → ℕ} {takes : O → List ℕ → O → Type 0} {step : W → Event → W → Type 0} {sent probed : W → ℕ → ℕ} where
   pub so_far_none : (reader : I) (writer : O) (parts : W) → gives reader [] reader → takes writer [] writer
-      → ServedSoFar gives takes step sent NeedsInput reader writer parts fresh reader writer 0 parts
+      → ServedSoFar gives idled takes step sent probed NeedsInput reader writer parts fresh reader writer 0 parts
   so_far_none reader writer parts nothing_in nothing_out = record {
     bytes = [];
+    idle = 0;
     input = nothing_in;
+    idles = sym (add-zero (idled reader));
     delivered = record {
-      turns = [];
+      events = [];
       turned = turned_none fresh parts;
+      idle = refl;
       output = writes_none writer 0 nothing_out;
       outbox = refl;
+      owes = refl;
       progress_is = (goes_on-none, open_start);
     };
   }
@@ -215,25 +232,31 @@ module _ {I O W : Type 0} {gives : I → List ℕ → I → Type 0} {takes : O �
   pub so_far_more : ((x y z : I) (bytes more : List ℕ) → gives x bytes y → gives y more z → gives x (bytes ++ more) z)
       → ((x y z : O) (bytes more : List ℕ) → takes x bytes y → takes y more z → takes x (bytes ++ more) z)
       → {progress : Progress} {reader reader' reader'' : I} {writer writer' writer'' : O} {written written' : ℕ} {parts parts' parts'' : W} {at next : SessionState}
-      → (piece : List ℕ) → ServedSoFar gives takes step sent NeedsInput reader writer parts at reader' writer' written parts' → gives reader' piece reader''
-      → Delivered takes step sent progress (fed_state at piece) writer' written parts' next writer'' written' parts''
-      → ServedSoFar gives takes step sent progress reader writer parts next reader'' writer'' written' parts''
-  so_far_more goes_in goes_out {progress} {reader} {reader'} {reader''} {writer} {writer'} {writer''} {written} {written'} {parts} {parts'} {parts''} {at} {next} piece so_far read delivered = record {
+      → (piece : List ℕ) → ServedSoFar gives idled takes step sent probed NeedsInput reader writer parts at reader' writer' written parts' → gives reader' piece reader''
+      → idled reader'' ≡ idled reader'
+      → Delivered takes step sent probed 0 progress (fed_state at piece) writer' written parts' next writer'' written' parts''
+      → ServedSoFar gives idled takes step sent probed progress reader writer parts next reader'' writer'' written' parts''
+  so_far_more goes_in goes_out {progress} {reader} {reader'} {reader''} {writer} {writer'} {writer''} {written} {written'} {parts} {parts'} {parts''} {at} {next} piece so_far read calm delivered = record {
     bytes = so_far.bytes ++ piece;
+    idle = so_far.idle + 0;
     input = goes_in reader reader' reader'' so_far.bytes piece so_far.input read;
+    idles = omega (arith, so_far.idles, calm);
     delivered =
         let all = delivered_append goes_out (delivered_fed piece so_far.delivered) delivered in
-        subst (λ from. Delivered takes step sent progress (record fresh { reading = from }) writer 0 parts next writer'' written' parts'')
+        subst (λ from. Delivered takes step sent probed (so_far.idle + 0) progress (record fresh { reading = from }) writer 0 parts next writer'' written' parts'')
         (fed-fed start so_far.bytes piece) all;
   }
 
   -- nothing more was read
   pub so_far_read : ((x y z : I) (bytes more : List ℕ) → gives x bytes y → gives y more z → gives x (bytes ++ more) z)
       → {progress : Progress} {reader reader' reader'' : I} {writer writer' : O} {written : ℕ} {parts parts' : W} {at : SessionState}
-      → ServedSoFar gives takes step sent progress reader writer parts at reader' writer' written parts' → gives reader' [] reader''
-      → ServedSoFar gives takes step sent progress reader writer parts at reader'' writer' written parts'
-  so_far_read goes_in {progress} {reader} {reader'} {reader''} so_far read = record {
+      → ServedSoFar gives idled takes step sent probed progress reader writer parts at reader' writer' written parts' → gives reader' [] reader''
+      → idled reader'' ≡ idled reader'
+      → ServedSoFar gives idled takes step sent probed progress reader writer parts at reader'' writer' written parts'
+  so_far_read goes_in {progress} {reader} {reader'} {reader''} so_far read calm = record {
     bytes = so_far.bytes;
+    idle = so_far.idle;
+    idles = calm ∙ so_far.idles;
     input =
         let all = goes_in reader reader' reader'' so_far.bytes [] so_far.input read in
         subst (λ bytes. gives reader bytes reader'') (append-nil so_far.bytes) all;
@@ -241,24 +264,27 @@ module _ {I O W : Type 0} {gives : I → List ℕ → I → Type 0} {takes : O �
   }
 
   abbrev transcript : {progress : Progress} {reader reader' : I} {writer writer' : O} {written : ℕ} {parts parts' : W} {at : SessionState}
-      → ServedSoFar gives takes step sent progress reader writer parts at reader' writer' written parts'
-      → Transcript gives takes step sent reader writer parts reader' writer' parts'
-  transcript {at} so_far = record {
+      → ServedSoFar gives idled takes step sent probed progress reader writer parts at reader' writer' written parts'
+      → Transcript gives idled takes step sent probed reader writer parts reader' writer' parts'
+  transcript {reader} {at} so_far = record {
     bytes = so_far.bytes;
-    turns = so_far.delivered.turns;
+    events = so_far.delivered.events;
     left = at.reading;
     input = so_far.input;
     items = so_far.delivered.turned.gives;
     gains = so_far.delivered.turned.gains;
+    order = so_far.delivered.turned.order ∙ ap Some so_far.delivered.owes;
+    idles = so_far.idles ∙ ap (λ n. idled reader + n) (sym so_far.delivered.idle);
     sends = so_far.delivered.turned.sends;
+    probes = so_far.delivered.turned.probes;
     output = so_far.delivered.output.output;
   }
 
   -- the input ended
   pub served : (is_ended : I → Type 0) {reader reader' : I} {writer writer' : O} {written : ℕ} {parts parts' : W} {at : SessionState} (report : Report)
-      → ServedSoFar gives takes step sent NeedsInput reader writer parts at reader' writer' written parts' → is_ended reader'
+      → ServedSoFar gives idled takes step sent probed NeedsInput reader writer parts at reader' writer' written parts' → is_ended reader'
       → report.requests ≡ at.requests → report.unfinished ≡ length at.reading.unread → report.requests < 2 ^ 64
-      → Served gives takes step sent is_ended reader writer parts report reader' writer' parts'
+      → Served gives idled takes step sent probed is_ended reader writer parts report reader' writer' parts'
   served is_ended report so_far ended requests unfinished fits = record {
     transcript = transcript so_far;
     ending = at_end_of_input ended so_far.delivered.progress_is.0 so_far.delivered.progress_is.1 unfinished;
@@ -267,9 +293,9 @@ module _ {I O W : Type 0} {gives : I → List ℕ → I → Type 0} {takes : O �
 
   -- `quit` ended the session
   pub served_quit : (is_ended : I → Type 0) {reader reader' : I} {writer writer' : O} {written : ℕ} {parts parts' : W} {at : SessionState} (report : Report)
-      → ServedSoFar gives takes step sent Quit reader writer parts at reader' writer' written parts'
+      → ServedSoFar gives idled takes step sent probed Quit reader writer parts at reader' writer' written parts'
       → report.requests ≡ at.requests → report.unfinished ≡ 0 → report.requests < 2 ^ 64
-      → Served gives takes step sent is_ended reader writer parts report reader' writer' parts'
+      → Served gives idled takes step sent probed is_ended reader writer parts report reader' writer' parts'
   served_quit is_ended report so_far requests unfinished fits = record {
     transcript = transcript so_far;
     ending = at_quit so_far.delivered.progress_is unfinished;
@@ -278,8 +304,8 @@ module _ {I O W : Type 0} {gives : I → List ℕ → I → Type 0} {takes : O �
 
   -- the reader failed
   pub stopped_by_read : {reader reader' : I} {writer writer' : O} {written : ℕ} {parts parts' : W} {at : SessionState}
-      → ServedSoFar gives takes step sent NeedsInput reader writer parts at reader' writer' written parts'
-      → StoppedByRead gives takes step sent reader writer parts reader' writer' parts'
+      → ServedSoFar gives idled takes step sent probed NeedsInput reader writer parts at reader' writer' written parts'
+      → StoppedByRead gives idled takes step sent probed reader writer parts reader' writer' parts'
   stopped_by_read so_far = record {
     transcript = transcript so_far;
     goes_on = so_far.delivered.progress_is.0;
@@ -288,8 +314,8 @@ module _ {I O W : Type 0} {gives : I → List ℕ → I → Type 0} {takes : O �
 
   -- a line too long came
   pub stopped_by_line : {reader reader' : I} {writer writer' : O} {written : ℕ} {parts parts' : W} {at : SessionState}
-      → ServedSoFar gives takes step sent LineTooLong reader writer parts at reader' writer' written parts'
-      → StoppedByLine gives takes step sent reader writer parts reader' writer' parts'
+      → ServedSoFar gives idled takes step sent probed LineTooLong reader writer parts at reader' writer' written parts'
+      → StoppedByLine gives idled takes step sent probed reader writer parts reader' writer' parts'
   stopped_by_line {at} so_far = record {
     transcript = transcript so_far;
     ends = so_far.delivered.progress_is.0;
@@ -297,11 +323,11 @@ module _ {I O W : Type 0} {gives : I → List ℕ → I → Type 0} {takes : O �
   }
 
   pub came_too_long : {reader reader' : I} {writer writer' : O} {written : ℕ} {parts parts' : W} {at : SessionState}
-      → ServedSoFar gives takes step sent LineTooLong reader writer parts at reader' writer' written parts' → CameTooLong gives reader reader'
+      → ServedSoFar gives idled takes step sent probed LineTooLong reader writer parts at reader' writer' written parts' → CameTooLong gives reader reader'
   came_too_long so_far =
       let stopped = stopped_by_line so_far in record {
         bytes = stopped.transcript.bytes;
-        items = items_of stopped.transcript.turns;
+        items = items_of (turns_of stopped.transcript.events);
         left = stopped.transcript.left;
         input = stopped.transcript.input;
         reads = record { gives = stopped.transcript.items; open_end = stopped.open_end };
@@ -312,20 +338,22 @@ module _ {I O W : Type 0} {gives : I → List ℕ → I → Type 0} {takes : O �
   pub stopped_early : ((x y z : I) (bytes more : List ℕ) → gives x bytes y → gives y more z → gives x (bytes ++ more) z)
       → ((x y z : O) (bytes more : List ℕ) → takes x bytes y → takes y more z → takes x (bytes ++ more) z)
       → {reader reader' reader'' : I} {writer writer' writer'' : O} {written written' : ℕ} {parts parts' : W} {at : SessionState}
-      → (n : ℕ) (piece : List ℕ) → ServedSoFar gives takes step sent NeedsInput reader writer parts at reader' writer' written parts'
+      → (n : ℕ) (piece : List ℕ) → ServedSoFar gives idled takes step sent probed NeedsInput reader writer parts at reader' writer' written parts'
       → gives reader' piece reader''
       → DeliveredPart takes step (fed_state at piece) writer' written parts' writer'' written' → n ≡ capped written'
-      → StoppedByWrite gives takes step sent reader writer parts n reader'' writer''
+      → StoppedByWrite gives idled takes step sent probed reader writer parts n reader'' writer''
   stopped_early goes_in goes_out {reader} {reader'} {reader''} {writer} {writer'} {writer''} {written} {written'} {parts} {parts'} {at} n piece so_far read part is =
       let all = part_append goes_out (delivered_fed piece so_far.delivered) part in record {
         early = record {
           bytes = so_far.bytes ++ piece;
-          turns = all.turns;
+          events = all.events;
           left = all.left;
           reached = all.reached;
+          owed = all.owed;
           input = goes_in reader reader' reader'' so_far.bytes piece so_far.input read;
-          items = subst (λ from. Gives from (items_of all.turns) all.left) (fed-fed start so_far.bytes piece) all.gives;
+          items = subst (λ from. Gives from (items_of (turns_of all.events)) all.left) (fed-fed start so_far.bytes piece) all.gives;
           gains = all.gains;
+          order = all.order;
           in_session = all.in_session;
           front = all.front;
           unwritten = all.unwritten;
@@ -335,17 +363,41 @@ module _ {I O W : Type 0} {gives : I → List ℕ → I → Type 0} {takes : O �
         counted = is ∙ omega (arith, all.output.counted);
       }
 
+  -- no more was answered
+  pub stopped_at : {progress : Progress} {reader reader' : I} {writer writer' : O} {written : ℕ} {parts parts' : W} {at : SessionState}
+      → ServedSoFar gives idled takes step sent probed progress reader writer parts at reader' writer' written parts'
+      → StoppedEarly gives idled takes step sent probed reader writer parts reader' writer'
+  stopped_at so_far =
+      let all = delivered_part so_far.delivered in record {
+        bytes = so_far.bytes;
+        events = all.events;
+        left = all.left;
+        reached = all.reached;
+        owed = all.owed;
+        input = so_far.input;
+        items = all.gives;
+        gains = all.gains;
+        order = all.order;
+        in_session = all.in_session;
+        front = all.front;
+        unwritten = all.unwritten;
+        text = all.text;
+        output = all.output.output;
+      }
+
   -- nothing was read or written
   pub stopped_at_once : (reader : I) (writer : O) (parts : W) → gives reader [] reader → takes writer [] writer
-      → StoppedEarly gives takes step sent reader writer parts reader writer
+      → StoppedEarly gives idled takes step sent probed reader writer parts reader writer
   stopped_at_once reader writer parts nothing_in nothing_out = record {
     bytes = [];
-    turns = [];
+    events = [];
     left = start;
     reached = parts;
+    owed = false;
     input = nothing_in;
     items = Gives-none start;
     gains = gains_none parts;
+    order = refl;
     in_session = in_session_of [] goes_on-none;
     front = [];
     unwritten = [];
@@ -355,6 +407,38 @@ module _ {I O W : Type 0} {gives : I → List ℕ → I → Type 0} {takes : O �
 
   -- a session that needs input may still read
   pub so_far_reads : {reader reader' : I} {writer writer' : O} {written : ℕ} {parts parts' : W} {at : SessionState}
-      → ServedSoFar gives takes step sent NeedsInput reader writer parts at reader' writer' written parts' → at.reading.after ≢ Never
+      → ServedSoFar gives idled takes step sent probed NeedsInput reader writer parts at reader' writer' written parts' → at.reading.after ≢ Never
   so_far_reads {at} so_far =
-      reading_goes_on so_far.bytes (items_of so_far.delivered.turns) at.reading so_far.delivered.turned.gives so_far.delivered.progress_is.0
+      reading_goes_on so_far.bytes (items_of (turns_of so_far.delivered.events)) at.reading so_far.delivered.turned.gives so_far.delivered.progress_is.0
+
+module _ {I O H L T M : Type 0} {gives : I → List ℕ → I → Type 0} {idled : I → ℕ} {takes : O → List ℕ → O → Type 0} {steps : H → HealthItem → H → Type 0} {exchanges : L → LinksItem → L → Type 0} {sent probed : L → ℕ → ℕ} {records : T → TrailEvent → T → Type 0} {reads : M → ℕ → M → Type 0} where
+  -- the reader was idle, and a round was run
+  pub so_far_idle : ((x y z : I) (bytes more : List ℕ) → gives x bytes y → gives y more z → gives x (bytes ++ more) z)
+      → {reader reader' reader'' : I} {writer writer' : O} {written : ℕ} {parts parts' parts'' : Parts H L T M} {at : SessionState}
+      → ServedSoFar gives idled takes (IsEvent steps exchanges sent probed records reads) (sent_by sent) (probed_by probed) NeedsInput reader writer parts at reader' writer' written parts'
+      → gives reader' [] reader'' → idled reader'' ≡ idled reader' + 1 → Rounded steps exchanges sent probed reads parts' parts''
+      → ServedSoFar gives idled takes (IsEvent steps exchanges sent probed records reads) (sent_by sent) (probed_by probed) NeedsInput reader writer parts at reader'' writer' written parts''
+  so_far_idle goes_in {reader} {reader'} {reader''} {writer} {writer'} {written} {parts} {parts'} {parts''} {at} so_far read idle rounded =
+      let before = so_far.delivered in
+      let last : List Event = IdleRound rounded.round.visits ∷ [] in
+      let items : items_of (turns_of (before.events ++ last)) ≡ items_of (turns_of before.events) =
+      items-append before.events last ∙ append-nil (items_of (turns_of before.events)) in
+      let text : text_of (turns_of (before.events ++ last)) ≡ text_of (turns_of before.events) =
+      text-append before.events last ∙ append-nil (text_of (turns_of before.events)) in
+      record {
+        bytes = so_far.bytes;
+        idle = so_far.idle + 1;
+        input =
+            let all = goes_in reader reader' reader'' so_far.bytes [] so_far.input read in
+            subst (λ bytes. gives reader bytes reader'') (append-nil so_far.bytes) all;
+        idles = omega (arith, so_far.idles, idle);
+        delivered = record {
+          events = before.events ++ last;
+          turned = turned_append before.turned (turned_idle {records = records} before.owes rounded);
+          idle = omega (arith, before.idle, idles-append before.events last);
+          output = subst (λ xs. Writes takes writer xs writer' 0 written) (sym text) before.output;
+          outbox = before.outbox;
+          owes = before.owes;
+          progress_is = subst (λ xs. ProgressIs NeedsInput xs at.reading) (sym items) before.progress_is;
+        };
+      }

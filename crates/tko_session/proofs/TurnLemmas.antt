@@ -1,5 +1,7 @@
--- Laws of turns: none, one, these and then those.
-use Rattle.std.proofs.Common.{◌≡◌, ◌≢◌, ℕ, ◌+◌, ◌<◌, length, length-append, List, [], ◌∷◌, ◌++◌, refl, sym, ap, subst, ◌∙◌, append_assoc, append-nil, arith, count_by, sum_by, add-zero, cond}
+-- Laws of what a session answers: nothing, one item, these events and then those.
+use Rattle.std.proofs.Common.{◌≡◌, ◌≢◌, ℕ, ◌+◌, ◌<◌, length, length-append, List, [], ◌∷◌, ◌++◌, refl, sym, ap, subst, ◌∙◌, append_assoc, append-nil, arith, count_by, sum_by, add-zero, cond, Bool, true, false, inl, inr}
+use Rattle.std.specs.Prelude.{MatchBool}
+use Rattle.std.proofs.lemmas.Bool.{cases_Bool}
 use Rattle.std.proofs.lemmas.Grind.{flat_map-append}
 use Rattle.std.proofs.lemmas.List.{map-append}
 use Rattle.std.proofs.lemmas.List.Sums.{sum_by-append}
@@ -19,31 +21,42 @@ use Rattle.tko_session.specs.TrailEvents.{TrailEvent}
 use Rattle.tko_text.specs.Reading.{Reading, Gives, NeedsMore, Emits}
 use Rattle.tko_route.specs.Trail.{sends_in}
 use Rattle.tko_session.specs.Replies.{trails_in}
-use Rattle.tko_session.specs.Turns.{Turn, IsTurn}
+use Rattle.tko_session.specs.Events.{Answer, Event, IdleRound, IsEvent, IsRun, RoundAfter, Rounded, turns_of}
+use Rattle.tko_session.specs.Round.{probes_in}
+use Rattle.tko_session.specs.Turns.{Turn, is_request}
 use Rattle.tko_session.specs.declared.session.Progress.{Progress}
 use Rattle.tko_session.specs.declared.session.Progress.TheVariants.{More, NeedsInput}
 use Rattle.tko_session.specs.declared.session.Progress.TheVariants as progress
 use Rattle.tko_session.specs.Io.{capped}
-use Rattle.tko_session.specs.SessionState.{SessionState, Turned, Answered, AnsweredPart, Replied, Continues, EndsWith, GoesOn, InSession, ProgressIs, BeginBelowBound, progress_after, progress_of, reply_bound, sent_by, is_request, items_of, text_of, trails_of, requests_in, sends_to, line_too_long, quit}
+use Rattle.tko_session.specs.SessionState.{SessionState, Turned, Answered, AnsweredPart, Replied, Continues, EndsWith, GoesOn, InSession, ProgressIs, BeginBelowBound, probed_by, progress_after, progress_of, reply_bound, sent_by, items_of, text_of, trails_of, requests_in, sends_to, line_too_long, quit}
 use Rattle.tko_text.proofs.GivesLemmas.{Gives-none, Gives-one, Gives-append}
+use Rattle.tko_session.proofs.EventLemmas.{idles-append, order-append, probes-append, turns-append}
 use Rattle.tko_session.proofs.NeverLemmas.{ends_reading}
 
-pub items-append : (turns more : List Turn) → items_of (turns ++ more) ≡ items_of turns ++ items_of more
-items-append turns more = map-append (λ turn. turn.item) turns more
+pub items-append : (events more : List Event)
+    → items_of (turns_of (events ++ more)) ≡ items_of (turns_of events) ++ items_of (turns_of more)
+items-append events more =
+    ap items_of (turns-append events more) ∙ map-append (λ turn. turn.item) (turns_of events) (turns_of more)
 
-pub text-append : (turns more : List Turn) → text_of (turns ++ more) ≡ text_of turns ++ text_of more
-text-append turns more = flat_map-append (λ turn. turn.text) turns more
+pub text-append : (events more : List Event)
+    → text_of (turns_of (events ++ more)) ≡ text_of (turns_of events) ++ text_of (turns_of more)
+text-append events more =
+    ap text_of (turns-append events more) ∙ flat_map-append (λ turn. turn.text) (turns_of events) (turns_of more)
 
-pub sends-append : (server : ℕ) (turns more : List Turn)
-    → sends_to server (trails_of (turns ++ more)) ≡ sends_to server (trails_of turns) + sends_to server (trails_of more)
-sends-append server turns more =
-    ap (sum_by (sends_in server)) (flat_map-append (λ turn. trails_in turn.routed) turns more)
-    ∙ sum_by-append (sends_in server) (trails_of turns) (trails_of more)
+pub sends-append : (server : ℕ) (events more : List Event)
+    → sends_to server (trails_of (turns_of (events ++ more)))
+    ≡ sends_to server (trails_of (turns_of events)) + sends_to server (trails_of (turns_of more))
+sends-append server events more =
+    let trails = ap trails_of (turns-append events more) ∙ flat_map-append (λ turn. trails_in turn.routed) (turns_of events) (turns_of more) in
+    ap (sum_by (sends_in server)) trails
+    ∙ sum_by-append (sends_in server) (trails_of (turns_of events)) (trails_of (turns_of more))
 
-pub requests-append : (turns more : List Turn)
-    → requests_in (items_of (turns ++ more)) ≡ requests_in (items_of turns) + requests_in (items_of more)
-requests-append turns more =
-    ap (count_by is_request) (items-append turns more) ∙ sum_by-append (λ item. cond (is_request item) 1 0) (items_of turns) (items_of more)
+pub requests-append : (events more : List Event)
+    → requests_in (items_of (turns_of (events ++ more)))
+    ≡ requests_in (items_of (turns_of events)) + requests_in (items_of (turns_of more))
+requests-append events more =
+    ap (count_by is_request) (items-append events more)
+    ∙ sum_by-append (λ item. cond (is_request item) 1 0) (items_of (turns_of events)) (items_of (turns_of more))
 
 -- counts that stop at the same number may be added one after another
 pub capped-more : (a b c n m : ℕ) → capped b ≡ capped (a + n) → capped c ≡ capped (b + m) → capped c ≡ capped (a + (n + m))
@@ -138,125 +151,163 @@ in_session-append items more front back = record {
   one = back.one;
 }
 
-pub turns_in_session : (turns more : List Turn) → GoesOn (items_of turns) → InSession (items_of more)
-    → InSession (items_of (turns ++ more))
-turns_in_session turns more front back =
-    subst InSession (sym (items-append turns more)) (in_session-append (items_of turns) (items_of more) front back)
+pub events_in_session : (events more : List Event) → GoesOn (items_of (turns_of events))
+    → InSession (items_of (turns_of more)) → InSession (items_of (turns_of (events ++ more)))
+events_in_session events more front back =
+    subst InSession (sym (items-append events more)) (in_session-append (items_of (turns_of events)) (items_of (turns_of more)) front back)
 
--- progress of turns that come after others
-pub turns_progress : (progress : Progress) (turns more : List Turn) (reading : Reading) → GoesOn (items_of turns)
-    → ProgressIs progress (items_of more) reading → ProgressIs progress (items_of (turns ++ more)) reading
-turns_progress progress turns more reading front back =
-    subst (λ items. ProgressIs progress items reading) (sym (items-append turns more))
-    (progress-append progress (items_of turns) (items_of more) reading front back)
+-- progress of events that come after others
+pub events_progress : (progress : Progress) (events more : List Event) (reading : Reading) → GoesOn (items_of (turns_of events))
+    → ProgressIs progress (items_of (turns_of more)) reading → ProgressIs progress (items_of (turns_of (events ++ more))) reading
+events_progress progress events more reading front back =
+    subst (λ items. ProgressIs progress items reading) (sym (items-append events more))
+    (progress-append progress (items_of (turns_of events)) (items_of (turns_of more)) reading front back)
 
--- texts of turns that come after others
-pub waiting-append : (waiting mid all : List ℕ) (turns more : List Turn) → mid ≡ waiting ++ text_of turns
-    → all ≡ mid ++ text_of more → all ≡ waiting ++ text_of (turns ++ more)
-waiting-append waiting mid all turns more front back =
-    back ∙ ap (λ text. text ++ text_of more) front ∙ append_assoc waiting (text_of turns) (text_of more)
-    ∙ ap (λ text. waiting ++ text) (sym (text-append turns more))
+-- texts of events that come after others
+pub waiting-append : (waiting mid all : List ℕ) (events more : List Event) → mid ≡ waiting ++ text_of (turns_of events)
+    → all ≡ mid ++ text_of (turns_of more) → all ≡ waiting ++ text_of (turns_of (events ++ more))
+waiting-append waiting mid all events more front back =
+    back ∙ ap (λ text. text ++ text_of (turns_of more)) front
+    ∙ append_assoc waiting (text_of (turns_of events)) (text_of (turns_of more))
+    ∙ ap (λ text. waiting ++ text) (sym (text-append events more))
 
-module _ {W : Type 0} {step : W → Turn → W → Type 0} where
-  -- memory ran out before any turn
+-- events whose items are answered below the bound, and then more of them
+pub below-append : (outbox mid : List ℕ) (events more : List Event) → mid ≡ outbox ++ text_of (turns_of events)
+    → BeginBelowBound (length outbox) (turns_of events) → BeginBelowBound (length mid) (turns_of more)
+    → BeginBelowBound (length outbox) (turns_of (events ++ more))
+below-append outbox mid events more is front back =
+    let len : length mid ≡ length outbox + length (text_of (turns_of events)) =
+    ap length is ∙ length-append outbox (text_of (turns_of events)) in
+    subst (BeginBelowBound (length outbox)) (sym (turns-append events more))
+    (begin-append (length outbox) (turns_of events) (turns_of more) front (subst (λ n. BeginBelowBound n (turns_of more)) len back))
+
+module _ {W : Type 0} {step : W → Event → W → Type 0} where
+  -- memory ran out before any event
   pub part_none : (old new : SessionState) (world : W) → new.outbox ≡ old.outbox → AnsweredPart step old world new
   part_none old new world same = record {
-    turns = [];
+    events = [];
     left = old.reading;
     reached = world;
+    owed = old.owes;
     gives = Gives-none old.reading;
     gains = gains_none world;
+    order = refl;
     in_session = in_session_of [] goes_on-none;
     outbox = same ∙ sym (append-nil old.outbox);
   }
 
-module _ {W : Type 0} {step : W → Turn → W → Type 0} {sent : W → ℕ → ℕ} where
-  pub turned_none : (at : SessionState) (world : W) → Turned step sent at world [] at world
+module _ {W : Type 0} {step : W → Event → W → Type 0} {sent probed : W → ℕ → ℕ} where
+  pub turned_none : (at : SessionState) (world : W) → Turned step sent probed at world [] at world
   turned_none at world = record {
     gives = Gives-none at.reading;
     gains = gains_none world;
+    order = refl;
     sends = λ server. sym (add-zero (sent world server));
+    probes = λ server. sym (add-zero (probed world server));
     requests = ap capped (sym (add-zero at.requests));
   }
 
-  pub turned_append : {old mid new : SessionState} {before between after : W} {turns more : List Turn}
-      → Turned step sent old before turns mid between → Turned step sent mid between more new after
-      → Turned step sent old before (turns ++ more) new after
-  turned_append {old} {mid} {new} {before} {between} {after} {turns} {more} front back = record {
+  pub turned_append : {old mid new : SessionState} {before between after : W} {events more : List Event}
+      → Turned step sent probed old before events mid between → Turned step sent probed mid between more new after
+      → Turned step sent probed old before (events ++ more) new after
+  turned_append {old} {mid} {new} {before} {between} {after} {events} {more} front back = record {
     gives =
         let gives = Gives-append _ _ _ _ _ front.gives back.gives in
-        subst (λ items. Gives old.reading items new.reading) (sym (items-append turns more)) gives;
+        subst (λ items. Gives old.reading items new.reading) (sym (items-append events more)) gives;
     gains = gains_append front.gains back.gains;
-    sends = λ server. omega (arith, front.sends server, back.sends server, sends-append server turns more);
+    order = order-append old.owes mid.owes new.owes events more front.order back.order;
+    sends = λ server. omega (arith, front.sends server, back.sends server, sends-append server events more);
+    probes = λ server. omega (arith, front.probes server, back.probes server, probes-append server events more);
     requests =
         let more_than = capped-more old.requests mid.requests new.requests _ _ front.requests back.requests in
-        more_than ∙ ap (λ n. capped (old.requests + n)) (sym (requests-append turns more));
+        more_than ∙ ap (λ n. capped (old.requests + n)) (sym (requests-append events more));
   }
 
-  pub answered_none : (at : SessionState) (world : W) → Answered step sent More at world at world
+  pub answered_none : (at : SessionState) (world : W) → Answered step sent probed More at world at world
   answered_none at world = record {
-    turns = [];
+    events = [];
     turned = turned_none at world;
+    idles = refl;
     outbox = sym (append-nil at.outbox);
     begin = tt;
     progress_is = goes_on-none;
   }
 
   pub answered_open : (old new : SessionState) (world : W) → NeedsMore old.reading → new ≡ old
-      → Answered step sent NeedsInput old world new world
+      → Answered step sent probed NeedsInput old world new world
   answered_open old new world none same = rw same (record {
-    turns = [];
+    events = [];
     turned = turned_none old world;
+    idles = refl;
     outbox = sym (append-nil old.outbox);
     begin = tt;
     progress_is = (goes_on-none, none);
   })
 
   pub answered_append : {progress : Progress} {old mid new : SessionState} {before between after : W}
-      → Answered step sent More old before mid between → Answered step sent progress mid between new after
-      → Answered step sent progress old before new after
+      → Answered step sent probed More old before mid between → Answered step sent probed progress mid between new after
+      → Answered step sent probed progress old before new after
   answered_append {progress} {old} {mid} {new} front back = record {
-    turns = front.turns ++ back.turns;
+    events = front.events ++ back.events;
     turned = turned_append front.turned back.turned;
-    outbox = waiting-append old.outbox mid.outbox new.outbox front.turns back.turns front.outbox back.outbox;
-    begin =
-        let len : length mid.outbox ≡ length old.outbox + length (text_of front.turns) =
-        ap length front.outbox ∙ length-append old.outbox (text_of front.turns) in
-        begin-append (length old.outbox) front.turns back.turns front.begin
-        (subst (λ n. BeginBelowBound n back.turns) len back.begin);
-    progress_is = turns_progress progress front.turns back.turns new.reading front.progress_is back.progress_is;
+    idles = omega (arith, front.idles, back.idles, idles-append front.events back.events);
+    outbox = waiting-append old.outbox mid.outbox new.outbox front.events back.events front.outbox back.outbox;
+    begin = below-append old.outbox mid.outbox front.events back.events front.outbox front.begin back.begin;
+    progress_is = events_progress progress front.events back.events new.reading front.progress_is back.progress_is;
   }
 
   pub part_after : {old mid new : SessionState} {before between : W}
-      → Answered step sent More old before mid between → AnsweredPart step mid between new
+      → Answered step sent probed More old before mid between → AnsweredPart step mid between new
       → AnsweredPart step old before new
   part_after {old} {mid} {new} front back = record {
-    turns = front.turns ++ back.turns;
+    events = front.events ++ back.events;
     left = back.left;
     reached = back.reached;
+    owed = back.owed;
     gives =
         let gives = Gives-append _ _ _ _ _ front.turned.gives back.gives in
-        subst (λ items. Gives old.reading items back.left) (sym (items-append front.turns back.turns)) gives;
+        subst (λ items. Gives old.reading items back.left) (sym (items-append front.events back.events)) gives;
     gains = gains_append front.turned.gains back.gains;
-    in_session = turns_in_session front.turns back.turns front.progress_is back.in_session;
-    outbox = waiting-append old.outbox mid.outbox new.outbox front.turns back.turns front.outbox back.outbox;
+    order = order-append old.owes mid.owes back.owed front.events back.events front.turned.order back.order;
+    in_session = events_in_session front.events back.events front.progress_is back.in_session;
+    outbox = waiting-append old.outbox mid.outbox new.outbox front.events back.events front.outbox back.outbox;
   }
 
-module _ {H L T : Type 0} {steps : H → HealthItem → H → Type 0} {exchanges : L → LinksItem → L → Type 0} {sent : L → ℕ → ℕ} {records : T → TrailEvent → T → Type 0} where
-  -- a fault is a turn that changes nothing but the outbox
-  pub answered_fault : (old mid new : SessionState) (world : Parts H L T) (fault : TextFault) (progress : Progress)
+  -- all events are a part of them
+  pub part_of : {progress : Progress} {old new : SessionState} {before after : W}
+      → Answered step sent probed progress old before new after → AnsweredPart step old before new
+  part_of {progress} {old} {new} {before} {after} answered = record {
+    events = answered.events;
+    left = new.reading;
+    reached = after;
+    owed = new.owes;
+    gives = answered.turned.gives;
+    gains = answered.turned.gains;
+    order = answered.turned.order;
+    in_session = in_session progress (items_of (turns_of answered.events)) new.reading answered.progress_is;
+    outbox = answered.outbox;
+  }
+
+module _ {H L T M : Type 0} {steps : H → HealthItem → H → Type 0} {exchanges : L → LinksItem → L → Type 0} {sent probed : L → ℕ → ℕ} {records : T → TrailEvent → T → Type 0} {reads : M → ℕ → M → Type 0} where
+  -- a fault is answered, which changes nothing but the outbox
+  pub answered_fault : (old mid new : SessionState) (world : Parts H L T M) (fault : TextFault) (progress : Progress)
       → Emits old.reading (item.Fault fault) mid.reading → mid ≡ record old { reading = mid.reading }
       → new ≡ record mid { outbox = mid.outbox ++ fault_text fault } → progress ≡ progress_after fault
-      → length old.outbox < reply_bound
-      → Answered (IsTurn steps exchanges sent records) (sent_by sent) progress old world new world
-  answered_fault old mid new world fault progress told same e is room = record {
-    turns = (record { item = item.Fault fault; routed = []; text = fault_text fault }) ∷ [];
+      → old.owes ≡ false → length old.outbox < reply_bound
+      → Answered (IsEvent steps exchanges sent probed records reads) (sent_by sent) (probed_by probed) progress old world new world
+  answered_fault old mid new world fault progress told same e is none room = record {
+    events = Answer (record { item = item.Fault fault; routed = []; text = fault_text fault }) ∷ [];
     turned = record {
       gives = subst (λ to. Gives old.reading (item.Fault fault ∷ []) to) (sym (ap (λ s. s.reading) e)) (Gives-one _ _ _ told);
       gains = gains_one (refl, refl, refl);
+      order =
+          let owes : new.owes ≡ false = ap (λ s. s.owes) e ∙ ap (λ s. s.owes) same ∙ none in
+          rw (none, owes) refl;
       sends = λ server. sym (add-zero (sent world.links server));
+      probes = λ server. sym (add-zero (probed world.links server));
       requests = ap capped (ap (λ s. s.requests) e ∙ ap (λ s. s.requests) same ∙ sym (add-zero old.requests));
     };
+    idles = refl;
     outbox =
         ap (λ s. s.outbox) e ∙ ap (λ s. s.outbox ++ fault_text fault) same
         ∙ ap (λ text. old.outbox ++ text) (sym (append-nil (fault_text fault)));
@@ -267,26 +318,100 @@ module _ {H L T : Type 0} {steps : H → HealthItem → H → Type 0} {exchanges
         (fault_progress fault old.reading mid.reading told));
   }
 
-  -- a request that was replied to is a turn
-  pub answered_request : (old mid new : SessionState) (before after : Parts H L T) (it : Request) (progress : Progress)
+  -- a request was replied to, and its round is owed
+  pub answered_request : (old mid new : SessionState) (before after : Parts H L T M) (it : Request) (progress : Progress)
       → Emits old.reading (item.Request it) mid.reading → mid ≡ record old { reading = mid.reading }
-      → Replied steps exchanges sent records mid before it new after → progress ≡ progress_of it
-      → length old.outbox < reply_bound
-      → Answered (IsTurn steps exchanges sent records) (sent_by sent) progress old before new after
-  answered_request old mid new before after it progress told same replied is room = record {
-    turns = (record { item = item.Request it; routed = replied.routed; text = replied.text }) ∷ [];
+      → Replied steps exchanges sent probed records mid before it new after → progress ≡ progress_of it
+      → old.owes ≡ false → length old.outbox < reply_bound
+      → Answered (IsEvent steps exchanges sent probed records reads) (sent_by sent) (probed_by probed) progress old before new after
+  answered_request old mid new before after it progress told same replied is none room = record {
+    events = Answer (record { item = item.Request it; routed = replied.routed; text = replied.text }) ∷ [];
     turned = record {
       gives = subst (λ to. Gives old.reading (item.Request it ∷ []) to) (sym replied.reading) (Gives-one _ _ _ told);
       gains = gains_one replied.becomes;
+      order = rw (none, replied.owes) refl;
       sends = λ server.
           replied.sends server
           ∙ ap (λ trails. sent before.links server + sends_to server trails) (sym (append-nil (trails_in replied.routed)));
+      probes = λ server. replied.probes server ∙ sym (add-zero (probed before.links server));
       requests = replied.requests ∙ ap (λ s. capped (s.requests + 1)) same;
     };
+    idles = refl;
     outbox =
         replied.outbox ∙ ap (λ s. s.outbox ++ replied.text) same
         ∙ ap (λ text. old.outbox ++ text) (sym (append-nil replied.text));
     begin = (room, tt);
     progress_is =
         subst (λ p. ProgressIs p (item.Request it ∷ []) new.reading) (sym is) (request_progress it new.reading);
+  }
+
+  -- the round that was owed is an event
+  turned_round : {mid new : SessionState} {between after : Parts H L T M} → mid.owes ≡ true
+      → (rounded : Rounded steps exchanges sent probed reads between after) → new ≡ record mid { owes = false }
+      → Turned (IsEvent steps exchanges sent probed records reads) (sent_by sent) (probed_by probed) mid between
+      (RoundAfter rounded.round.visits ∷ []) new after
+  turned_round {mid} {new} {between} {after} owed rounded paid = record {
+    gives = subst (Gives mid.reading []) (sym (ap (λ s. s.reading) paid)) (Gives-none mid.reading);
+    gains = gains_one (record { short = rounded.short; round = rounded.round; visited = refl });
+    order =
+        let owes : new.owes ≡ false = ap (λ s. s.owes) paid in
+        rw (owed, owes) refl;
+    sends = λ server. rounded.sends server ∙ sym (add-zero (sent between.links server));
+    probes = λ server.
+        rounded.round.probes server
+        ∙ ap (λ visits. probed between.links server + probes_in server visits) (sym (append-nil rounded.round.visits));
+    requests = ap capped (ap (λ s. s.requests) paid ∙ sym (add-zero mid.requests));
+  }
+
+  -- the round that was owed was run
+  pub answered_round : {progress : Progress} {old mid new : SessionState} {before between after : Parts H L T M}
+      → Answered (IsEvent steps exchanges sent probed records reads) (sent_by sent) (probed_by probed) progress old before mid between
+      → mid.owes ≡ true → Rounded steps exchanges sent probed reads between after → new ≡ record mid { owes = false }
+      → Answered (IsEvent steps exchanges sent probed records reads) (sent_by sent) (probed_by probed) progress old before new after
+  answered_round {progress} {old} {mid} {new} {before} {between} {after} front owed rounded paid =
+      let visits = rounded.round.visits in
+      let items : items_of (turns_of (front.events ++ RoundAfter visits ∷ [])) ≡ items_of (turns_of front.events) =
+      items-append front.events (RoundAfter visits ∷ []) ∙ append-nil (items_of (turns_of front.events)) in
+      let text : text_of (turns_of (front.events ++ RoundAfter visits ∷ [])) ≡ text_of (turns_of front.events) =
+      text-append front.events (RoundAfter visits ∷ []) ∙ append-nil (text_of (turns_of front.events)) in
+      record {
+        events = front.events ++ RoundAfter visits ∷ [];
+        turned = turned_append front.turned (turned_round owed rounded paid);
+        idles = omega (arith, front.idles, idles-append front.events (RoundAfter visits ∷ []));
+        outbox = ap (λ s. s.outbox) paid ∙ front.outbox ∙ ap (λ xs. old.outbox ++ xs) (sym text);
+        begin = below-append old.outbox mid.outbox front.events (RoundAfter visits ∷ []) front.outbox front.begin tt;
+        progress_is =
+            subst (λ xs. ProgressIs progress xs new.reading) (sym items)
+            (subst (λ to. ProgressIs progress (items_of (turns_of front.events)) to) (sym (ap (λ s. s.reading) paid)) front.progress_is);
+      }
+
+  -- the round that was owed, if one was
+  pub answered_paid : {progress : Progress} {old mid new : SessionState} {before between after : Parts H L T M}
+      → Answered (IsEvent steps exchanges sent probed records reads) (sent_by sent) (probed_by probed) progress old before mid between
+      → IsRun steps exchanges sent probed reads mid.owes between after → new ≡ record mid { owes = false }
+      → Answered (IsEvent steps exchanges sent probed records reads) (sent_by sent) (probed_by probed) progress old before new after
+  answered_paid {progress} {old} {mid} {new} {before} {between} {after} front run paid =
+      let P : Bool → Type 0 = λ owes. MatchBool owes (Rounded steps exchanges sent probed reads between after) (after ≡ between) in
+      elim (cases_Bool mid.owes) [
+        | inl owed ↦ answered_round front owed (subst P owed run.ran) paid
+        | inr none ↦
+            let same : new ≡ mid = paid ∙ sym (ap (λ owes. record mid { owes = owes }) none) in
+            let still : after ≡ between = subst P none run.ran in
+            rw (same, still) front
+      ]
+
+  -- the round at an idle turn is an event
+  pub turned_idle : {at : SessionState} {between after : Parts H L T M} → at.owes ≡ false
+      → (rounded : Rounded steps exchanges sent probed reads between after)
+      → Turned (IsEvent steps exchanges sent probed records reads) (sent_by sent) (probed_by probed) at between
+      (IdleRound rounded.round.visits ∷ []) at after
+  turned_idle {at} {between} {after} none rounded = record {
+    gives = Gives-none at.reading;
+    gains = gains_one (record { short = rounded.short; round = rounded.round; visited = refl });
+    order = rw none refl;
+    sends = λ server. rounded.sends server ∙ sym (add-zero (sent between.links server));
+    probes = λ server.
+        rounded.round.probes server
+        ∙ ap (λ visits. probed between.links server + probes_in server visits) (sym (append-nil rounded.round.visits));
+    requests = ap capped (sym (add-zero at.requests));
   }

@@ -1,7 +1,12 @@
 pub mod Answering
+pub mod Events
 pub mod Faults
 pub mod Io
+pub mod Moments
+pub mod Pieces
+pub mod Probers
 pub mod Replies
+pub mod Round
 pub mod Served
 pub mod SessionState
 pub mod Status

@@ -1,12 +1,13 @@
 -- What a whole session did.
-use Rattle.std.specs.Prelude.{◌≡◌, ℕ, ◌+◌, List, [], ◌++◌, length}
+use Rattle.std.specs.Prelude.{◌≡◌, ℕ, ◌+◌, Bool, false, List, [], ◌++◌, Some, length}
 use Rattle.tko_model.specs.Records.{Gains}
 use Rattle.tko_text.specs.declared.item.Item.{Item}
 use Rattle.tko_text.specs.Reading.{Reading, Reads, Gives, NeedsMore, start, fed}
 use Rattle.tko_session.specs.declared.session.Progress.{Progress}
 use Rattle.tko_session.specs.declared.session.Report.{Report}
+use Rattle.tko_session.specs.Events.{Event, idle_rounds, owed_after, turns_of, visits_of}
 use Rattle.tko_session.specs.Io.{Writes, capped}
-use Rattle.tko_session.specs.Turns.{Turn}
+use Rattle.tko_session.specs.Round.{probes_in}
 use Rattle.tko_session.specs.SessionState.{SessionState, Turned, EndsWith, GoesOn, InSession, ProgressIs, fresh, fed_state, line_too_long, quit, items_of, text_of, trails_of, requests_in, sends_to}
 
 -- how a session comes to its end without a fault, after these items, and how many bytes of an item
@@ -17,41 +18,46 @@ pub data Ending (is_ended : Type 0) (items : List Item) (left : Reading) (unfini
       → Ending is_ended items left unfinished
   at_quit : EndsWith quit items → unfinished ≡ 0 → Ending is_ended items left unfinished
 
-module _ {I O W : Type 0} (gives : I → List ℕ → I → Type 0) (takes : O → List ℕ → O → Type 0)
-    (step : W → Turn → W → Type 0) (sent : W → ℕ → ℕ) where
-  -- all that was read, each item of it and what became of it, and all that was written
+module _ {I O W : Type 0} (gives : I → List ℕ → I → Type 0) (idled : I → ℕ)
+    (takes : O → List ℕ → O → Type 0) (step : W → Event → W → Type 0) (sent probed : W → ℕ → ℕ) where
+  -- all that was read, each item of it and what became of it, the rounds, and all that was written:
+  -- each request is followed by its round, and there is a round for each idle turn of the reader
   pub record Transcript (reader : I) (writer : O) (parts : W)
       (reader' : I) (writer' : O) (parts' : W) : Type 0 where
     pub bytes : List ℕ
-    pub turns : List Turn
+    pub events : List Event
     pub left : Reading
     pub input : gives reader bytes reader'
-    pub items : Gives (fed start bytes) (items_of turns) left
-    pub gains : Gains step parts turns parts'
+    pub items : Gives (fed start bytes) (items_of (turns_of events)) left
+    pub gains : Gains step parts events parts'
+    pub order : owed_after false events ≡ Some false
+    pub idles : idled reader' ≡ idled reader + idle_rounds events
     pub sends : (server : ℕ)
-        → sent parts' server ≡ sent parts server + sends_to server (trails_of turns)
-    pub output : takes writer (text_of turns) writer'
+        → sent parts' server ≡ sent parts server + sends_to server (trails_of (turns_of events))
+    pub probes : (server : ℕ)
+        → probed parts' server ≡ probed parts server + probes_in server (visits_of events)
+    pub output : takes writer (text_of (turns_of events)) writer'
 
   -- everything was answered up to the end of the input, or to the `quit` that ended the session
   pub record Served (is_ended : I → Type 0) (reader : I) (writer : O) (parts : W) (report : Report)
       (reader' : I) (writer' : O) (parts' : W) : Type 0 where
     pub transcript : Transcript reader writer parts reader' writer' parts'
-    pub ending : Ending (is_ended reader') (items_of transcript.turns) transcript.left
-        report.unfinished
-    pub requests : report.requests ≡ capped (requests_in (items_of transcript.turns))
+    pub ending : Ending (is_ended reader') (items_of (turns_of transcript.events))
+        transcript.left report.unfinished
+    pub requests : report.requests ≡ capped (requests_in (items_of (turns_of transcript.events)))
 
   -- the reader failed, and everything that was read was answered
   pub record StoppedByRead (reader : I) (writer : O) (parts : W)
       (reader' : I) (writer' : O) (parts' : W) : Type 0 where
     pub transcript : Transcript reader writer parts reader' writer' parts'
-    pub goes_on : GoesOn (items_of transcript.turns)
+    pub goes_on : GoesOn (items_of (turns_of transcript.events))
     pub open_end : NeedsMore transcript.left
 
   -- the last item that was read is a line too long, and everything was answered, that line too
   pub record StoppedByLine (reader : I) (writer : O) (parts : W)
       (reader' : I) (writer' : O) (parts' : W) : Type 0 where
     pub transcript : Transcript reader writer parts reader' writer' parts'
-    pub ends : EndsWith line_too_long (items_of transcript.turns)
+    pub ends : EndsWith line_too_long (items_of (turns_of transcript.events))
     pub open_end : NeedsMore transcript.left
 
   -- the first items that were read were answered, and the front of their text was written; what was
@@ -59,16 +65,18 @@ module _ {I O W : Type 0} (gives : I → List ℕ → I → Type 0) (takes : O �
   pub record StoppedEarly (reader : I) (writer : O) (parts : W) (reader' : I) (writer' : O)
       : Type 0 where
     pub bytes : List ℕ
-    pub turns : List Turn
+    pub events : List Event
     pub left : Reading
     pub reached : W
+    pub owed : Bool
     pub input : gives reader bytes reader'
-    pub items : Gives (fed start bytes) (items_of turns) left
-    pub gains : Gains step parts turns reached
-    pub in_session : InSession (items_of turns)
+    pub items : Gives (fed start bytes) (items_of (turns_of events)) left
+    pub gains : Gains step parts events reached
+    pub order : owed_after false events ≡ Some owed
+    pub in_session : InSession (items_of (turns_of events))
     pub front : List ℕ
     pub unwritten : List ℕ
-    pub text : text_of turns ≡ front ++ unwritten
+    pub text : text_of (turns_of events) ≡ front ++ unwritten
     pub output : takes writer front writer'
 
   -- the writer failed after so many bytes
@@ -87,39 +95,47 @@ pub record CameTooLong {I : Type 0} (gives : I → List ℕ → I → Type 0)
   pub reads : Reads bytes items left
   pub ends : EndsWith line_too_long items
 
--- turns went from the one state to the other, and all their text was written and counted
+-- events went from the one state to the other, so many of them rounds at idle turns, all their text
+-- was written and counted, and no round is owed
 pub record Delivered {O W : Type 0} (takes : O → List ℕ → O → Type 0)
-    (step : W → Turn → W → Type 0) (sent : W → ℕ → ℕ) (progress : Progress)
+    (step : W → Event → W → Type 0) (sent probed : W → ℕ → ℕ) (idles : ℕ) (progress : Progress)
     (old : SessionState) (writer : O) (written : ℕ) (before : W)
     (new : SessionState) (writer' : O) (written' : ℕ) (after : W) : Type 0 where
-  pub turns : List Turn
-  pub turned : Turned step sent old before turns new after
-  pub output : Writes takes writer (text_of turns) writer' written written'
+  pub events : List Event
+  pub turned : Turned step sent probed old before events new after
+  pub idle : idle_rounds events ≡ idles
+  pub output : Writes takes writer (text_of (turns_of events)) writer' written written'
   pub outbox : new.outbox ≡ []
-  pub progress_is : ProgressIs progress (items_of turns) new.reading
+  pub owes : new.owes ≡ false
+  pub progress_is : ProgressIs progress (items_of (turns_of events)) new.reading
 
--- turns were made, and the front of their text was written and counted
+-- there were events, and the front of their text was written and counted
 pub record DeliveredPart {O W : Type 0} (takes : O → List ℕ → O → Type 0)
-    (step : W → Turn → W → Type 0)
+    (step : W → Event → W → Type 0)
     (old : SessionState) (writer : O) (written : ℕ) (before : W)
     (writer' : O) (written' : ℕ) : Type 0 where
-  pub turns : List Turn
+  pub events : List Event
   pub left : Reading
   pub reached : W
-  pub gives : Gives old.reading (items_of turns) left
-  pub gains : Gains step before turns reached
-  pub in_session : InSession (items_of turns)
+  pub owed : Bool
+  pub gives : Gives old.reading (items_of (turns_of events)) left
+  pub gains : Gains step before events reached
+  pub order : owed_after old.owes events ≡ Some owed
+  pub in_session : InSession (items_of (turns_of events))
   pub front : List ℕ
   pub unwritten : List ℕ
-  pub text : text_of turns ≡ front ++ unwritten
+  pub text : text_of (turns_of events) ≡ front ++ unwritten
   pub output : Writes takes writer front writer' written written'
 
--- the bytes that were read from the beginning on, and the turns that answered them
-pub record ServedSoFar {I O W : Type 0} (gives : I → List ℕ → I → Type 0)
-    (takes : O → List ℕ → O → Type 0) (step : W → Turn → W → Type 0) (sent : W → ℕ → ℕ)
+-- the bytes that were read from the beginning on, the events that answered them, and a round for
+-- each idle turn
+pub record ServedSoFar {I O W : Type 0} (gives : I → List ℕ → I → Type 0) (idled : I → ℕ)
+    (takes : O → List ℕ → O → Type 0) (step : W → Event → W → Type 0) (sent probed : W → ℕ → ℕ)
     (progress : Progress) (reader : I) (writer : O) (before : W)
     (state : SessionState) (reader' : I) (writer' : O) (written : ℕ) (after : W) : Type 0 where
   pub bytes : List ℕ
+  pub idle : ℕ
   pub input : gives reader bytes reader'
-  pub delivered : Delivered takes step sent progress (fed_state fresh bytes) writer 0 before
-      state writer' written after
+  pub idles : idled reader' ≡ idled reader + idle
+  pub delivered : Delivered takes step sent probed idle progress (fed_state fresh bytes) writer 0
+      before state writer' written after

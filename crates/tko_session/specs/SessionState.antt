@@ -1,5 +1,5 @@
--- A session between two pieces, and the turns that lead from one state to another.
-use Rattle.std.specs.Prelude.{◌≡◌, ◌≢◌, ◌<◌, ◌≤◌, ℕ, ◌+◌, Bool, true, false, List, [], ◌∷◌, ◌++◌, All, length, map, count_by, sum_by, flat_map}
+-- A session between two pieces, and the events that lead from one state to another.
+use Rattle.std.specs.Prelude.{◌≡◌, ◌≢◌, ◌<◌, ◌≤◌, ℕ, ◌+◌, Bool, true, false, List, [], ◌∷◌, ◌++◌, All, length, map, count_by, sum_by, flat_map, Some}
 use Rattle.tko_model.specs.Records.{Gains, HealthItem}
 use Rattle.tko_text.specs.declared.item.Item.{Item}
 use Rattle.tko_text.specs.declared.item.Item.TheVariants as item
@@ -14,20 +14,24 @@ use Rattle.tko_route.specs.Trail.{sends_in}
 use Rattle.tko_session.specs.declared.parts.Parts.{Parts}
 use Rattle.tko_session.specs.declared.session.Progress.{Progress}
 use Rattle.tko_session.specs.declared.session.Progress.TheVariants as progress
+use Rattle.tko_session.specs.Events.{Event, idle_rounds, owed_after, turns_of, visits_of}
 use Rattle.tko_session.specs.Io.{capped}
 use Rattle.tko_session.specs.TrailEvents.{TrailEvent}
 use Rattle.tko_session.specs.Replies.{RoutedKey, trails_in}
-use Rattle.tko_session.specs.Turns.{Turn, Becomes}
+use Rattle.tko_session.specs.Round.{probes_in}
+use Rattle.tko_session.specs.Turns.{Turn, Becomes, is_request}
 
--- how far the input was read, the replies that wait to be written, and the number of requests
+-- how far the input was read, the replies that wait to be written, the number of requests, and
+-- whether the round after the last request is still to be run
 pub record SessionState : Type 0 where
   pub reading : Reading
   pub outbox : List ℕ
   pub requests : ℕ
+  pub owes : Bool
 
 -- a session that has read nothing
 abbrev pub fresh : SessionState
-fresh = record { reading = start; outbox = []; requests = 0 }
+fresh = record { reading = start; outbox = []; requests = 0; owes = false }
 
 -- the same after these bytes came
 abbrev pub fed_state : SessionState → List ℕ → SessionState
@@ -44,10 +48,6 @@ line_too_long = item.Fault LineTooLong
 -- the request that ends a session
 abbrev pub quit : Item
 quit = item.Request Quit
-
-abbrev pub is_request : Item → Bool
-is_request (item.Request request) = true
-is_request (item.Fault fault) = false
 
 abbrev pub items_of : List Turn → List Item
 items_of turns = map (λ turn. turn.item) turns
@@ -120,57 +120,73 @@ abbrev pub pause_of : Bool → Progress
 pause_of true = progress.Quit
 pause_of false = progress.NeedsInput
 
--- the health and the links have the servers of the configuration
-pub record Reaches {H L T : Type 0} (servers : H → ℕ) (linked : L → ℕ)
-    (parts : Parts H L T) : Type 0 where
+-- the health, the links and the probers have the servers of the configuration
+pub record Reaches {H L T M : Type 0} (servers : H → ℕ) (linked : L → ℕ)
+    (parts : Parts H L T M) : Type 0 where
   pub health : servers parts.health ≡ length parts.config.addresses
   pub links : linked parts.links ≡ length parts.config.addresses
+  pub probers : length parts.probers.slots ≡ length parts.config.addresses
 
 -- how often each server was sent to
-abbrev pub sent_by : {H L T : Type 0} → (L → ℕ → ℕ) → Parts H L T → ℕ → ℕ
+abbrev pub sent_by : {H L T M : Type 0} → (L → ℕ → ℕ) → Parts H L T M → ℕ → ℕ
 sent_by sent parts server = sent parts.links server
 
--- a request was recorded and answered: one more, and its reply at the end of the outbox
-pub record Replied {H L T : Type 0} (steps : H → HealthItem → H → Type 0)
-    (exchanges : L → LinksItem → L → Type 0) (sent : L → ℕ → ℕ)
+-- how often each server was probed
+abbrev pub probed_by : {H L T M : Type 0} → (L → ℕ → ℕ) → Parts H L T M → ℕ → ℕ
+probed_by probed parts server = probed parts.links server
+
+-- a request was recorded and answered: one more, its reply is at the end of the outbox, and its
+-- round is owed
+pub record Replied {H L T M : Type 0} (steps : H → HealthItem → H → Type 0)
+    (exchanges : L → LinksItem → L → Type 0) (sent probed : L → ℕ → ℕ)
     (records : T → TrailEvent → T → Type 0)
-    (old : SessionState) (before : Parts H L T) (request : Request)
-    (new : SessionState) (after : Parts H L T) : Type 0 where
+    (old : SessionState) (before : Parts H L T M) (request : Request)
+    (new : SessionState) (after : Parts H L T M) : Type 0 where
   pub routed : List RoutedKey
   pub text : List ℕ
   pub becomes : Becomes steps exchanges sent records before (item.Request request) routed text after
   pub sends : (server : ℕ)
       → sent after.links server ≡ sent before.links server + sends_to server (trails_in routed)
+  pub probes : (server : ℕ) → probed after.links server ≡ probed before.links server
   pub reading : new.reading ≡ old.reading
   pub outbox : new.outbox ≡ old.outbox ++ text
   pub requests : capped new.requests ≡ capped (old.requests + 1)
+  pub owes : new.owes ≡ true
 
-module _ {W : Type 0} (step : W → Turn → W → Type 0) (sent : W → ℕ → ℕ) where
-  -- these turns lead from the one state to the other, and change what they work on
-  pub record Turned (old : SessionState) (before : W) (turns : List Turn)
+module _ {W : Type 0} (step : W → Event → W → Type 0) (sent probed : W → ℕ → ℕ) where
+  -- these events lead from the one state to the other, and change what they work on
+  pub record Turned (old : SessionState) (before : W) (events : List Event)
       (new : SessionState) (after : W) : Type 0 where
-    pub gives : Gives old.reading (items_of turns) new.reading
-    pub gains : Gains step before turns after
+    pub gives : Gives old.reading (items_of (turns_of events)) new.reading
+    pub gains : Gains step before events after
+    pub order : owed_after old.owes events ≡ Some new.owes
     pub sends : (server : ℕ)
-        → sent after server ≡ sent before server + sends_to server (trails_of turns)
-    pub requests : capped new.requests ≡ capped (old.requests + requests_in (items_of turns))
+        → sent after server ≡ sent before server + sends_to server (trails_of (turns_of events))
+    pub probes : (server : ℕ)
+        → probed after server ≡ probed before server + probes_in server (visits_of events)
+    pub requests : capped new.requests
+        ≡ capped (old.requests + requests_in (items_of (turns_of events)))
 
-  -- some turns did, and their text was added to the outbox, each while there was room
+  -- some events did, none of them at an idle turn, and the text of the replies was added to the
+  -- outbox, each while there was room
   pub record Answered (progress : Progress) (old : SessionState) (before : W)
       (new : SessionState) (after : W) : Type 0 where
-    pub turns : List Turn
-    pub turned : Turned old before turns new after
-    pub outbox : new.outbox ≡ old.outbox ++ text_of turns
-    pub begin : BeginBelowBound (length old.outbox) turns
-    pub progress_is : ProgressIs progress (items_of turns) new.reading
+    pub events : List Event
+    pub turned : Turned old before events new after
+    pub idles : idle_rounds events ≡ 0
+    pub outbox : new.outbox ≡ old.outbox ++ text_of (turns_of events)
+    pub begin : BeginBelowBound (length old.outbox) (turns_of events)
+    pub progress_is : ProgressIs progress (items_of (turns_of events)) new.reading
 
--- memory ran out after these turns; what the item behind them changed is not said
-pub record AnsweredPart {W : Type 0} (step : W → Turn → W → Type 0)
+-- memory ran out after these events; what the item behind them changed is not said
+pub record AnsweredPart {W : Type 0} (step : W → Event → W → Type 0)
     (old : SessionState) (before : W) (new : SessionState) : Type 0 where
-  pub turns : List Turn
+  pub events : List Event
   pub left : Reading
   pub reached : W
-  pub gives : Gives old.reading (items_of turns) left
-  pub gains : Gains step before turns reached
-  pub in_session : InSession (items_of turns)
-  pub outbox : new.outbox ≡ old.outbox ++ text_of turns
+  pub owed : Bool
+  pub gives : Gives old.reading (items_of (turns_of events)) left
+  pub gains : Gains step before events reached
+  pub order : owed_after old.owes events ≡ Some owed
+  pub in_session : InSession (items_of (turns_of events))
+  pub outbox : new.outbox ≡ old.outbox ++ text_of (turns_of events)

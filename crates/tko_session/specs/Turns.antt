@@ -1,5 +1,5 @@
 -- What becomes of one item: the parts that it changes, and the text that goes to the client.
-use Rattle.std.specs.Prelude.{◌≡◌, ◌<◌, ℕ, List, [], ◌∷◌, length}
+use Rattle.std.specs.Prelude.{◌≡◌, ◌<◌, ℕ, Bool, true, false, List, [], ◌∷◌, length}
 use Rattle.tko_model.specs.Records.{HealthItem, Gains}
 use Rattle.tko_text.specs.declared.item.Item.{Item}
 use Rattle.tko_text.specs.declared.item.Item.TheVariants as item
@@ -11,6 +11,7 @@ use Rattle.tko_links.specs.Links.{LinksItem}
 use Rattle.tko_pools.specs.Configs.{Configuration, targets_of}
 use Rattle.tko_route.specs.Trail.{IsTrail, Attempts, form_at}
 use Rattle.tko_session.specs.declared.parts.Parts.{Parts}
+use Rattle.tko_session.specs.Probers.{noted}
 use Rattle.tko_session.specs.Replies.{IsReply, RoutedKey, version_text, written}
 use Rattle.tko_session.specs.Status.{IsStatus}
 use Rattle.tko_session.specs.TrailEvents.{TrailEvent, Asked, Tried}
@@ -20,6 +21,10 @@ pub record Turn : Type 0 where
   pub item : Item
   pub routed : List RoutedKey
   pub text : List ℕ
+
+abbrev pub is_request : Item → Bool
+is_request (item.Request request) = true
+is_request (item.Fault fault) = false
 
 -- the keys of a request, each of which is routed; a request without a key is not routed
 abbrev pub request_keys : Request → List (List ℕ)
@@ -46,20 +51,23 @@ abbrev pub forms : Configuration → Request → List ℕ → ℕ → Request
 forms config request key =
     form_at config.failover_exptime (without_noreply (request_for request key))
 
-module _ {H L T : Type 0} (steps : H → HealthItem → H → Type 0)
+module _ {H L T M : Type 0} (steps : H → HealthItem → H → Type 0)
     (exchanges : L → LinksItem → L → Type 0) (sent : L → ℕ → ℕ)
     (records : T → TrailEvent → T → Type 0) where
-  -- a key of a request took this trail over the targets of the key, and the trail was recorded
-  pub record IsKeyRouted (request : Request) (old : Parts H L T) (routed : RoutedKey)
-      (new : Parts H L T) : Type 0 where
+  -- a key of a request took this trail over the targets of the key; the trail was recorded, and the
+  -- servers that its failures marked are going to be probed
+  pub record IsKeyRouted (request : Request) (old : Parts H L T M) (routed : RoutedKey)
+      (new : Parts H L T M) : Type 0 where
     pub tried : IsTrail (targets_of old.config routed.key) routed.trail
     pub attempts : Attempts steps exchanges sent (forms old.config request routed.key)
         (old.health, old.links) routed.trail (new.health, new.links)
     pub recorded : records old.trails (Tried routed.trail) new.trails
     pub config : new.config ≡ old.config
+    pub probers : new.probers ≡ noted routed.trail old.probers
+    pub moments : new.moments ≡ old.moments
 
   -- a request without a key is answered by the proxy itself
-  abbrev pub AnswersItself : Request → Parts H L T → List ℕ → Parts H L T → Type 0
+  abbrev pub AnswersItself : Request → Parts H L T M → List ℕ → Parts H L T M → Type 0
   AnswersItself Version old text new = (text ≡ version_text) × (new ≡ old)
   AnswersItself Quit old text new = (text ≡ []) × (new ≡ old)
   AnswersItself StatsTko old text new =
@@ -68,8 +76,8 @@ module _ {H L T : Type 0} (steps : H → HealthItem → H → Type 0)
   AnswersItself _ old text new = ⊥
 
   -- the keys of a request were routed, one after another, and gave this text
-  pub record AnswersByKeys (request : Request) (old : Parts H L T) (routed : List RoutedKey)
-      (text : List ℕ) (new : Parts H L T) : Type 0 where
+  pub record AnswersByKeys (request : Request) (old : Parts H L T M) (routed : List RoutedKey)
+      (text : List ℕ) (new : Parts H L T M) : Type 0 where
     pub some : 0 < length (request_keys request)
     pub each : Gains (IsKeyRouted request) old routed new
     pub reply : List ℕ
@@ -77,19 +85,19 @@ module _ {H L T : Type 0} (steps : H → HealthItem → H → Type 0)
     pub is_written : text ≡ written request reply
 
   -- what becomes of a request once it was recorded
-  pub data Answers (request : Request) (old : Parts H L T) (routed : List RoutedKey)
-      (text : List ℕ) (new : Parts H L T) : Type 0 where
+  pub data Answers (request : Request) (old : Parts H L T M) (routed : List RoutedKey)
+      (text : List ℕ) (new : Parts H L T M) : Type 0 where
     itself : routed ≡ [] → AnswersItself request old text new
         → Answers request old routed text new
     by_keys : AnswersByKeys request old routed text new → Answers request old routed text new
 
   -- a fault gives its text and changes nothing; a request is recorded, and then answered
-  abbrev pub Becomes : Parts H L T → Item → List RoutedKey → List ℕ → Parts H L T → Type 0
+  abbrev pub Becomes : Parts H L T M → Item → List RoutedKey → List ℕ → Parts H L T M → Type 0
   Becomes old (item.Fault fault) routed text new =
       (routed ≡ []) × (text ≡ fault_text fault) × (new ≡ old)
   Becomes old (item.Request request) routed text new =
       (told : T) × records old.trails (Asked request) told
       × Answers request (record old { trails = told }) routed text new
 
-  abbrev pub IsTurn : Parts H L T → Turn → Parts H L T → Type 0
+  abbrev pub IsTurn : Parts H L T M → Turn → Parts H L T M → Type 0
   IsTurn old turn new = Becomes old turn.item turn.routed turn.text new

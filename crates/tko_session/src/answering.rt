@@ -17,17 +17,17 @@ use tko_text::{Key, Keys, Request};
 const VERSION: &[u8] = b"VERSION tkoproxy 1\r\n";
 
 /// Answers a request, and puts its reply at the end of the outbox.
-pub(crate) fn answer<R: IoRuntime, H: Health, L: Links, T: Trails>(
+pub(crate) fn answer<R: IoRuntime, H: Health, L: Links, T: Trails, M>(
     rt: &R,
     alloc: Global,
-    parts: &mut Parts<H, L, T>,
+    parts: &mut Parts<H, L, T, M>,
     targets: &mut Vec<usize>,
     outbox: &mut Outbox,
     request: Request,
 ) -> Result<(), NoMemory>
     requires reach { Reaches H.servers L.servers parts.old }
-    ensures ok { OnOk result (AnsweredInto H.steps L.exchanges L.sent T.records request
-        parts.old outbox.old parts.new outbox.new) }
+    ensures ok { OnOk result (AnsweredInto H.steps L.exchanges L.sent L.probed T.records
+        request parts.old outbox.old parts.new outbox.new) }
     ensures err { OnErr result (Extends outbox.old outbox.new) }
     ensures reach { Reaches H.servers L.servers parts.new }
 {
@@ -44,17 +44,17 @@ pub(crate) fn answer<R: IoRuntime, H: Health, L: Links, T: Trails>(
 }
 
 /// Answers a retrieval.
-fn answer_keys<R: IoRuntime, H: Health, L: Links, T: Trails>(
+fn answer_keys<R: IoRuntime, H: Health, L: Links, T: Trails, M>(
     rt: &R,
     alloc: Global,
-    parts: &mut Parts<H, L, T>,
+    parts: &mut Parts<H, L, T, M>,
     targets: &mut Vec<usize>,
     outbox: &mut Outbox,
     keys: Keys,
     unique: bool,
 ) -> Result<(), NoMemory>
     requires reach { Reaches H.servers L.servers parts.old }
-    ensures ok { OnOk result (AnsweredInto H.steps L.exchanges L.sent T.records
+    ensures ok { OnOk result (AnsweredInto H.steps L.exchanges L.sent L.probed T.records
         (retrieval keys unique) parts.old outbox.old parts.new outbox.new) }
     ensures err { OnErr result (Extends outbox.old outbox.new) }
     ensures reach { Reaches H.servers L.servers parts.new }
@@ -67,18 +67,18 @@ fn answer_keys<R: IoRuntime, H: Health, L: Links, T: Trails>(
 }
 
 /// Routes a request of one key.
-fn answer_key<R: IoRuntime, H: Health, L: Links, T: Trails>(
+fn answer_key<R: IoRuntime, H: Health, L: Links, T: Trails, M>(
     rt: &R,
     alloc: Global,
-    parts: &mut Parts<H, L, T>,
+    parts: &mut Parts<H, L, T, M>,
     targets: &mut Vec<usize>,
     outbox: &mut Outbox,
     request: &mut Request,
 ) -> Result<(), NoMemory>
     requires reach { Reaches H.servers L.servers parts.old }
     requires one { length (request_keys request.old) ≡ 1 }
-    ensures ok { OnOk result (AnsweredInto H.steps L.exchanges L.sent T.records request.old
-        parts.old outbox.old parts.new outbox.new) }
+    ensures ok { OnOk result (AnsweredInto H.steps L.exchanges L.sent L.probed T.records
+        request.old parts.old outbox.old parts.new outbox.new) }
     ensures err { OnErr result (Extends outbox.old outbox.new) }
     ensures reach { Reaches H.servers L.servers parts.new }
 {
@@ -91,10 +91,10 @@ fn answer_key<R: IoRuntime, H: Health, L: Links, T: Trails>(
 
 /// Routes keys one after another, each as a request of its own, until one gets no list of values:
 /// its reply is then that of all.
-fn answer_each<R: IoRuntime, H: Health, L: Links, T: Trails>(
+fn answer_each<R: IoRuntime, H: Health, L: Links, T: Trails, M>(
     rt: &R,
     alloc: Global,
-    parts: &mut Parts<H, L, T>,
+    parts: &mut Parts<H, L, T, M>,
     targets: &mut Vec<usize>,
     outbox: &mut Outbox,
     keys: Vec<Key>,
@@ -102,7 +102,7 @@ fn answer_each<R: IoRuntime, H: Health, L: Links, T: Trails>(
 ) -> Result<(), NoMemory>
     requires reach { Reaches H.servers L.servers parts.old }
     requires some { 0 < length keys.items }
-    ensures ok { OnOk result (AnsweredInto H.steps L.exchanges L.sent T.records
+    ensures ok { OnOk result (AnsweredInto H.steps L.exchanges L.sent L.probed T.records
         (retrieval keys.items unique) parts.old outbox.old parts.new outbox.new) }
     ensures err { OnErr result (Extends outbox.old outbox.new) }
     ensures reach { Reaches H.servers L.servers parts.new }
@@ -122,10 +122,10 @@ fn answer_each<R: IoRuntime, H: Health, L: Links, T: Trails>(
 /// Routes the next of several keys, and puts its values at the end of the outbox. If its response
 /// is no list of values, that takes the place of all replies after those that waited before the
 /// first key.
-fn answer_next<R: IoRuntime, H: Health, L: Links, T: Trails>(
+fn answer_next<R: IoRuntime, H: Health, L: Links, T: Trails, M>(
     rt: &R,
     alloc: Global,
-    parts: &mut Parts<H, L, T>,
+    parts: &mut Parts<H, L, T, M>,
     targets: &mut Vec<usize>,
     outbox: &mut Outbox,
     waiting: usize,
@@ -134,7 +134,7 @@ fn answer_next<R: IoRuntime, H: Health, L: Links, T: Trails>(
     requires reach { Reaches H.servers L.servers parts.old }
     requires waiting { waiting ≤ length outbox.old }
     ensures ok { IfOk result (λ listed. (key : List ℕ) → request_keys request.old ≡ key ∷ []
-        → IsNext H.steps L.exchanges L.sent T.records request.old key waiting listed
+        → IsNext H.steps L.exchanges L.sent L.probed T.records request.old key waiting listed
         parts.old outbox.old parts.new outbox.new) }
     ensures err { OnErr result (Extends (take waiting outbox.old) outbox.new) }
     ensures reach { Reaches H.servers L.servers parts.new }

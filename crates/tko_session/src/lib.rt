@@ -3,21 +3,27 @@
 //! - `Inlet` and `Outlet`: the two ends of a session; `Stop` is why a call moved no byte.
 //! - `Piped` and `Taped`: ends over std's readers and writers, and over memory.
 //! - `Parts`: what a session works on; `Trails` records each request and each trail.
+//! - `Probers`: which servers the session's failures marked, and when each is probed; `Moments` is
+//!   their clock, and `round` sends the probes that are due.
 //! - `Session`: one client's session between two pieces, and `Progress`, how far it answered. It
 //!   knows no socket.
-//! - `serve`: reads a piece, gives it to the session, and writes the replies; `piece_buffer`,
-//!   `read_piece` and `write_all` are its steps.
+//! - `serve`: reads a `Piece`, gives it to the session, writes the replies, and runs the rounds;
+//!   `piece_buffer`, `read_piece` and `write_all` are its steps.
 //! - `status`: the mark of each server as text.
 #![tactic(auto)]
 
 mod answering;
+mod elapsed;
 mod fault;
 mod io;
+mod moments;
 mod outbox;
 mod parts;
 mod pieces;
 mod piped;
+mod probers;
 mod requests;
+mod rounds;
 mod serving;
 mod session;
 mod status_text;
@@ -26,11 +32,15 @@ mod taped;
 mod trails;
 mod writing;
 
+pub use elapsed::Elapsed;
 pub use fault::SessionFault;
 pub use io::{Inlet, Outlet, Stop};
+pub use moments::{Listed, Moments, Still};
 pub use parts::Parts;
-pub use pieces::{piece_buffer, read_piece};
+pub use pieces::{Piece, piece_buffer, read_piece, wait_for_piece};
 pub use piped::Piped;
+pub use probers::{Probers, Slot};
+pub use rounds::round;
 pub use serving::serve;
 pub use session::{Progress, Report, Session};
 pub use status_text::status;
@@ -38,5 +48,7 @@ pub use taped::Taped;
 pub use trails::{Kept, Trails};
 pub use writing::write_all;
 
+#[cfg(test)]
+mod round_tests;
 #[cfg(test)]
 mod tests;

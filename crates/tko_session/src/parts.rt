@@ -1,10 +1,11 @@
 //! What a session works on.
-ghost use Rattle.std.specs.Prelude.{◌≡◌, ◌∷◌, [], List, ℕ, IfOk, OnOk};
+ghost use Rattle.std.specs.Prelude.{◌≡◌, ◌∷◌, [], List, ℕ, IfOk, OnErr, OnOk};
 ghost use Rattle.tko_pools.specs.Configs.{AreServers, targets_of};
-ghost use Rattle.tko_session.specs.Answering.{IsTried};
+ghost use Rattle.tko_session.specs.Answering.{IsCutShort, IsTried};
 ghost use Rattle.tko_session.specs.SessionState.{Reaches};
 ghost use Rattle.tko_session.specs.Turns.{request_keys};
 
+use crate::probers::Probers;
 use crate::requests::first_key;
 use std::alloc::Global;
 use tko_bytes::NoMemory;
@@ -13,19 +14,22 @@ use tko_pools::Config;
 use tko_route::{Health, Routed, route};
 use tko_text::Request;
 
-/// The health of the servers, the links to them, what records the trails, and the configuration,
-/// which chooses the targets of each key.
+/// The health of the servers, the links to them, what records the trails, the configuration, which
+/// chooses the targets of each key, the probers of marked servers, and their clock.
 #[derive(Drop)]
-pub struct Parts<H, L, T> {
+pub struct Parts<H, L, T, M> {
     pub health: H,
     pub links: L,
     pub trails: T,
     pub config: Config,
+    pub probers: Probers,
+    pub moments: M,
 }
 
-impl<H: Health, L: Links, T> Parts<H, L, T> {
+impl<H: Health, L: Links, T, M> Parts<H, L, T, M> {
     /// Sends a request of one key to one target of the key after another, until one answers. The
-    /// targets are put into a list, in place of what it held.
+    /// targets are put into a list, in place of what it held. The servers that the attempts marked
+    /// are going to be probed, also where memory ran out.
     pub(crate) fn route<R: IoRuntime>(
         &mut self,
         rt: &R,
@@ -35,13 +39,15 @@ impl<H: Health, L: Links, T> Parts<H, L, T> {
     ) -> Result<Routed, NoMemory>
         requires reach { Reaches H.servers L.servers self.old }
         ensures tried { IfOk result (λ routed. (key : List ℕ) → request_keys request.old ≡ key ∷ []
-            → IsTried H.steps L.exchanges L.sent request.old key
+            → IsTried H.steps L.exchanges L.sent L.probed request.old key
             self.old routed.trail self.new) }
+        ensures short { OnErr result ((key : List ℕ) → request_keys request.old ≡ key ∷ []
+            → IsCutShort H.steps L.exchanges L.sent request.old key self.old self.new) }
         ensures reach { Reaches H.servers L.servers self.new }
     {
         find_targets(&self.config, request, targets)?;
         let exptime = self.config.failover_exptime();
-        let Ok(routed) = route(
+        match route(
             rt,
             alloc,
             &mut self.health,
@@ -49,10 +55,16 @@ impl<H: Health, L: Links, T> Parts<H, L, T> {
             targets,
             request,
             exptime,
-        ) else {
-            return Err(NoMemory);
-        };
-        Ok(routed)
+        ) {
+            Ok(routed) => {
+                self.probers.note(routed.trail.attempts());
+                Ok(routed)
+            }
+            Err(fault) => {
+                self.probers.note(fault.trail.attempts());
+                Err(NoMemory)
+            }
+        }
     }
 }
 

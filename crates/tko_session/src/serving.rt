@@ -1,46 +1,53 @@
 //! One session over its two ends: a thin loop that moves bytes.
-ghost use Rattle.std.specs.Prelude.{◌≡◌, ◌≢◌, ◌<◌, ℕ, [], Err, IfOk, OnOk, OnErr, IsErrOf};
+ghost use Rattle.std.specs.Prelude.{◌≡◌, ◌≢◌, ◌<◌, ℕ, [], false, Err, IfOk, OnOk, OnErr, IsErrOf};
 ghost use Rattle.tko_text.specs.Reading.{Never};
 ghost use Rattle.tko_session.specs.Io.{capped};
-ghost use Rattle.tko_session.specs.Turns.{IsTurn};
-ghost use Rattle.tko_session.specs.SessionState.{Reaches, fed_state, pause_of, sent_by};
+ghost use Rattle.tko_session.specs.Events.{IsEvent, NoneMarked};
+ghost use Rattle.tko_session.specs.SessionState.{Reaches, fed_state, pause_of, probed_by, sent_by};
 ghost use Rattle.tko_session.specs.Served.{CameTooLong, Delivered, DeliveredPart, Served, StoppedByLine, StoppedByRead, StoppedByWrite, StoppedEarly};
 
 use crate::{
-    Inlet, Outlet, Parts, Progress, Report, Session, SessionFault, Trails, piece_buffer,
-    read_piece, write_all,
+    Inlet, Moments, Outlet, Parts, Piece, Progress, Report, Session, SessionFault, Trails,
+    piece_buffer, read_piece, write_all,
 };
 use std::alloc::Global;
 use tko_links::{IoRuntime, Links};
 use tko_route::Health;
 
 /// Serves one client, from the first byte of its input to the end or to `quit`.
-pub fn serve<R: IoRuntime, I: Inlet, O: Outlet, H: Health, L: Links, T: Trails>(
+pub fn serve<R: IoRuntime, I: Inlet, O: Outlet, H: Health, L: Links, T: Trails, M: Moments>(
     rt: &R,
     alloc: Global,
     reader: &mut I,
     writer: &mut O,
-    parts: &mut Parts<H, L, T>,
+    parts: &mut Parts<H, L, T, M>,
 ) -> Result<Report, SessionFault>
     requires reach { Reaches H.servers L.servers parts.old }
-    ensures ok { IfOk result (λ report. Served I.gives O.takes
-        (IsTurn H.steps L.exchanges L.sent T.records) (sent_by L.sent) I.is_ended
+    ensures ok { IfOk result (λ report. Served I.gives I.idles O.takes
+        (IsEvent H.steps L.exchanges L.sent L.probed T.records M.reads)
+        (sent_by L.sent) (probed_by L.probed) I.is_ended
         reader.old writer.old parts.old report reader.new writer.new parts.new) }
-    ensures read { IsErrOf result SessionFault.Read → StoppedByRead I.gives O.takes
-        (IsTurn H.steps L.exchanges L.sent T.records) (sent_by L.sent)
+    ensures read { IsErrOf result SessionFault.Read → StoppedByRead I.gives I.idles O.takes
+        (IsEvent H.steps L.exchanges L.sent L.probed T.records M.reads)
+        (sent_by L.sent) (probed_by L.probed)
         reader.old writer.old parts.old reader.new writer.new parts.new }
     ensures write { (written : ℕ) → IsErrOf result (SessionFault.Write written)
-        → StoppedByWrite I.gives O.takes
-        (IsTurn H.steps L.exchanges L.sent T.records) (sent_by L.sent)
+        → StoppedByWrite I.gives I.idles O.takes
+        (IsEvent H.steps L.exchanges L.sent L.probed T.records M.reads)
+        (sent_by L.sent) (probed_by L.probed)
         reader.old writer.old parts.old written reader.new writer.new }
     ensures too_long { IsErrOf result SessionFault.LineTooLong
         → CameTooLong I.gives reader.old reader.new }
-    ensures answered { IsErrOf result SessionFault.LineTooLong → StoppedByLine I.gives O.takes
-        (IsTurn H.steps L.exchanges L.sent T.records) (sent_by L.sent)
+    ensures answered { IsErrOf result SessionFault.LineTooLong → StoppedByLine I.gives I.idles O.takes
+        (IsEvent H.steps L.exchanges L.sent L.probed T.records M.reads)
+        (sent_by L.sent) (probed_by L.probed)
         reader.old writer.old parts.old reader.new writer.new parts.new }
-    ensures memory { IsErrOf result SessionFault.Memory → StoppedEarly I.gives O.takes
-        (IsTurn H.steps L.exchanges L.sent T.records) (sent_by L.sent)
+    ensures memory { IsErrOf result SessionFault.Memory → StoppedEarly I.gives I.idles O.takes
+        (IsEvent H.steps L.exchanges L.sent L.probed T.records M.reads)
+        (sent_by L.sent) (probed_by L.probed)
         reader.old writer.old parts.old reader.new writer.new }
+    // Each server that the session marked gets its prober, also where it ends by a fault.
+    ensures begun { NoneMarked parts.old.probers → NoneMarked parts.new.probers }
     // An end that failed ends the session.
     ensures calm_reader { OnOk result (I.failures reader.new ≡ I.failures reader.old) }
     ensures calm_writer { OnOk result (O.failures writer.new ≡ O.failures writer.old) }
@@ -54,24 +61,27 @@ pub fn serve<R: IoRuntime, I: Inlet, O: Outlet, H: Health, L: Links, T: Trails>(
     let mut session = Session::new(alloc);
     let mut written = 0;
     for _ in rt.forever() {
-        let Some(count) = read_piece(rt, reader, &mut buffer) else {
-            return Err(SessionFault::Read);
-        };
-        let ended = count == 0;
-        if ended {
-            return Ok(session.report());
-        }
-        let quit = serve_piece(
-            rt,
-            alloc,
-            &mut session,
-            writer,
-            parts,
-            &buffer[..count],
-            &mut written,
-        )?;
-        if quit {
-            return Ok(session.report_after_quit());
+        match read_piece(rt, reader, &mut buffer) {
+            Piece::Failed => return Err(SessionFault::Read),
+            Piece::Idle => parts.round(rt)?,
+            Piece::Bytes(count) => {
+                let ended = count == 0;
+                if ended {
+                    return Ok(session.report());
+                }
+                let quit = serve_piece(
+                    rt,
+                    alloc,
+                    &mut session,
+                    writer,
+                    parts,
+                    &buffer[..count],
+                    &mut written,
+                )?;
+                if quit {
+                    return Ok(session.report_after_quit());
+                }
+            }
         }
     }
     unreachable!()
@@ -79,28 +89,31 @@ pub fn serve<R: IoRuntime, I: Inlet, O: Outlet, H: Health, L: Links, T: Trails>(
 
 /// Gives a piece to the session, and writes the replies to all that it completes, also where the
 /// session then ends. Returns whether `quit` ended it.
-fn serve_piece<R: IoRuntime, O: Outlet, H: Health, L: Links, T: Trails>(
+fn serve_piece<R: IoRuntime, O: Outlet, H: Health, L: Links, T: Trails, M: Moments>(
     rt: &R,
     alloc: Global,
     session: &mut Session,
     writer: &mut O,
-    parts: &mut Parts<H, L, T>,
+    parts: &mut Parts<H, L, T, M>,
     piece: &[u8],
     written: &mut u64,
 ) -> Result<bool, SessionFault>
     requires reach { Reaches H.servers L.servers parts.old }
     requires outbox { session.old.outbox ≡ [] }
+    requires owes { session.old.owes ≡ false }
     requires reads { session.old.reading.after ≢ Never }
     ensures ok { IfOk result (λ quit. Delivered O.takes
-        (IsTurn H.steps L.exchanges L.sent T.records) (sent_by L.sent) (pause_of quit)
+        (IsEvent H.steps L.exchanges L.sent L.probed T.records M.reads)
+        (sent_by L.sent) (probed_by L.probed) 0 (pause_of quit)
         (fed_state session.old piece.now) writer.old written.old parts.old
         session.new writer.new written.new parts.new) }
     ensures too_long { IsErrOf result SessionFault.LineTooLong → Delivered O.takes
-        (IsTurn H.steps L.exchanges L.sent T.records) (sent_by L.sent) Progress.LineTooLong
+        (IsEvent H.steps L.exchanges L.sent L.probed T.records M.reads)
+        (sent_by L.sent) (probed_by L.probed) 0 Progress.LineTooLong
         (fed_state session.old piece.now) writer.old written.old parts.old
         session.new writer.new written.new parts.new }
     ensures err { OnErr result (DeliveredPart O.takes
-        (IsTurn H.steps L.exchanges L.sent T.records)
+        (IsEvent H.steps L.exchanges L.sent L.probed T.records M.reads)
         (fed_state session.old piece.now) writer.old written.old parts.old
         writer.new written.new) }
     ensures calm { OnOk result (O.failures writer.new ≡ O.failures writer.old) }
@@ -108,6 +121,7 @@ fn serve_piece<R: IoRuntime, O: Outlet, H: Health, L: Links, T: Trails>(
     ensures failed { (n : ℕ) → IsErrOf result (SessionFault.Write n)
         → O.failures writer.old < O.failures writer.new }
     ensures never_read { result ≢ Err SessionFault.Read }
+    ensures begun { NoneMarked parts.old.probers → NoneMarked parts.new.probers }
     ensures reach { Reaches H.servers L.servers parts.new }
 {
     session.take(piece)?;
@@ -122,37 +136,45 @@ fn serve_piece<R: IoRuntime, O: Outlet, H: Health, L: Links, T: Trails>(
     unreachable!()
 }
 
-/// Answers items until the replies reach their bound or none is left, and writes the replies. A
-/// write error takes precedence over running out of memory.
-fn deliver<R: IoRuntime, O: Outlet, H: Health, L: Links, T: Trails>(
+/// Answers items until the replies reach their bound, a round is owed or no item is left, writes the
+/// replies, and then runs the owed round, since a probe may take long. The round is run after a
+/// fault too. A write error takes precedence over running out of memory.
+fn deliver<R: IoRuntime, O: Outlet, H: Health, L: Links, T: Trails, M: Moments>(
     rt: &R,
     alloc: Global,
     session: &mut Session,
     writer: &mut O,
-    parts: &mut Parts<H, L, T>,
+    parts: &mut Parts<H, L, T, M>,
     written: &mut u64,
 ) -> Result<Progress, SessionFault>
     requires reach { Reaches H.servers L.servers parts.old }
     requires outbox { session.old.outbox ≡ [] }
+    requires owes { session.old.owes ≡ false }
     ensures ok { IfOk result (λ progress. Delivered O.takes
-        (IsTurn H.steps L.exchanges L.sent T.records) (sent_by L.sent) progress
+        (IsEvent H.steps L.exchanges L.sent L.probed T.records M.reads)
+        (sent_by L.sent) (probed_by L.probed) 0 progress
         session.old writer.old written.old parts.old
         session.new writer.new written.new parts.new) }
     ensures err { OnErr result (DeliveredPart O.takes
-        (IsTurn H.steps L.exchanges L.sent T.records)
+        (IsEvent H.steps L.exchanges L.sent L.probed T.records M.reads)
         session.old writer.old written.old parts.old writer.new written.new) }
     ensures calm { OnOk result (O.failures writer.new ≡ O.failures writer.old) }
     ensures counted { (n : ℕ) → IsErrOf result (SessionFault.Write n) → n ≡ capped written.new }
     ensures failed { (n : ℕ) → IsErrOf result (SessionFault.Write n)
         → O.failures writer.old < O.failures writer.new }
     ensures never_read { result ≢ Err SessionFault.Read }
+    ensures begun { NoneMarked parts.old.probers → NoneMarked parts.new.probers }
     ensures never_too_long { result ≢ Err SessionFault.LineTooLong }
     ensures reach { Reaches H.servers L.servers parts.new }
 {
     let answered = session.answer(rt, alloc, parts);
-    if !write_all(rt, writer, session.outbox(), written) {
+    let wrote = write_all(rt, writer, session.outbox(), written);
+    let rounded = session.run_owed_round(rt, parts);
+    if !wrote {
         return Err(SessionFault::Write(*written));
     }
     session.clear_outbox();
-    Ok(answered?)
+    let progress = answered?;
+    rounded?;
+    Ok(progress)
 }

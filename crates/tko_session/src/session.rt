@@ -1,14 +1,14 @@
 //! One client's session between two pieces of its input.
-ghost use Rattle.std.specs.Prelude.{◌≡◌, ◌≢◌, ◌≤◌, ◌<◌, ◌↔◌, ◌++◌, [], Ok, OnOk, OnErr, IfOk, IfSome, IfNone, IsErrOf, length};
+ghost use Rattle.std.specs.Prelude.{◌≡◌, ◌≢◌, ◌≤◌, ◌<◌, ◌↔◌, ◌++◌, [], false, true, Ok, OnOk, OnErr, IfOk, IfSome, IfNone, IsErrOf, length};
 ghost use Rattle.std.specs.Option.{option_copied};
 ghost use Rattle.tko_text.specs.Reading.{Emits, NeedsMore, Never, fed};
 ghost use Rattle.tko_text.specs.Requests.{fault_text};
-ghost use Rattle.tko_session.specs.Turns.{IsTurn};
-ghost use Rattle.tko_session.specs.SessionState.{Answered, AnsweredPart, Reaches, Replied, fed_state, fresh, progress_after, progress_of, reply_bound, sent_by};
+ghost use Rattle.tko_session.specs.Events.{IsEvent, IsRun, NoneMarked};
+ghost use Rattle.tko_session.specs.SessionState.{Answered, AnsweredPart, Reaches, Replied, fed_state, fresh, probed_by, progress_after, progress_of, reply_bound, sent_by};
 
 use crate::answering::answer;
 use crate::outbox::Outbox;
-use crate::{Parts, Trails};
+use crate::{Moments, Parts, Trails};
 use std::alloc::Global;
 use std::marker::Model;
 use tko_bytes::NoMemory;
@@ -28,7 +28,7 @@ pub struct Report {
 /// How far a session answered what it read.
 #[derive(Clone, Copy, Debug, PartialEq, Eq)]
 pub enum Progress {
-    /// There may be more to answer, once the replies were written.
+    /// There may be more to answer, once the replies were written and the owed round was run.
     More,
     /// Everything that is decided was answered: the session needs the next piece.
     NeedsInput,
@@ -38,13 +38,15 @@ pub enum Progress {
     Quit,
 }
 
-/// One client's session: the reader of its bytes, the replies that wait to be written, and the
-/// number of its requests. It keeps the room for a key's targets, which contracts do not see.
+/// One client's session: the reader of its bytes, the replies that wait to be written, the number of
+/// its requests, and whether it owes the round after the last one. It keeps the room for a key's
+/// targets, which contracts do not see.
 #[derive(Drop)]
 pub struct Session {
     reader: Reader,
     outbox: Outbox,
     requests: u64,
+    owes: bool,
     targets: Vec<usize>,
 }
 
@@ -57,6 +59,7 @@ impl Model for Session {
       reading = s.reader;
       outbox = s.outbox;
       requests = s.requests;
+      owes = s.owes;
     } };
 }
 
@@ -68,6 +71,7 @@ impl Session {
             reader: Reader::new(alloc),
             outbox: Outbox::new(alloc),
             requests: 0,
+            owes: false,
             targets: Vec::new(alloc),
         }
     }
@@ -118,24 +122,34 @@ impl Session {
         self.reader.feed(piece)
     }
 
-    /// Answers the items that are decided, in order, until none is left or until the replies that
-    /// wait reach their bound.
-    pub fn answer<R: IoRuntime, H: Health, L: Links, T: Trails>(
+    /// Answers the items that are decided, in order, until none is left, until the replies that wait
+    /// reach their bound, or until a round is owed that may take long. The round after a request is
+    /// run at once while no prober is at work.
+    pub fn answer<R: IoRuntime, H: Health, L: Links, T: Trails, M: Moments>(
         &mut self,
         rt: &R,
         alloc: Global,
-        parts: &mut Parts<H, L, T>,
+        parts: &mut Parts<H, L, T, M>,
     ) -> Result<Progress, NoMemory>
         requires reach { Reaches H.servers L.servers parts.old }
+        requires owes { self.old.owes ≡ false }
         ensures ok { IfOk result (λ progress. Answered
-            (IsTurn H.steps L.exchanges L.sent T.records) (sent_by L.sent) progress
+            (IsEvent H.steps L.exchanges L.sent L.probed T.records M.reads)
+            (sent_by L.sent) (probed_by L.probed) progress
             self.old parts.old self.new parts.new) }
-        ensures full { result ≡ Ok Progress.More → reply_bound ≤ length self.new.outbox }
-        ensures err { OnErr result (AnsweredPart (IsTurn H.steps L.exchanges L.sent T.records)
+        ensures full { result ≡ Ok Progress.More → self.new.owes ≡ false
+            → reply_bound ≤ length self.new.outbox }
+        ensures err { OnErr result (AnsweredPart
+            (IsEvent H.steps L.exchanges L.sent L.probed T.records M.reads)
             self.old parts.old self.new) }
+        ensures begun { NoneMarked parts.old.probers → self.new.owes ≡ false
+            → NoneMarked parts.new.probers }
         ensures reach { Reaches H.servers L.servers parts.new }
     {
         for _ in rt.forever() {
+            if self.owes {
+                return Ok(Progress::More);
+            }
             if self.outbox.is_full() {
                 return Ok(Progress::More);
             }
@@ -149,26 +163,59 @@ impl Session {
         unreachable!()
     }
 
+    /// Runs the round that is owed, if one is.
+    pub fn run_owed_round<R: IoRuntime, H: Health, L: Links, T, M: Moments>(
+        &mut self,
+        rt: &R,
+        parts: &mut Parts<H, L, T, M>,
+    ) -> Result<(), NoMemory>
+        requires reach { Reaches H.servers L.servers parts.old }
+        ensures round { IsRun H.steps L.exchanges L.sent L.probed M.reads self.old.owes
+            parts.old parts.new }
+        ensures none_owed { self.new ≡ record self.old { owes = false } }
+        ensures begun { self.old.owes ≡ true → NoneMarked parts.new.probers }
+        ensures reach { Reaches H.servers L.servers parts.new }
+    {
+        if !self.owes {
+            return Ok(());
+        }
+        self.owes = false;
+        parts.round(rt)
+    }
+
     /// Answers the next item, if one is decided.
-    fn answer_next<R: IoRuntime, H: Health, L: Links, T: Trails>(
+    fn answer_next<R: IoRuntime, H: Health, L: Links, T: Trails, M: Moments>(
         &mut self,
         rt: &R,
         alloc: Global,
-        parts: &mut Parts<H, L, T>,
+        parts: &mut Parts<H, L, T, M>,
     ) -> Result<Progress, NoMemory>
         requires reach { Reaches H.servers L.servers parts.old }
+        requires owes { self.old.owes ≡ false }
         requires room { length self.old.outbox < reply_bound }
         ensures ok { IfOk result (λ progress. Answered
-            (IsTurn H.steps L.exchanges L.sent T.records) (sent_by L.sent) progress
+            (IsEvent H.steps L.exchanges L.sent L.probed T.records M.reads)
+            (sent_by L.sent) (probed_by L.probed) progress
             self.old parts.old self.new parts.new) }
         ensures more { result ≡ Ok Progress.More → ¬ NeedsMore self.old.reading }
-        ensures err { OnErr result (self.new.outbox ≡ self.old.outbox) }
+        ensures err { OnErr result (AnsweredPart
+            (IsEvent H.steps L.exchanges L.sent L.probed T.records M.reads)
+            self.old parts.old self.new) }
+        ensures begun { NoneMarked parts.old.probers → self.new.owes ≡ false
+            → NoneMarked parts.new.probers }
         ensures reach { Reaches H.servers L.servers parts.new }
     {
         match self.next()? {
             None => Ok(Progress::NeedsInput),
             Some(Item::Fault(fault)) => self.answer_fault(fault),
-            Some(Item::Request(request)) => self.answer_request(rt, alloc, parts, request),
+            Some(Item::Request(request)) => {
+                let progress = self.answer_request(rt, alloc, parts, request)?;
+                if !parts.probers.is_quiet() {
+                    return Ok(progress);
+                }
+                self.run_owed_round(rt, parts)?;
+                Ok(progress)
+            }
         }
     }
 
@@ -200,21 +247,22 @@ impl Session {
         }
     }
 
-    /// Records a request and answers it.
-    fn answer_request<R: IoRuntime, H: Health, L: Links, T: Trails>(
+    /// Records a request and answers it, and then owes its round.
+    fn answer_request<R: IoRuntime, H: Health, L: Links, T: Trails, M>(
         &mut self,
         rt: &R,
         alloc: Global,
-        parts: &mut Parts<H, L, T>,
+        parts: &mut Parts<H, L, T, M>,
         request: Request,
     ) -> Result<Progress, NoMemory>
         requires reach { Reaches H.servers L.servers parts.old }
-        ensures ok { OnOk result (Replied H.steps L.exchanges L.sent T.records
+        ensures ok { OnOk result (Replied H.steps L.exchanges L.sent L.probed T.records
             self.old parts.old request self.new parts.new) }
         ensures progress { IfOk result (λ progress. progress ≡ progress_of request) }
-        ensures err { OnErr result (self.new ≡ self.old) }
+        ensures err { OnErr result (self.new ≡ record self.old { owes = true }) }
         ensures reach { Reaches H.servers L.servers parts.new }
     {
+        self.owes = true;
         parts.trails.request(rt, &request)?;
         let progress = progress_of(&request);
         let waiting = self.outbox.len();

@@ -9,7 +9,7 @@ abbrev pub invariant-loop-key : goal.invariant-loop-key
 invariant-loop-key g l =
     (goal.iterator-loop-key g).can_next l.key-iterator
     × (goal.iterator-loop-key g).is_finite l.key-iterator
-    × JoinsOn g.H.Health.steps g.L.Links.exchanges g.L.Links.sent g.T.Trails.records
+    × JoinsOn g.H.Health.steps g.L.Links.exchanges g.L.Links.sent g.L.Links.probed g.T.Trails.records
     (retrieval l.fn.keys.items l.unique) l.fn.keys.items (into_iter_items l.key-iterator)
     l.fn.parts l.fn.outbox l.parts l.outbox
     × (l.waiting ≡ length l.fn.outbox)

@@ -1,22 +1,24 @@
-use Rattle.std.proofs.Common.{[], arith}
+use Rattle.std.proofs.Common.{[], Ok, ap, arith}
 use Rattle.tko_session.proofs.pieces.read_piece.Goals as goal
 
-pub returns-in-Ok-clause-gives : goal.returns-in-Ok-clause-gives
-returns-in-Ok-clause-gives g c = g.met.I.Inlet.goes_on _ _ _ [] _ c.loop.invariant.0 c.in-Ok.ensures.gives
+pub returns-in-Ok-clause-piece : goal.returns-in-Ok-clause-piece
+returns-in-Ok-clause-piece g c = record {
+  within = c.in-Ok.ensures.within;
+  bytes = g.met.I.Inlet.goes_on _ _ _ [] _ c.loop.invariant.0 c.in-Ok.ensures.gives;
+  ended = λ none. c.in-Ok.ensures.ended (ap Ok none) (omega (arith, c.requires, c.read.auto.buffer));
+}
 
-pub loop-preserved-in-Err-Again : goal.loop-preserved-in-Err-Again
-loop-preserved-in-Err-Again g c =
-    let calm = rw c.in-Err-Again.field-0-is at c.in-Err-Again.ensures.failures in (
-      g.met.I.Inlet.goes_on _ _ _ [] [] c.loop.invariant.0 c.in-Err-Again.ensures.gives,
-      omega (arith, calm, c.loop.invariant.1),
-    )
+pub returns-in-Err-Fault-clause-piece : goal.returns-in-Err-Fault-clause-piece
+returns-in-Err-Fault-clause-piece g c = g.met.I.Inlet.goes_on _ _ _ [] [] c.loop.invariant.0 c.in-Err-Fault.ensures.gives
+
+pub returns-in-Err-Idle-clause-piece : goal.returns-in-Err-Idle-clause-piece
+returns-in-Err-Idle-clause-piece g c = g.met.I.Inlet.goes_on _ _ _ [] [] c.loop.invariant.0 c.in-Err-Idle.ensures.gives
 
 pub loop-preserved : goal.loop-preserved
 loop-preserved g c =
-    let calm = rw c.in-Err-Idle.field-0-is at c.in-Err-Idle.ensures.failures in (
-      g.met.I.Inlet.goes_on _ _ _ [] [] c.loop.invariant.0 c.in-Err-Idle.ensures.gives,
+    let calm = rw c.in-Err-Again.field-0-is at c.in-Err-Again.ensures.failures in
+    let busy = rw c.in-Err-Again.field-0-is at c.in-Err-Again.ensures.idles in (
+      g.met.I.Inlet.goes_on _ _ _ [] [] c.loop.invariant.0 c.in-Err-Again.ensures.gives,
       omega (arith, calm, c.loop.invariant.1),
+      omega (arith, busy, c.loop.invariant.2),
     )
-
-pub returns-in-Err-Fault-clause-none : goal.returns-in-Err-Fault-clause-none
-returns-in-Err-Fault-clause-none g c = g.met.I.Inlet.goes_on _ _ _ [] [] c.loop.invariant.0 c.in-Err-Fault.ensures.gives

@@ -1,20 +1,59 @@
-use Rattle.std.proofs.Common.{[], take, drop, sym, ◌∙◌, append-nil}
+use Rattle.std.proofs.Common.{◌≡◌, [], ap, drop, subst, sym, take, ◌∙◌, append-nil}
 use Rattle.std.proofs.lemmas.List.{take-append-drop}
+use Rattle.tko_session.specs.Io.{Writes}
+use Rattle.tko_session.proofs.EventLemmas.{begun_paid}
 use Rattle.tko_session.proofs.ResultLemmas.{either_way, on_err}
-use Rattle.tko_session.proofs.ServedLemmas.{part_of, part_delivered}
+use Rattle.tko_session.proofs.ServedLemmas.{delivered_of, part_delivered}
+use Rattle.tko_session.proofs.TurnLemmas.{answered_paid, part_of}
 use Rattle.tko_session.proofs.serving.deliver.Goals as goal
 
-pub returns-then-not-write_all-clause-err : goal.returns-then-not-write_all-clause-err
-returns-then-not-write_all-clause-err g c =
+pub returns-then-not-wrote-clause-err : goal.returns-then-not-wrote-clause-err
+returns-then-not-wrote-clause-err g c =
     let answer = c.answer-answered.ensures in
     let part = either_way c.answer-answered.result answer.ok answer.err (λ progress answered. part_of answered) in
-    let wrote = c.if-not-write_all.ensures.part in
+    let wrote = rw c.if-not-wrote.true at c.write_all-wrote.ensures.part in
     let text = c.outbox.result.now in
     part_delivered (take wrote.count text) (drop wrote.count text) part c.requires.outbox
     (sym c.outbox.ensures ∙ sym (take-append-drop wrote.count text)) wrote.front
 
-pub returns-in_err-answered-clause-err : goal.returns-in_err-answered-clause-err
-returns-in_err-answered-clause-err g c =
+pub returns-then-not-wrote-clause-begun : goal.returns-then-not-wrote-clause-begun
+returns-then-not-wrote-clause-begun g c = λ begun.
+    begun_paid _ (c.answer-answered.ensures.begun begun) c.run_owed_round-rounded.ensures.round
+
+pub returns-in_err-progress-clause-err : goal.returns-in_err-progress-clause-err
+returns-in_err-progress-clause-err g c =
+    let wrote = rw c.if-not-wrote.false at c.write_all-wrote.ensures.all in
     let text = c.outbox.result.now in
-    on_err _ (part_delivered text [] c.in_err-answered.ensures.err c.requires.outbox
-    (sym c.outbox.ensures ∙ sym (append-nil text)) c.if-not-write_all.ensures.all)
+    on_err _ (part_delivered text [] c.in_err-progress.ensures.err c.requires.outbox
+    (sym c.outbox.ensures ∙ sym (append-nil text)) wrote)
+
+pub returns-in_err-progress-clause-begun : goal.returns-in_err-progress-clause-begun
+returns-in_err-progress-clause-begun g c = λ begun.
+    begun_paid _ (c.answer-answered.ensures.begun begun) c.run_owed_round-rounded.ensures.round
+
+pub returns-in_err-rounded-clause-err : goal.returns-in_err-rounded-clause-err
+returns-in_err-rounded-clause-err g c =
+    let wrote = rw c.if-not-wrote.false at c.write_all-wrote.ensures.all in
+    let run = c.run_owed_round-rounded.ensures in
+    let text = c.outbox.result.now in
+    let same = ap (λ s. s.outbox) run.none_owed ∙ sym c.outbox.ensures in
+    on_err _ (part_delivered text [] (part_of (answered_paid {records = g.T.Trails.records} c.in_ok-progress.ensures.ok run.round run.none_owed)) c.requires.outbox
+    (same ∙ sym (append-nil text)) wrote)
+
+pub returns-in_err-rounded-clause-begun : goal.returns-in_err-rounded-clause-begun
+returns-in_err-rounded-clause-begun g c = λ begun.
+    begun_paid _ (c.answer-answered.ensures.begun begun) c.run_owed_round-rounded.ensures.round
+
+pub returns-clause-ok : goal.returns-clause-ok
+returns-clause-ok g c =
+    let wrote = rw c.if-not-wrote.false at c.write_all-wrote.ensures.all in
+    let run = c.run_owed_round-rounded.ensures in
+    let same = ap (λ s. s.outbox) run.none_owed ∙ sym c.outbox.ensures in
+    let text = subst (λ text. Writes g.O.Outlet.takes c.args.writer.now text c.write_all-wrote.new.writer c.args.written.now c.write_all-wrote.new.written)
+    (sym same) wrote in
+    delivered_of (answered_paid {records = g.T.Trails.records} c.in_ok-progress.ensures.ok run.round run.none_owed) c.requires.outbox
+    (ap (λ s. s.owes) run.none_owed) text c.clear_outbox.ensures
+
+pub returns-clause-begun : goal.returns-clause-begun
+returns-clause-begun g c = λ begun.
+    begun_paid _ (c.answer-answered.ensures.begun begun) c.run_owed_round-rounded.ensures.round

@@ -11,8 +11,8 @@ returns-in_err-take-clause-err g c =
 pub loop-init : goal.loop-init
 loop-init g c =
     let none = delivered_none (fed_state c.args.session.now c.args.piece.now) c.args.writer.now c.args.written.now c.args.parts.now
-    (g.met.O.Outlet.nothing c.args.writer.now) c.requires.outbox in
-    (rw c.in_ok-take.ensures.ok none, refl, c.requires.reach)
+    (g.met.O.Outlet.nothing c.args.writer.now) c.requires.outbox c.requires.owes in
+    (rw c.in_ok-take.ensures.ok none, refl, c.requires.reach, λ begun. begun)
 
 pub returns-in_err-deliver-clause-err : goal.returns-in_err-deliver-clause-err
 returns-in_err-deliver-clause-err g c =
@@ -24,6 +24,7 @@ loop-preserved g c =
       delivered_append g.met.O.Outlet.goes_on c.loop.invariant.0 more,
       c.in_ok-deliver.ensures.calm ∙ c.loop.invariant.1,
       c.in_ok-deliver.ensures.reach,
+      λ begun. c.in_ok-deliver.ensures.begun (c.loop.invariant.3 begun),
     )
 
 pub returns-in-NeedsInput-clause-ok : goal.returns-in-NeedsInput-clause-ok

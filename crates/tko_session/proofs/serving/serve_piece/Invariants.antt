@@ -1,14 +1,16 @@
 use Rattle.std.proofs.Common.{◌≡◌}
 use Rattle.tko_session.specs.declared.session.Progress.TheVariants.{More}
-use Rattle.tko_session.specs.Turns.{IsTurn}
-use Rattle.tko_session.specs.SessionState.{Reaches, fed_state, sent_by}
+use Rattle.tko_session.specs.Events.{IsEvent, NoneMarked}
+use Rattle.tko_session.specs.SessionState.{Reaches, fed_state, probed_by, sent_by}
 use Rattle.tko_session.specs.Served.{Delivered}
 use Rattle.tko_session.proofs.serving.serve_piece.Given as goal
 
 abbrev pub invariant-loop : goal.invariant-loop
 invariant-loop g l =
     Delivered g.O.Outlet.takes
-    (IsTurn g.H.Health.steps g.L.Links.exchanges g.L.Links.sent g.T.Trails.records) (sent_by g.L.Links.sent) More
+    (IsEvent g.H.Health.steps g.L.Links.exchanges g.L.Links.sent g.L.Links.probed g.T.Trails.records g.M.Moments.reads)
+    (sent_by g.L.Links.sent) (probed_by g.L.Links.probed) 0 More
     (fed_state l.fn.session l.piece) l.fn.writer l.fn.written l.fn.parts l.session l.writer l.written l.parts
     × (g.O.Outlet.failures l.writer ≡ g.O.Outlet.failures l.fn.writer)
     × Reaches g.H.Health.servers g.L.Links.servers l.parts
+    × (NoneMarked l.fn.parts.probers → NoneMarked l.parts.probers)

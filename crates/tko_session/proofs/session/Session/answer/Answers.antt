@@ -1,18 +1,23 @@
+use Rattle.std.proofs.Common.{◌≡◌, false, ap, sym, ◌∙◌}
+use Rattle.tko_session.specs.SessionState.{SessionState}
 use Rattle.tko_session.proofs.ResultLemmas.{on_err}
-use Rattle.tko_session.proofs.TurnLemmas.{answered_none, answered_append, part_none, part_after}
+use Rattle.tko_session.proofs.TurnLemmas.{answered_none, answered_append, part_after}
 use Rattle.tko_session.proofs.session.Session.answer.Goals as goal
 
 pub loop-init : goal.loop-init
-loop-init g c = (answered_none c.args.self.now c.args.parts.now, c.requires.reach)
+loop-init g c = (answered_none c.args.self.now c.args.parts.now, c.requires.reach, λ begun none. begun)
 
 pub returns-in_err-answer_next-clause-err : goal.returns-in_err-answer_next-clause-err
 returns-in_err-answer_next-clause-err g c =
-    on_err _ (part_after c.loop.invariant.0 (part_none _ _ c.loop.parts c.in_err-answer_next.ensures.err))
+    on_err _ (part_after c.loop.invariant.0 c.in_err-answer_next.ensures.err)
 
 pub loop-preserved : goal.loop-preserved
 loop-preserved g c =
-    let more = rw c.in-More.is at c.in_ok-answer_next.ensures.ok in
-    (answered_append c.loop.invariant.0 more, c.in_ok-answer_next.ensures.reach)
+    let more = rw c.in-More.is at c.in_ok-answer_next.ensures.ok in (
+      answered_append c.loop.invariant.0 more,
+      c.in_ok-answer_next.ensures.reach,
+      λ begun none. c.in_ok-answer_next.ensures.begun (c.loop.invariant.2 begun (sym (ap (λ (s : SessionState). s.owes) c.self.view_is) ∙ c.if-self.false)) none,
+    )
 
 pub returns-in-NeedsInput-clause-ok : goal.returns-in-NeedsInput-clause-ok
 returns-in-NeedsInput-clause-ok g c =

@@ -1,10 +1,12 @@
 use Rattle.tko_session.specs.declared.session.Progress.TheVariants.{More}
-use Rattle.tko_session.specs.Turns.{IsTurn}
-use Rattle.tko_session.specs.SessionState.{Answered, Reaches, sent_by}
+use Rattle.std.proofs.Common.{◌≡◌, false}
+use Rattle.tko_session.specs.Events.{IsEvent, NoneMarked}
+use Rattle.tko_session.specs.SessionState.{Answered, Reaches, probed_by, sent_by}
 use Rattle.tko_session.proofs.session.Session.answer.Given as goal
 
 abbrev pub invariant-loop : goal.invariant-loop
 invariant-loop g l =
-    Answered (IsTurn g.H.Health.steps g.L.Links.exchanges g.L.Links.sent g.T.Trails.records) (sent_by g.L.Links.sent)
-    More l.fn.self l.fn.parts l.self l.parts
+    Answered (IsEvent g.H.Health.steps g.L.Links.exchanges g.L.Links.sent g.L.Links.probed g.T.Trails.records g.M.Moments.reads)
+    (sent_by g.L.Links.sent) (probed_by g.L.Links.probed) More l.fn.self l.fn.parts l.self l.parts
     × Reaches g.H.Health.servers g.L.Links.servers l.parts
+    × (NoneMarked l.fn.parts.probers → l.self.owes ≡ false → NoneMarked l.parts.probers)

@@ -1,0 +1,102 @@
+-- What a session does, in order: it answers items, and runs rounds of its probers.
+use Rattle.std.specs.Prelude.{◌≡◌, ℕ, ◌+◌, Bool, true, false, List, [], ◌∷◌, count_by, flat_map, MatchBool, Option, Some, None}
+use Rattle.tko_model.specs.Records.{HealthItem}
+use Rattle.tko_links.specs.Links.{LinksItem}
+use Rattle.tko_session.specs.declared.parts.Parts.{Parts}
+use Rattle.tko_session.specs.declared.probers.Slot.{Slot}
+use Rattle.tko_session.specs.declared.probers.Slot.TheVariants.{Quiet, Marked, Probing}
+use Rattle.tko_session.specs.Probers.{ProbersState}
+use Rattle.tko_session.specs.Round.{IsRound, Visit, probes_in}
+use Rattle.tko_session.specs.TrailEvents.{TrailEvent}
+use Rattle.tko_session.specs.Turns.{Turn, IsTurn, is_request}
+
+-- an item and what became of it, the round after a request, or the round at an idle turn of the
+-- reader; a round with its visit of each server
+pub data Event : Type 0 where
+  Answer : Turn → Event
+  RoundAfter : List Visit → Event
+  IdleRound : List Visit → Event
+
+abbrev pub turn_in : Event → List Turn
+turn_in (Answer turn) = turn ∷ []
+turn_in (RoundAfter visits) = []
+turn_in (IdleRound visits) = []
+
+abbrev pub visits_in : Event → List Visit
+visits_in (Answer turn) = []
+visits_in (RoundAfter visits) = visits
+visits_in (IdleRound visits) = visits
+
+abbrev pub is_idle_round : Event → Bool
+is_idle_round (Answer turn) = false
+is_idle_round (RoundAfter visits) = false
+is_idle_round (IdleRound visits) = true
+
+-- the items that were answered, and what became of each
+abbrev pub turns_of : List Event → List Turn
+turns_of events = flat_map turn_in events
+
+-- the visits of all rounds
+abbrev pub visits_of : List Event → List Visit
+visits_of events = flat_map visits_in events
+
+-- how many rounds were run at idle turns
+abbrev pub idle_rounds : List Event → ℕ
+idle_rounds events = count_by is_idle_round events
+
+-- whether a round is owed after an event, where one is owed before it or is not: a request owes a
+-- round, the next event is that round, and it owes none. No other event may come there.
+abbrev pub owed_then : Bool → Event → Option Bool
+owed_then false (Answer turn) = Some (is_request turn.item)
+owed_then false (IdleRound visits) = Some false
+owed_then true (RoundAfter visits) = Some false
+owed_then _ _ = None
+
+abbrev pub owed_from : Option Bool → List Event → Option Bool
+owed_from None events = None
+owed_from (Some owed) [] = Some owed
+owed_from (Some owed) (event ∷ events) = owed_from (owed_then owed event) events
+
+-- whether a round is owed after these events; none of them may come elsewhere
+abbrev pub owed_after : Bool → List Event → Option Bool
+owed_after owed events = owed_from (Some owed) events
+
+module _ {H L T M : Type 0} (steps : H → HealthItem → H → Type 0)
+    (exchanges : L → LinksItem → L → Type 0) (sent probed : L → ℕ → ℕ)
+    (records : T → TrailEvent → T → Type 0) (reads : M → ℕ → M → Type 0) where
+  -- a round with these visits
+  pub record IsRoundOf (visits : List Visit) (old new : Parts H L T M) : Type 0 where
+    pub short : Bool
+    pub round : IsRound steps exchanges probed reads old short new
+    pub visited : round.visits ≡ visits
+
+  -- what an event changes
+  abbrev pub IsEvent : Parts H L T M → Event → Parts H L T M → Type 0
+  IsEvent old (Answer turn) new = IsTurn steps exchanges sent records old turn new
+  IsEvent old (RoundAfter visits) new = IsRoundOf visits old new
+  IsEvent old (IdleRound visits) new = IsRoundOf visits old new
+
+-- a round was run, and nothing was sent to a server but its probes
+pub record Rounded {H L T M : Type 0} (steps : H → HealthItem → H → Type 0)
+    (exchanges : L → LinksItem → L → Type 0) (sent probed : L → ℕ → ℕ)
+    (reads : M → ℕ → M → Type 0) (old new : Parts H L T M) : Type 0 where
+  pub short : Bool
+  pub round : IsRound steps exchanges probed reads old short new
+  pub sends : (server : ℕ) → sent new.links server ≡ sent old.links server
+
+-- a round was run where one was owed, and else nothing was done
+pub record IsRun {H L T M : Type 0} (steps : H → HealthItem → H → Type 0)
+    (exchanges : L → LinksItem → L → Type 0) (sent probed : L → ℕ → ℕ)
+    (reads : M → ℕ → M → Type 0) (owes : Bool) (old new : Parts H L T M) : Type 0 where
+  pub ran : MatchBool owes (Rounded steps exchanges sent probed reads old new) (new ≡ old)
+
+-- no server waits for its prober
+abbrev pub AreBegun : List Slot → Type 0
+AreBegun [] = Unit {0}
+AreBegun (Quiet ∷ slots) = AreBegun slots
+AreBegun (Marked ∷ slots) = ⊥
+AreBegun (Probing prober ∷ slots) = AreBegun slots
+
+-- each server that the session marked has its prober
+pub record NoneMarked (probers : ProbersState) : Type 0 where
+  pub begun : AreBegun probers.slots

@@ -1,0 +1,143 @@
+//! A round: each marked server gets its prober, and each prober is stopped, rests or probes once.
+ghost use Rattle.std.specs.Prelude.{◌≡◌, ◌<◌, ℕ, is_err, length};
+ghost use Rattle.tko_prober.specs.Probes.{asked_after};
+ghost use Rattle.tko_route.specs.Trail.{IsRecorded};
+ghost use Rattle.tko_session.specs.Probers.{op_asked, probed_of, slot_after};
+ghost use Rattle.tko_session.specs.Round.{AreVisited, IsRound, IsVisited};
+ghost use Rattle.tko_session.specs.SessionState.{Reaches};
+
+use crate::probers::Slot;
+use crate::{Moments, Parts};
+use tko_bytes::NoMemory;
+use tko_links::{IoRuntime, Links, Outcome};
+use tko_model::Reply;
+use tko_prober::{AfterProbe, ProbeTurn, Probed, Prober, Stage};
+use tko_route::Health;
+
+/// One round of the probers by itself. If memory runs out in a probe, the probe has failed, and the
+/// round goes on to the other servers before it returns `NoMemory`.
+pub fn round<R: IoRuntime, H: Health, L: Links, T, M: Moments>(
+    rt: &R,
+    parts: &mut Parts<H, L, T, M>,
+) -> Result<(), NoMemory>
+    requires reach { Reaches H.servers L.servers parts.old }
+    ensures round { IsRound H.steps L.exchanges L.probed M.reads
+        parts.old (is_err result) parts.new }
+    ensures sends { (server : ℕ) → L.sent parts.new.links server ≡ L.sent parts.old.links server }
+    ensures reach { Reaches H.servers L.servers parts.new }
+{
+    parts.round(rt)
+}
+
+impl<H: Health, L: Links, T, M: Moments> Parts<H, L, T, M> {
+    /// The same as a method.
+    pub(crate) fn round<R: IoRuntime>(&mut self, rt: &R) -> Result<(), NoMemory>
+        requires reach { Reaches H.servers L.servers self.old }
+        ensures round { IsRound H.steps L.exchanges L.probed M.reads
+            self.old (is_err result) self.new }
+        ensures sends { (server : ℕ) → L.sent self.new.links server ≡ L.sent self.old.links server }
+        ensures reach { Reaches H.servers L.servers self.new }
+    {
+        let moment = self.moments.next(rt);
+        if self.probers.is_quiet() {
+            return Ok(());
+        }
+        self.probers.begin(moment);
+        if self.visit_all(rt, moment) {
+            return Err(NoMemory);
+        }
+        Ok(())
+    }
+
+    /// Visits each server in number order, and returns whether memory ran out.
+    fn visit_all<R: IoRuntime>(&mut self, rt: &R, moment: u64) -> bool
+        requires reach { Reaches H.servers L.servers self.old }
+        ensures visits { AreVisited H.steps L.exchanges L.probed M.reads moment
+            self.old (length self.old.probers.slots) result self.new }
+        ensures sends { (server : ℕ) → L.sent self.new.links server ≡ L.sent self.old.links server }
+        ensures reach { Reaches H.servers L.servers self.new }
+    {
+        let mut short = false;
+        for server in 0..self.probers.servers() {
+            short |= self.visit(rt, server, moment);
+        }
+        short
+    }
+
+    /// Stops the prober of a server that is not this thread's to probe, or probes the server where its
+    /// prober is due. Returns whether memory ran out.
+    fn visit<R: IoRuntime>(&mut self, rt: &R, server: usize, moment: u64) -> bool
+        requires reach { Reaches H.servers L.servers self.old }
+        requires within { server < length self.old.probers.slots }
+        ensures visit { IsVisited H.steps L.exchanges L.probed M.reads moment
+            self.old server result self.new }
+        ensures sends { (at : ℕ) → L.sent self.new.links at ≡ L.sent self.old.links at }
+        ensures slots { length self.new.probers.slots ≡ length self.old.probers.slots }
+        ensures reach { Reaches H.servers L.servers self.new }
+    {
+        let Some(mut prober) = self.probers.take(server) else {
+            return false;
+        };
+        let Some(duty) = self.health.duty(rt, server) else {
+            return false;
+        };
+        match prober.turn(moment) {
+            ProbeTurn::Send => {}
+            ProbeTurn::Rest => {
+                self.probers.put(server, Slot::Probing(prober));
+                return false;
+            }
+        }
+        let came = self.links.probe(rt, duty);
+        let later = self.moments.next(rt);
+        let (asked, slot) = take_result(prober, later, probed_of(&came));
+        record_asked(rt, &mut self.health, server, asked);
+        self.probers.put(server, slot);
+        came.is_err()
+    }
+}
+
+/// Gives its result to the probe that is out. Returns what the prober asks for, and the slot of its
+/// server from then on.
+fn take_result(mut prober: Prober, moment: u64, probed: Probed) -> (AfterProbe, Slot)
+    requires { prober.stage ≡ Stage.Out }
+    ensures asked { result.0 ≡ asked_after probed }
+    ensures slot { result.1 ≡ slot_after prober moment probed }
+{
+    let asked = prober.result(moment, probed);
+    let slot = match asked {
+        AfterProbe::Recover => Slot::Quiet,
+        AfterProbe::Harden | AfterProbe::Again => Slot::Probing(prober),
+    };
+    (asked, slot)
+}
+
+/// What came of a probe, to its prober.
+fn probed_of(came: &Result<Outcome, tko_links::NoMemory>) -> Probed
+    ensures { result ≡ probed_of came.now }
+{
+    match came {
+        Ok(Outcome::Reply(_)) => Probed::Answered,
+        Ok(Outcome::Refused) => Probed::Refused,
+        Ok(Outcome::Timeout | Outcome::Broken | Outcome::Spent) => Probed::Failed,
+        Err(_) => Probed::Failed,
+    }
+}
+
+/// Records what a prober asks for.
+fn record_asked<R: IoRuntime, H: Health>(
+    rt: &R,
+    health: &mut H,
+    server: usize,
+    asked: AfterProbe,
+) -> Option<Reply>
+    requires { server < H.servers health.old }
+    ensures recorded { IsRecorded H.steps health.old server (op_asked asked) result health.new }
+    ensures servers { H.servers health.new ≡ H.servers health.old }
+{
+    match asked {
+        AfterProbe::Recover => Some(health.success(rt, server)),
+        AfterProbe::Harden => Some(health.hard_failure(rt, server)),
+        AfterProbe::Again => None,
+    }
+}
