@@ -1,5 +1,5 @@
 -- What a dry run begins with and does.
-use Rattle.std.proofs.Common.{◌≡◌, ℕ, List, [], length, replicate, Some, Option, refl, subst, sym}
+use Rattle.std.proofs.Common.{◌≡◌, ℕ, List, length, Some, Option, refl, subst, sym}
 use Rattle.std.proofs.lemmas.List.{length-replicate}
 use Rattle.std.proofs.lemmas.List.FromFn.{length-map-range_with_len}
 use Rattle.tko_model.specs.Ranges.{first_fault}
@@ -10,13 +10,13 @@ use Rattle.tko_model.specs.declared.settings.SettingsFault.{SettingsFault}
 use Rattle.tko_links.specs.declared.scripted.Script.{Script}
 use Rattle.tko_session.specs.declared.session.Report.{Report}
 use Rattle.tko_session.specs.Served.{Served}
-use Rattle.tko_session.specs.SessionState.{Reaches, sent_by}
+use Rattle.tko_session.specs.SessionState.{Reaches, probed_by, sent_by}
 use Rattle.tko_pools.specs.Configs.{Configuration, in_order}
 use Rattle.tko_cli.specs.declared.fault.Fault.{Fault}
 use Rattle.tko_cli.specs.declared.fault.Fault.TheVariants as fault
 use Rattle.tko_cli.specs.declared.options.DryOptions.{DryOptions}
 use Rattle.tko_cli.specs.Configured.{ConfigOf, IsConfigured, IsUnset, NoConfig, scripted_names, settings_of}
-use Rattle.tko_cli.specs.DryRuns.{Begins, DryFails, DryParts, IsDry, IsDryTurn, IsOutside, TrailsGo, sends_of, words_in}
+use Rattle.tko_cli.specs.DryRuns.{AreFresh, Begins, DryFails, DryParts, IsDry, IsDryEvent, IsOutside, TrailsGo, probes_of, sends_of, words_in}
 use Rattle.tko_cli.specs.Faults.{fault_of_opening}
 use Rattle.tko_cli.specs.Outcomes.{AllAsk}
 
@@ -40,40 +40,39 @@ outside_alone options name scripts asked unset =
 pub begun : (options : DryOptions) (scripts : List Script) (config : Configuration) (tracker : Tracker) (parts : DryParts)
     → AllAsk (words_in options) scripts → IsConfigured options config
     → tracker ≡ opened (settings_of options (length config.addresses))
-    → parts ≡ record {
-      health = record { tracker = tracker; thread = 0 };
-      links = record { scripts = scripts; sends = replicate (length config.addresses) 0; requests = [] };
-      trails = [];
-      config = config;
-    }
+    → AreFresh scripts config tracker parts
     → Begins options parts
-begun options scripts config tracker parts asked configured opens is = rw (is, opens) (record {
-  scripts = scripts;
-  asked = asked;
-  config = configured;
-  health = refl;
-  links = refl;
-  trails = refl;
-})
+begun options scripts config tracker parts asked configured opens is =
+    let P : Configuration → Type 0 = λ it. IsConfigured options it in
+    let Q : Tracker → Type 0 = λ it. AreFresh scripts config it parts in
+    let R : Configuration → Type 0 = λ it. AreFresh scripts it (opened (settings_of options (length it.addresses))) parts in
+    record {
+      scripts = scripts;
+      asked = asked;
+      config = subst P (sym is.over) configured;
+      fresh = subst R (sym is.over) (subst Q opens is);
+    }
 
--- the tracker and the links have the servers of the configuration
+-- the tracker, the links and the probers have the servers of the configuration
 pub begun_reaches : (options : DryOptions) (parts : DryParts) → Begins options parts
     → Reaches (λ health. length health.tracker.servers) (λ links. length links.sends) parts
 begun_reaches options parts begun =
     record {
-      health = rw begun.health (length-replicate (length parts.config.addresses) _);
-      links = rw begun.links (length-replicate (length parts.config.addresses) 0);
+      health = rw begun.fresh.health (length-replicate (length parts.config.addresses) _);
+      links = rw begun.fresh.links (length-replicate (length parts.config.addresses) 0);
+      probers = rw begun.fresh.probers (length-replicate (length parts.config.addresses) _);
     }
 
 -- a session over these parts and the printing of its trails are a dry run
-pub is_dry : {I O : Type 0} (gives : I → List ℕ → I → Type 0) (is_ended : I → Type 0) (takes : O → List ℕ → O → Type 0)
+pub is_dry : {I O : Type 0} (gives : I → List ℕ → I → Type 0) (idles : I → ℕ) (is_ended : I → Type 0)
+    (takes : O → List ℕ → O → Type 0)
     (options : DryOptions) (old : I) (from : O) (new : I) (middle to : O) (before after : DryParts) (report : Report)
     → Begins options before
-    → Served gives takes IsDryTurn
-    (sent_by sends_of) is_ended old from before report new middle after
+    → Served gives idles takes IsDryEvent
+    (sent_by sends_of) (probed_by probes_of) is_ended old from before report new middle after
     → TrailsGo takes options.trail after.trails middle to
-    → IsDry gives is_ended takes options old from new to
-is_dry gives is_ended takes options old from new middle to before after report begun served went =
+    → IsDry gives idles is_ended takes options old from new to
+is_dry gives idles is_ended takes options old from new middle to before after report begun served went =
     record {
       before = before;
       after = after;

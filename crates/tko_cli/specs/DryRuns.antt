@@ -1,18 +1,22 @@
 -- What a dry run starts with, what it reads and writes, and why it fails.
 use Rattle.std.specs.Prelude.{◌≡◌, ◌<◌, ℕ, Bool, true, false, Some, List, [], length, replicate, slice_index, string_bytes}
 use Rattle.tko_model.specs.Ranges.{first_fault}
-use Rattle.tko_model.specs.Tracker.{opened}
+use Rattle.tko_model.specs.Tracker.{Tracker, opened}
 use Rattle.tko_model.specs.declared.settings.SettingsFault.{SettingsFault}
 use Rattle.tko_route.specs.declared.attempt.Attempt.{Attempt}
 use Rattle.tko_links.specs.declared.scripted.Script.{Script}
 use Rattle.tko_route.specs.Health.{OneThread, IsTrackerStep}
 use Rattle.tko_links.specs.Scripted.{ScriptedState, IsPlayed}
+use Rattle.tko_prober.specs.declared.delays.Delays.{Delays}
+use Rattle.tko_session.specs.declared.moments.Still.{Still}
 use Rattle.tko_session.specs.declared.parts.Parts.{Parts}
 use Rattle.tko_session.specs.declared.session.Report.{Report}
+use Rattle.tko_session.specs.Events.{Event, IsEvent}
+use Rattle.tko_session.specs.Moments.{IsStill}
+use Rattle.tko_session.specs.Probers.{no_probers}
 use Rattle.tko_session.specs.Served.{CameTooLong, Served}
-use Rattle.tko_session.specs.SessionState.{sent_by}
+use Rattle.tko_session.specs.SessionState.{probed_by, sent_by}
 use Rattle.tko_session.specs.TrailEvents.{Keeps}
-use Rattle.tko_session.specs.Turns.{Turn, IsTurn}
 use Rattle.tko_pools.specs.Configs.{Configuration}
 use Rattle.tko_cli.specs.Configured.{IsConfigured, IsFlawed, settings_of}
 use Rattle.tko_cli.specs.declared.fault.ConfigFlaw.{ConfigFlaw}
@@ -22,30 +26,44 @@ use Rattle.tko_cli.specs.declared.options.DryOptions.{DryOptions}
 use Rattle.tko_cli.specs.Outcomes.{AllAsk, first_bad, words_of}
 use Rattle.tko_cli.specs.Texts.{trails_text}
 
--- a tracker of one thread, scripted servers, and the trails so far
+-- a tracker of one thread, scripted servers, the trails so far, and a clock that stands still at 0
 abbrev pub DryParts : Type 0
-DryParts = Parts OneThread ScriptedState (List (List Attempt))
+DryParts = Parts OneThread ScriptedState (List (List Attempt)) Still
 
 -- the words of the list of outcomes
 abbrev pub words_in : DryOptions → List (List ℕ)
 words_in options = words_of (string_bytes options.outcomes)
 
--- parts before the first request: the configuration that the options name, a new tracker of its
--- servers, used by thread 0, the scripts that the list of outcomes asks for, nothing sent, no trail
+-- the delays of probes that no option names
+pub record AreDefaultDelays (delays : Delays) : Type 0 where
+  pub first : delays.first ≡ 10000
+  pub greatest : delays.greatest ≡ 60000
+
+-- parts before the first request, over this configuration: a tracker used by thread 0, these
+-- scripts, nothing sent or probed, no trail, and no server that is going to be probed
+pub record AreFresh (scripts : List Script) (config : Configuration) (tracker : Tracker)
+    (parts : DryParts) : Type 0 where
+  pub health : parts.health ≡ record { tracker = tracker; thread = 0 }
+  pub links : parts.links ≡ record {
+    scripts = scripts;
+    sends = replicate (length config.addresses) 0;
+    probes = replicate (length config.addresses) 0;
+    requests = [];
+  }
+  pub trails : parts.trails ≡ []
+  pub over : parts.config ≡ config
+  pub delays : Delays
+  pub by_default : AreDefaultDelays delays
+  pub probers : parts.probers ≡ no_probers delays (length config.addresses)
+
+-- the parts that a dry run begins with: the configuration that the options name, a new tracker of
+-- its servers, and the scripts that the list of outcomes asks for
 pub record Begins (options : DryOptions) (parts : DryParts) : Type 0 where
   pub scripts : List Script
   pub asked : AllAsk (words_in options) scripts
   pub config : IsConfigured options parts.config
-  pub health : parts.health ≡ record {
-    tracker = opened (settings_of options (length parts.config.addresses));
-    thread = 0;
-  }
-  pub links : parts.links ≡ record {
-    scripts = scripts;
-    sends = replicate (length parts.config.addresses) 0;
-    requests = [];
-  }
-  pub trails : parts.trails ≡ []
+  pub fresh : AreFresh scripts parts.config
+      (opened (settings_of options (length parts.config.addresses))) parts
 
 -- every word of the list is good, the JSON is no configuration, and this is what is wrong with it
 pub record IsNoConfig (options : DryOptions) (flaw : ConfigFlaw) : Type 0 where
@@ -66,10 +84,14 @@ pub record IsOutside (options : DryOptions) (name : SettingsFault) : Type 0 wher
 abbrev pub sends_of : ScriptedState → ℕ → ℕ
 sends_of links server = slice_index links.sends server
 
--- a turn over these parts
-abbrev pub IsDryTurn : DryParts → Turn → DryParts → Type 0
-IsDryTurn old turn new =
-    IsTurn IsTrackerStep IsPlayed sends_of Keeps old turn new
+-- the number of probes of a server
+abbrev pub probes_of : ScriptedState → ℕ → ℕ
+probes_of links server = slice_index links.probes server
+
+-- an event over these parts
+abbrev pub IsDryEvent : DryParts → Event → DryParts → Type 0
+IsDryEvent old event new =
+    IsEvent IsTrackerStep IsPlayed sends_of probes_of Keeps IsStill old event new
 
 -- the trails' lines went out if they are asked for, and else nothing
 abbrev pub TrailsGo : {O : Type 0} → (O → List ℕ → O → Type 0) → Bool → List (List Attempt)
@@ -79,16 +101,16 @@ TrailsGo takes false trails from to = to ≡ from
 
 -- a session over the parts that the options name came to the end of its input, and after its
 -- replies the lines of its trails went out, if they are asked for
-pub record IsDry {I O : Type 0} (gives : I → List ℕ → I → Type 0) (is_ended : I → Type 0)
-    (takes : O → List ℕ → O → Type 0) (options : DryOptions)
+pub record IsDry {I O : Type 0} (gives : I → List ℕ → I → Type 0) (idles : I → ℕ)
+    (is_ended : I → Type 0) (takes : O → List ℕ → O → Type 0) (options : DryOptions)
     (old : I) (from : O) (new : I) (to : O) : Type 0 where
   pub before : DryParts
   pub after : DryParts
   pub report : Report
   pub middle : O
   pub begins : Begins options before
-  pub served : Served gives takes IsDryTurn (sent_by sends_of) is_ended
-      old from before report new middle after
+  pub served : Served gives idles takes IsDryEvent (sent_by sends_of) (probed_by probes_of)
+      is_ended old from before report new middle after
   pub trails : TrailsGo takes options.trail after.trails middle to
 
 module _ {I O : Type 0} (gives : I → List ℕ → I → Type 0)

@@ -1,5 +1,7 @@
 -- The list of outcomes: words separated by commas, and what each asks of a server.
 use Rattle.std.specs.Prelude.{◌≡◌, ℕ, ◌==◌, Bool, ◌||◌, not, if◌then◌else◌, List, [], ◌∷◌, ◌++◌, length, take, drop, map, codes, Option, Some, None, is_some, option_map}
+use Rattle.std.specs.Result.{result_ok}
+use Rattle.hex.specs.Hex.{decode_of}
 use Rattle.std.specs.Borrow.{Bor}
 use Rattle.std.specs.List.{slice_split, position_from}
 use Rattle.std.specs.Str.{bytes_eq}
@@ -35,25 +37,44 @@ line_asked word =
     if bytes_eq word (codes "miss") then Some (codes "END")
     else text_of_line word
 
--- whether a word is one of the list's; the texts of `hit:` and `line:` may be empty
+-- the digits of `bytes:<hex>`
+abbrev pub digits_of_bytes : List ℕ → Option (List ℕ)
+digits_of_bytes word = text_after (codes "bytes:") word
+
+-- the bytes of pairs of hexadecimal digits in either case; no other text has any
+abbrev pub bytes_of_digits : List ℕ → Option (List ℕ)
+bytes_of_digits digits = result_ok (decode_of digits)
+
+-- the bytes that these digits ask of a server, or without digits this line
+abbrev pub digits_or_line : Option (List ℕ) → Option (List ℕ) → Option (List ℕ)
+digits_or_line (Some digits) line = bytes_of_digits digits
+digits_or_line None line = option_map (λ line. line ++ crlf) line
+
+-- the bytes that a word asks a server to answer
+abbrev pub answer_asked : List ℕ → Option (List ℕ)
+answer_asked word = digits_or_line (digits_of_bytes word) (line_asked word)
+
+-- whether a word is one of the list's; the texts of `hit:` and `line:` and the digits of `bytes:`
+-- may be empty
 abbrev pub is_outcome : List ℕ → Bool
 is_outcome word =
     bytes_eq word (codes "refused")
     || (bytes_eq word (codes "timeout")
-    || (is_some (text_of_hit word) || is_some (line_asked word)))
+    || (bytes_eq word (codes "broken")
+    || (is_some (text_of_hit word) || is_some (answer_asked word))))
 
 -- the number of the first bad word, counted from 1
 abbrev pub first_bad : List (List ℕ) → Option ℕ
 first_bad words = position_from (λ word. not (is_outcome word)) 1 words
 
--- what a word asks of a server: to refuse, to be silent, to answer a value of the asked key, or to
--- answer a line
+-- what a word asks of a server: to refuse, to be silent, to break the connection, to answer a value
+-- of the asked key, or to answer these bytes
 abbrev pub Asks : List ℕ → Script → Type 0
 Asks word script.Refused = word ≡ codes "refused"
 Asks word script.Timeout = word ≡ codes "timeout"
+Asks word script.Broken = word ≡ codes "broken"
 Asks word (script.Hit text) = text_of_hit word ≡ Some text.items
-Asks word (script.Bytes bytes) =
-    option_map (λ line. line ++ crlf) (line_asked word) ≡ Some bytes.items
+Asks word (script.Bytes bytes) = answer_asked word ≡ Some bytes.items
 
 -- each word asks for the script at its place
 abbrev pub AllAsk : List (List ℕ) → List Script → Type 0

@@ -78,8 +78,8 @@ fn outcomes<'a>(alloc: Global) -> Arg<'a>
         .value_name("LIST")
         .default_value("")
         .help(
-            "What comes of each send, parted by commas: refused, timeout, miss, hit:<text>, \
-             line:<text>; then refused",
+            "What comes of each send, separated by commas: refused, timeout, broken, miss, \
+             hit:<text>, line:<text>, bytes:<hex>; then refused",
         )
 }
 

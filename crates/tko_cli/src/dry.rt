@@ -1,6 +1,6 @@
 //! The command `dry`: a session over scripted servers.
-ghost use Rattle.std.specs.Prelude.{◌≡◌, ◌<◌, [], IfOk, IfErr, OnOk, length, replicate};
-ghost use Rattle.tko_cli.specs.DryRuns.{DryFails, IsDry};
+ghost use Rattle.std.specs.Prelude.{◌<◌, IfOk, IfErr, OnOk};
+ghost use Rattle.tko_cli.specs.DryRuns.{AreDefaultDelays, AreFresh, DryFails, IsDry};
 
 use crate::Fault;
 use crate::configured::config_of;
@@ -13,10 +13,18 @@ use tko_bytes::NoMemory;
 use tko_links::{IoRuntime, Script, Scripted};
 use tko_model::Plain;
 use tko_pools::Config;
+use tko_prober::Delays;
 use tko_route::PlainHealth;
-use tko_session::{Inlet, Kept, Outlet, Parts, serve};
+use tko_session::{Inlet, Kept, Outlet, Parts, Probers, Still, serve};
 
-type DryParts = Parts<PlainHealth, Scripted, Kept>;
+/// How long the first probe of a server waits, in milliseconds.
+const FIRST_DELAY: u32 = 10_000;
+
+/// How long any probe may wait, in milliseconds.
+const GREATEST_DELAY: u32 = 60_000;
+
+/// The clock of the probers stands still, so no probe is ever due.
+type DryParts = Parts<PlainHealth, Scripted, Kept, Still>;
 
 /// Answers the requests of the input, and then prints the trails if they are asked for.
 pub(crate) fn dry<R: IoRuntime, I: Inlet, O: Outlet>(
@@ -26,7 +34,7 @@ pub(crate) fn dry<R: IoRuntime, I: Inlet, O: Outlet>(
     input: &mut I,
     output: &mut O,
 ) -> Result<(), Fault>
-    ensures ok { OnOk result (IsDry I.gives I.is_ended O.takes options.now
+    ensures ok { OnOk result (IsDry I.gives I.idles I.is_ended O.takes options.now
         input.old output.old input.new output.new) }
     ensures err { IfErr result (DryFails I.gives I.failures O.failures options.now
         input.old input.new output.old output.new) }
@@ -52,21 +60,25 @@ fn parts_of(
     scripts: Vec<Script>,
 ) -> Result<DryParts, NoMemory>
     requires { 0 < tracker.settings.threads }
-    ensures { IfOk result (λ parts. parts ≡ record {
-      health = record { tracker = tracker; thread = 0 };
-      links = record {
-        scripts = scripts.items;
-        sends = replicate (length config.addresses) 0;
-        requests = [];
-      };
-      trails = [];
-      config = config;
-    }) }
+    ensures { IfOk result (AreFresh scripts.items config tracker) }
 {
+    let servers = config.servers() as usize;
     Ok(Parts {
         health: PlainHealth::new(tracker, 0),
-        links: Scripted::new(alloc, config.addresses().len(), scripts)?,
+        links: Scripted::new(alloc, servers, scripts)?,
         trails: Kept::new(alloc),
+        probers: Probers::new(alloc, default_delays(), servers)?,
         config,
+        moments: Still,
     })
+}
+
+/// The delays of probes that no option names.
+fn default_delays() -> Delays
+    ensures { AreDefaultDelays result }
+{
+    match Delays::new(FIRST_DELAY, GREATEST_DELAY) {
+        Some(delays) => delays,
+        None => unreachable!(),
+    }
 }

@@ -6,6 +6,7 @@ use std::net::{Net, TcpStream};
 use std::process::Abort;
 use std::sync::Wait;
 use std::test::Fail;
+use std::time::Clock;
 use tko_session::{Stop, Taped};
 
 const DRY_HELP: &str = "\
@@ -19,8 +20,8 @@ Options:
       --limit <N>        How many soft marks there may be at once, 0 to 256 [default: 40]
       --tries <N>        How many tries a call may lose to other threads, 1 to 1000 [default: 8]
       --config <JSON>    The pools and the route; without it every key tries all servers in order
-      --outcomes <LIST>  What comes of each send, parted by commas: refused, timeout, miss, \
-                         hit:<text>, line:<text>; then refused [default: \"\"]
+      --outcomes <LIST>  What comes of each send, separated by commas: refused, timeout, broken, \
+                         miss, hit:<text>, line:<text>, bytes:<hex>; then refused [default: \"\"]
       --trail            Prints one line an attempt after the replies
   -h, --help             Print help
 ";
@@ -42,7 +43,7 @@ fn help_shows_the_defaults(rt: HostRuntime) -> Result<(), Fail> {
 }
 
 /// Asserts that the command of a line fails with this line over this input, and writes no reply.
-pub fn fails<R: Wait + Net<Stream = TcpStream> + Abort>(
+pub fn fails<R: Wait + Net<Stream = TcpStream> + Clock + Abort>(
     rt: &R,
     alloc: Global,
     line: &str,
@@ -62,6 +63,8 @@ fn options_have_faults(rt: HostRuntime) -> Result<(), Fail> {
             "--outcomes refused,timeout,misses --servers 0",
             "fault: outcomes 3\n",
         ),
+        ("--outcomes bytes:,bytes:0", "fault: outcomes 2\n"),
+        ("--outcomes broken,bytes:0g", "fault: outcomes 2\n"),
         ("--servers 0 --failures 0", "fault: settings servers\n"),
         ("--servers 257", "fault: settings servers\n"),
         ("--failures 0 --limit 257", "fault: settings failures\n"),
@@ -101,7 +104,7 @@ fn failing_ends_and_long_lines(rt: HostRuntime) -> Result<(), Fail> {
 
 /// Asserts that a line's words are refused (status 2) or explained (status 0), with a text only on
 /// standard error or only on the output.
-fn says_only<R: Wait + Net<Stream = TcpStream> + Abort>(
+fn says_only<R: Wait + Net<Stream = TcpStream> + Clock + Abort>(
     rt: &R,
     alloc: Global,
     line: &str,

@@ -1,8 +1,9 @@
 //! The list of `--outcomes`: what the servers do, one after another.
 ghost use Rattle.std.specs.Prelude.{◌≡◌, ◌++◌, IfOk, IfErr, IfSome, is_some, option_map};
 ghost use Rattle.tko_bytes.specs.Lines.{crlf};
-ghost use Rattle.tko_cli.specs.Outcomes.{AllAsk, Asks, Refuses, is_outcome, line_asked, text_of_hit, text_of_line, texts_of, words_of};
+ghost use Rattle.tko_cli.specs.Outcomes.{AllAsk, Asks, Refuses, answer_asked, bytes_of_digits, digits_of_bytes, is_outcome, line_asked, text_of_hit, text_of_line, texts_of, words_of};
 
+use hex::FromHexError;
 use std::alloc::{AllocError, AllocFailed, Global};
 use tko_links::Script;
 
@@ -77,14 +78,43 @@ fn script_of(alloc: Global, word: &str) -> Result<Option<Script>, AllocError>
     Ok(match word {
         "refused" => Some(Script::Refused),
         "timeout" => Some(Script::Timeout),
+        "broken" => Some(Script::Broken),
         _ => match text_of_hit(word) {
             Some(text) => Some(Script::Hit(Vec::from_slice(alloc, text.as_bytes())?)),
-            None => match line_asked(word) {
-                Some(line) => Some(Script::Bytes(line_of(alloc, line)?)),
+            None => match answer_asked(alloc, word)? {
+                Some(bytes) => Some(Script::Bytes(bytes)),
                 None => None,
             },
         },
     })
+}
+
+/// The bytes that a word asks a server to answer: those of its digits, or a line.
+fn answer_asked(alloc: Global, word: &str) -> Result<Option<Vec<u8>>, AllocError>
+    ensures { IfOk result (λ found.
+        option_map (λ bytes. bytes.items) found ≡ answer_asked word.now) }
+{
+    if let Some(digits) = digits_of_bytes(word) {
+        return bytes_of_digits(alloc, digits);
+    }
+    Ok(match line_asked(word) {
+        Some(line) => Some(line_of(alloc, line)?),
+        None => None,
+    })
+}
+
+/// The bytes of pairs of hexadecimal digits; None for any other text.
+fn bytes_of_digits(alloc: Global, digits: &str) -> Result<Option<Vec<u8>>, AllocError>
+    ensures { IfOk result (λ found.
+        option_map (λ bytes. bytes.items) found ≡ bytes_of_digits digits.now) }
+{
+    match hex::decode(alloc, digits) {
+        Ok(bytes) => Ok(Some(bytes)),
+        Err(FromHexError::OutOfMemory) => Err(AllocError),
+        Err(FromHexError::OddLength) => Ok(None),
+        Err(FromHexError::InvalidStringLength) => Ok(None),
+        Err(FromHexError::InvalidHexCharacter { .. }) => Ok(None),
+    }
 }
 
 /// The line that a word asks for: that of `miss`, or the text of `line:<text>`.
@@ -102,6 +132,13 @@ fn text_of_hit(word: &str) -> Option<&str>
     ensures { option_map (λ text. text.now) result ≡ text_of_hit word.now }
 {
     word.strip_prefix("hit:")
+}
+
+/// The digits of `bytes:<hex>`.
+fn digits_of_bytes(word: &str) -> Option<&str>
+    ensures { option_map (λ digits. digits.now) result ≡ digits_of_bytes word.now }
+{
+    word.strip_prefix("bytes:")
 }
 
 /// The text of `line:<text>`.

@@ -4,7 +4,7 @@ ghost use Rattle.tko_cli.specs.Readings.{CannotRead, IsText};
 
 use std::alloc::{AllocError, Global};
 use tko_links::IoRuntime;
-use tko_session::{Inlet, piece_buffer, read_piece};
+use tko_session::{Inlet, piece_buffer, wait_for_piece};
 
 /// Why a text can't be read.
 #[derive(Clone, Copy, Debug, PartialEq, Eq)]
@@ -64,7 +64,7 @@ fn append_piece<R: IoRuntime, I: Inlet>(
     ensures calm { OnOk result (I.failures input.new ≡ I.failures input.old) }
     ensures err { IfErr result (CannotRead I.failures input.old input.new) }
 {
-    let Some(count) = read_piece(rt, input, buffer) else {
+    let Some(count) = wait_for_piece(rt, input, buffer) else {
         return Err(ReadFault::Input);
     };
     text.extend_from_slice(&buffer[..count])?;

@@ -15,7 +15,7 @@ const SAME_SERVER: &str =
     \"route\":{\"type\":\"FailoverRoute\",\"children\":[\"PoolRoute|A\",\"PoolRoute|B\"]}}";
 
 /// Options, the input, and the output.
-const ROWS: [(&str, &str, &str); 14] = [
+const ROWS: [(&str, &str, &str); 16] = [
     // limit_zero_never_marks_soft
     (
         "--failures 1 --limit 0 --outcomes timeout",
@@ -82,6 +82,19 @@ const ROWS: [(&str, &str, &str); 14] = [
     // unfinished_data
     ("--outcomes miss", "set a 0 0 5\r\nhe", ""),
     ("--outcomes miss", "quit\r\nget a\r\n", ""),
+    // cut_answer_is_broken: cut after `he` of `VALUE a 0 5` CR LF `he`
+    (
+        "--servers 2 --outcomes bytes:56414c55452061203020350d0a6865,miss",
+        "get a\r\n",
+        "END\r\ntrail 1 0 sent broken counted:1\ntrail 1 1 sent reply clean\n",
+    ),
+    // digits_of_either_case
+    (
+        "--servers 3 --outcomes broken,bytes:,bytes:454E440D0a",
+        "get a\r\n",
+        "END\r\ntrail 1 0 sent broken counted:1\ntrail 1 1 sent broken counted:1\n\
+        trail 1 2 sent reply clean\n",
+    ),
     // expiry_replaced_on_failover
     (
         "--servers 2 --outcomes refused,line:STORED",

@@ -6,6 +6,7 @@ use std::net::{Net, TcpStream};
 use std::process::Abort;
 use std::sync::Wait;
 use std::test::Fail;
+use std::time::Clock;
 use tko_session::{Stop, Taped};
 
 const NO_SERVER: &str = "SERVER_ERROR no server\r\n";
@@ -26,7 +27,7 @@ pub fn tape(alloc: Global, bytes: &str, greatest: usize) -> Result<Taped, AllocE
 }
 
 /// Runs the command of a line over these ends, and returns its status.
-pub fn status_of<R: Wait + Net<Stream = TcpStream>>(
+pub fn status_of<R: Wait + Net<Stream = TcpStream> + Clock>(
     rt: &R,
     alloc: Global,
     line: &str,
@@ -39,7 +40,7 @@ pub fn status_of<R: Wait + Net<Stream = TcpStream>>(
 }
 
 /// Asserts the status of a line's command, its replies and what it writes for a fault.
-pub fn ends_with<R: Wait + Net<Stream = TcpStream> + Abort>(
+pub fn ends_with<R: Wait + Net<Stream = TcpStream> + Clock + Abort>(
     rt: &R,
     alloc: Global,
     line: &str,
@@ -57,7 +58,7 @@ pub fn ends_with<R: Wait + Net<Stream = TcpStream> + Abort>(
 
 /// Asserts that the command of a line ends with status 0 and these replies, also where each read or
 /// each write moves one byte.
-pub fn answers<R: Wait + Net<Stream = TcpStream> + Abort>(
+pub fn answers<R: Wait + Net<Stream = TcpStream> + Clock + Abort>(
     rt: &R,
     alloc: Global,
     line: &str,

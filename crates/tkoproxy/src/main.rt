@@ -7,6 +7,7 @@ use std::net::{Net, TcpStream};
 use std::process::ExitCode;
 use std::rt::Env;
 use std::sync::Wait;
+use std::time::Clock;
 use std::{env, io};
 use tko_cli::command;
 use tko_session::Piped;
@@ -28,7 +29,7 @@ fn words_of(rt: &(impl Env + AllocGlobal)) -> io::Result<Vec<String>> {
 
 /// Runs the command over std's readers and writers. The bounds of `IoRuntime` are written out,
 /// since the prover covers only those at the runtime itself.
-fn run<R: Wait + Net<Stream = TcpStream>, I: Read + Drop, O: Write + Drop, F: Write + Drop>(
+fn run<R: Wait + Net<Stream = TcpStream> + Clock, I: Read + Drop, O: Write + Drop, F: Write + Drop>(
     rt: &R,
     alloc: Global,
     words: &[String],

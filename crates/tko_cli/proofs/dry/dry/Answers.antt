@@ -37,7 +37,7 @@ returns-then-not-options-clause-ok g c =
     let opens = rw c.servers.ensures at (rw c.settings.ensures at c.in_ok-tracker.ensures.ok) in
     let begins = begun c.args.options.now c.in_ok-scripts.scripts.items c.in_ok-config.config c.in_ok-tracker.tracker
     c.in_ok-parts.parts asked c.in_ok-config.ensures.ok opens c.in_ok-parts.ensures in
-    is_dry g.I.Inlet.gives g.I.Inlet.is_ended g.O.Outlet.takes c.args.options.now _ _ _ _ _ _ _ _
+    is_dry g.I.Inlet.gives g.I.Inlet.idles g.I.Inlet.is_ended g.O.Outlet.takes c.args.options.now _ _ _ _ _ _ _ _
     begins c.in_ok-serve.ensures.ok (search rules)
 
 pub returns-clause-ok : goal.returns-clause-ok
@@ -46,5 +46,5 @@ returns-clause-ok g c =
     let opens = rw c.servers.ensures at (rw c.settings.ensures at c.in_ok-tracker.ensures.ok) in
     let begins = begun c.args.options.now c.in_ok-scripts.scripts.items c.in_ok-config.config c.in_ok-tracker.tracker
     c.in_ok-parts.parts asked c.in_ok-config.ensures.ok opens c.in_ok-parts.ensures in
-    is_dry g.I.Inlet.gives g.I.Inlet.is_ended g.O.Outlet.takes c.args.options.now _ _ _ _ _ _ _ _
+    is_dry g.I.Inlet.gives g.I.Inlet.idles g.I.Inlet.is_ended g.O.Outlet.takes c.args.options.now _ _ _ _ _ _ _ _
     begins c.in_ok-serve.ensures.ok (search rules)
