@@ -99,6 +99,9 @@ not_configured gives read_failures write_failures options old from scripts fault
 not_configured gives read_failures write_failures options old from scripts (fault.Outcomes number) asked none = absurd none
 not_configured gives read_failures write_failures options old from scripts (fault.Line number) asked none = absurd none
 not_configured gives read_failures write_failures options old from scripts fault.Check asked none = absurd none
+not_configured gives read_failures write_failures options old from scripts fault.Delays asked none = absurd none
+not_configured gives read_failures write_failures options old from scripts fault.Listen asked none = absurd none
+not_configured gives read_failures write_failures options old from scripts fault.Accept asked none = absurd none
 
 -- the tracker could not be opened, so nothing was read or written
 pub not_opened : {I O : Type 0} (gives : I → List ℕ → I → Type 0) (read_failures : I → ℕ) (write_failures : O → ℕ)

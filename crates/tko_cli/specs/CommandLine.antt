@@ -1,7 +1,6 @@
 -- The commands and options of the command line, as clap reads them, and the defaults.
-use Rattle.std.specs.Prelude.{◌≡◌, ℕ, true, false, pos, Some, [], ◌∷◌, codes}
-use Rattle.clap.specs.Simple.{on_top}
-use Rattle.clap.specs.Words.{App, Rule, Text, app_of, new_app, new_rule, with_rule, with_subcommand}
+use Rattle.std.specs.Prelude.{◌≡◌, ℕ, false, pos, Some, [], ◌∷◌, codes}
+use Rattle.clap.specs.Words.{App, Rule, Text, app_of, new_app, new_rule, with_rule}
 use Rattle.clap.specs.declared.builder.action.ArgAction.TheVariants.{SetTrue}
 use Rattle.clap.specs.declared.builder.command.Command.{Command}
 use Rattle.clap.specs.declared.builder.command.Command.TheViews.{out-Command}
@@ -54,29 +53,25 @@ trail_option = record (new_rule (codes "trail")) {
   action = Some SetTrue;
 }
 
--- the options with a number
-abbrev pub with_numbers : App → App
-with_numbers app =
-    with_rule (with_rule (with_rule (with_rule app
-    (number_option (codes "servers") default_servers))
+abbrev pub servers_option : Rule
+servers_option = number_option (codes "servers") default_servers
+
+-- the options of the tracker
+abbrev pub with_tracker : App → App
+with_tracker app =
+    with_rule (with_rule (with_rule app
     (number_option (codes "failures") default_failures))
     (number_option (codes "limit") default_limit))
     (number_option (codes "tries") default_tries)
 
 abbrev pub dry_command : App
 dry_command =
-    with_rule (with_rule (with_rule (with_numbers (new_app (codes "dry")))
+    with_rule (with_rule (with_rule
+    (with_tracker (with_rule (new_app (codes "dry")) servers_option))
     config_option) outcomes_option) trail_option
 
 abbrev pub replay_command : App
 replay_command = new_app (codes "replay")
-
--- the program, which wants a command
-abbrev pub program_app : App
-program_app =
-    with_subcommand (with_subcommand
-    (on_top (λ shape. record shape { subcommand_required = true }) (new_app (codes "tkoproxy")))
-    dry_command.top) replay_command.top
 
 -- the command is read as this one
 pub record ReadsAs (app : App) (command : Command) : Type 0 where

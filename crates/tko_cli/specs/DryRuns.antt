@@ -130,3 +130,6 @@ module _ {I O : Type 0} (gives : I → List ℕ → I → Type 0)
   DryFails options old new from to fault.Memory = Unit {0}
   DryFails options old new from to (fault.Line number) = ⊥
   DryFails options old new from to fault.Check = ⊥
+  DryFails options old new from to fault.Delays = ⊥
+  DryFails options old new from to fault.Listen = ⊥
+  DryFails options old new from to fault.Accept = ⊥

@@ -8,6 +8,8 @@ use Rattle.tko_runs.specs.declared.checking.RunFault.{RunFault}
 use Rattle.tko_runs.specs.declared.checking.RunFault.TheVariants as run_fault
 use Rattle.tko_runs.specs.declared.schedule.fault.ScheduleFault.{ScheduleFault}
 use Rattle.tko_runs.specs.declared.schedule.fault.ScheduleFault.TheVariants as schedule_fault
+use Rattle.tko_server.specs.declared.run_fault.RunFault.{RunFault as ServerFault}
+use Rattle.tko_server.specs.declared.run_fault.RunFault.TheVariants as server_fault
 use Rattle.tko_session.specs.declared.fault.SessionFault.{SessionFault}
 use Rattle.tko_session.specs.declared.fault.SessionFault.TheVariants as session_fault
 use Rattle.tko_pools.specs.declared.fault.ConfigFault.{ConfigFault}
@@ -51,6 +53,9 @@ fault_line (fault.Config kind) = codes "fault: config " ++ config_name kind
 fault_line (fault.Outcomes number) = codes "fault: outcomes " ++ decimal number
 fault_line (fault.Line number) = codes "fault: schedule line " ++ decimal number
 fault_line fault.Check = codes "fault: check"
+fault_line fault.Delays = codes "fault: delays"
+fault_line fault.Listen = codes "fault: listen"
+fault_line fault.Accept = codes "fault: accept"
 
 -- of the list of outcomes
 abbrev pub fault_of_outcomes : OutcomesFault → Fault
@@ -96,3 +101,9 @@ abbrev pub fault_of_run : RunFault → Fault
 fault_of_run (run_fault.Step number) = fault.Check
 fault_of_run (run_fault.Call number) = fault.Check
 fault_of_run run_fault.Memory = fault.Memory
+
+-- of the server
+abbrev pub fault_of_server : ServerFault → Fault
+fault_of_server (server_fault.Settings name) = fault.Settings name
+fault_of_server server_fault.Memory = fault.Memory
+fault_of_server server_fault.Accept = fault.Accept

@@ -4,6 +4,11 @@ pub mod DryRuns
 pub mod FaultLines
 pub mod Faults
 pub mod Outcomes
+pub mod Planned
+pub mod Program
 pub mod Readings
 pub mod Replays
+pub mod ServeCommand
+pub mod Serving
 pub mod Texts
+pub mod Totals

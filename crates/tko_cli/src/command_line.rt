@@ -1,8 +1,10 @@
 //! The commands and options of the command line, and their defaults.
 ghost use Rattle.std.specs.Prelude.{◌≡◌, false, IfOk};
 ghost use Rattle.clap.specs.Words.{App, rule_of, with_rule};
-ghost use Rattle.tko_cli.specs.CommandLine.{ReadsAs, config_option, dry_command, number_option, outcomes_option, program_app, replay_command, trail_option, with_numbers};
+ghost use Rattle.tko_cli.specs.Program.{program_app};
+ghost use Rattle.tko_cli.specs.CommandLine.{ReadsAs, config_option, dry_command, number_option, outcomes_option, replay_command, servers_option, trail_option, with_tracker};
 
+use crate::serve_command::serve;
 use clap::{Arg, ArgAction, Command, value_parser};
 use std::alloc::{AllocError, Global};
 
@@ -22,7 +24,8 @@ pub(crate) fn program<'a>(alloc: Global) -> Result<Command<'a>, AllocError>
         .about("A failover cache proxy with shared server health")
         .subcommand_required(true)
         .subcommand(dry(alloc)?)?
-        .subcommand(replay(alloc))
+        .subcommand(replay(alloc))?
+        .subcommand(serve(alloc)?)
 }
 
 fn replay<'a>(alloc: Global) -> Command<'a>
@@ -39,21 +42,31 @@ fn dry<'a>(alloc: Global) -> Result<Command<'a>, AllocError>
     let dry = Command::new(alloc, "dry").about(
         "Answers requests on standard input from scripted servers",
     );
-    with_numbers(alloc, dry)?
+    with_tracker(alloc, dry.arg(servers(alloc))?)?
         .arg(config(alloc))?
         .arg(outcomes(alloc))?
         .arg(trail(alloc))
 }
 
-fn with_numbers<'a>(alloc: Global, command: Command<'a>) -> Result<Command<'a>, AllocError>
-    ensures { (app : App) → ReadsAs app command.entry → IfOk result (ReadsAs (with_numbers app)) }
+fn servers<'a>(alloc: Global) -> Arg<'a>
+    ensures rule { rule_of result ≡ servers_option }
+    ensures local { result.global ≡ false }
 {
-    let servers = "How many servers there are, 1 to 256";
+    let help = "How many servers there are, 1 to 256";
+    number(alloc, "servers", DEFAULT_SERVERS, help)
+}
+
+/// With the options of the tracker.
+pub(crate) fn with_tracker<'a>(
+    alloc: Global,
+    command: Command<'a>,
+) -> Result<Command<'a>, AllocError>
+    ensures { (app : App) → ReadsAs app command.entry → IfOk result (ReadsAs (with_tracker app)) }
+{
     let failures = "How many soft failures in a row mark a server, 1 to 1000";
     let limit = "How many soft marks there may be at once, 0 to 256";
     let tries = "How many tries a call may lose to other threads, 1 to 1000";
     command
-        .arg(number(alloc, "servers", DEFAULT_SERVERS, servers))?
         .arg(number(alloc, "failures", DEFAULT_FAILURES, failures))?
         .arg(number(alloc, "limit", DEFAULT_LIMIT, limit))?
         .arg(number(alloc, "tries", DEFAULT_TRIES, tries))
@@ -93,7 +106,8 @@ fn trail<'a>(alloc: Global) -> Arg<'a>
         .help("Prints one line an attempt after the replies")
 }
 
-fn number<'a>(alloc: Global, name: &'a str, default: &'a str, help: &'a str) -> Arg<'a>
+/// `--name N`, a number of 32 bits.
+pub(crate) fn number<'a>(alloc: Global, name: &'a str, default: &'a str, help: &'a str) -> Arg<'a>
     ensures rule { rule_of result ≡ number_option name.now default.now }
     ensures local { result.global ≡ false }
 {

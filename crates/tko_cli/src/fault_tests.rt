@@ -2,10 +2,11 @@
 
 use crate::tests::{ends_with, status_of, tape};
 use std::alloc::{AllocError, Global};
-use std::net::{Net, TcpStream};
+use std::net::{Net, TcpListener, TcpStream};
 use std::process::Abort;
 use std::sync::Wait;
 use std::test::Fail;
+use std::thread::Threads;
 use std::time::Clock;
 use tko_session::{Stop, Taped};
 
@@ -43,13 +44,9 @@ fn help_shows_the_defaults(rt: HostRuntime) -> Result<(), Fail> {
 }
 
 /// Asserts that the command of a line fails with this line over this input, and writes no reply.
-pub fn fails<R: Wait + Net<Stream = TcpStream> + Clock + Abort>(
-    rt: &R,
-    alloc: Global,
-    line: &str,
-    input: &[u8],
-    fault: &str,
-) -> Result<(), AllocError> {
+pub fn fails<
+    R: Wait + Net<Stream = TcpStream, Listener = TcpListener> + Clock + Threads + Sync + Abort,
+>(rt: &R, alloc: Global, line: &str, input: &[u8], fault: &str) -> Result<(), AllocError> {
     let input = Taped::new(Vec::from_slice(alloc, input)?, 4096, Vec::new(alloc));
     let output = tape(alloc, "", 4096)?;
     ends_with(rt, alloc, line, input, output, (1, "", fault))
@@ -104,12 +101,9 @@ fn failing_ends_and_long_lines(rt: HostRuntime) -> Result<(), Fail> {
 
 /// Asserts that a line's words are refused (status 2) or explained (status 0), with a text only on
 /// standard error or only on the output.
-fn says_only<R: Wait + Net<Stream = TcpStream> + Clock + Abort>(
-    rt: &R,
-    alloc: Global,
-    line: &str,
-    status: u8,
-) -> Result<(), AllocError> {
+fn says_only<
+    R: Wait + Net<Stream = TcpStream, Listener = TcpListener> + Clock + Threads + Sync + Abort,
+>(rt: &R, alloc: Global, line: &str, status: u8) -> Result<(), AllocError> {
     let mut input = tape(alloc, "get a\r\n", 4096)?;
     let mut output = tape(alloc, "", 4096)?;
     let mut faults = tape(alloc, "", 1)?;

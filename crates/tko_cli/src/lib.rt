@@ -6,15 +6,21 @@
 //! - The list of `--outcomes` becomes the scripts of the servers, and the trails become lines.
 #![tactic(auto)]
 
+mod causes;
 mod command_line;
 mod configured;
 mod dry;
 mod fault;
 mod options;
 mod outcomes;
+mod planned;
 mod program;
 mod reading;
 mod replay;
+mod serve_command;
+mod serve_options;
+mod serving;
+mod totals;
 mod trail_lines;
 mod writing;
 
@@ -27,5 +33,7 @@ mod fault_tests;
 mod replay_tests;
 #[cfg(test)]
 mod row_tests;
+#[cfg(test)]
+mod serve_tests;
 #[cfg(test)]
 mod tests;

@@ -3,6 +3,7 @@ ghost use Rattle.std.specs.Prelude.{◌≡◌};
 ghost use Rattle.tko_cli.specs.Configured.{settings_of};
 
 use crate::command_line::program;
+use crate::serve_options::ServeOptions;
 use clap::error::ErrorKind;
 use clap::{ArgMatches, Error};
 use std::alloc::{AllocError, Global};
@@ -16,6 +17,7 @@ const THREADS: u32 = 4;
 pub(crate) enum Options {
     Dry(DryOptions),
     Replay,
+    Serve(ServeOptions),
 }
 
 /// The options of `dry`.
@@ -40,6 +42,9 @@ impl Options {
         }
         if matches.subcommand_matches("replay").is_some() {
             return Ok(Options::Replay);
+        }
+        if let Some(found) = matches.subcommand_matches("serve") {
+            return Ok(Options::Serve(ServeOptions::of(alloc, found)?));
         }
         Err(program(alloc)?.error(ErrorKind::MissingSubcommand, "a command is wanted")?)
     }
@@ -79,6 +84,6 @@ impl DryOptions {
 }
 
 /// A number of the options; each has a default.
-fn number_of(found: &ArgMatches<'_>, name: &str) -> u32 {
+pub(crate) fn number_of(found: &ArgMatches<'_>, name: &str) -> u32 {
     found.get_one(name).unwrap_or(0)
 }

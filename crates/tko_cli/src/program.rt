@@ -6,10 +6,13 @@ use crate::Fault;
 use crate::dry::dry;
 use crate::options::Options;
 use crate::replay::replay;
+use crate::serving::serve;
 use crate::writing::{WriteFault, write_text};
 use clap::Error;
 use clap::error::ErrorKind;
 use std::alloc::Global;
+use std::net::TcpListener;
+use std::thread::Threads;
 use tko_links::IoRuntime;
 use tko_session::{Inlet, Outlet};
 
@@ -22,14 +25,12 @@ const REFUSED: u8 = 2;
 /// Runs the command that the words name, of which the first is the program's name, and returns the
 /// status: 0 where it was done, 1 after a fault, 2 where the words were refused. Replies and runs
 /// go to `output`, and the line of a fault to `faults`.
-pub fn command<R: IoRuntime, I: Inlet, O: Outlet, F: Outlet>(
-    rt: &R,
-    alloc: Global,
-    words: &[String],
-    input: &mut I,
-    output: &mut O,
-    faults: &mut F,
-) -> u8
+pub fn command<
+    R: IoRuntime<Listener = TcpListener> + Threads + Sync,
+    I: Inlet,
+    O: Outlet,
+    F: Outlet,
+>(rt: &R, alloc: Global, words: &[String], input: &mut I, output: &mut O, faults: &mut F) -> u8
     ensures status { result ≤ 2 }
     ensures done { result ≡ 0 → faults.new ≡ faults.old }
     ensures fault { result ≡ 1 → IsFaultWritten F.takes F.failures faults.old faults.new }
@@ -38,6 +39,7 @@ pub fn command<R: IoRuntime, I: Inlet, O: Outlet, F: Outlet>(
     let done = match Options::read(alloc, words) {
         Ok(Options::Dry(options)) => dry(rt, alloc, &options, input, output),
         Ok(Options::Replay) => replay(rt, alloc, input, output),
+        Ok(Options::Serve(options)) => serve(rt, alloc, &options, output),
         Err(refusal) if refusal.kind() == ErrorKind::OutOfMemory => Err(Fault::Memory),
         Err(refusal) if refusal.use_stderr() => return refuse(rt, alloc, faults, &refusal),
         Err(help) => show(rt, alloc, output, &help),

@@ -2,17 +2,18 @@
 
 use crate::command;
 use std::alloc::{AllocError, Global};
-use std::net::{Net, TcpStream};
+use std::net::{Net, TcpListener, TcpStream};
 use std::process::Abort;
 use std::sync::Wait;
 use std::test::Fail;
+use std::thread::Threads;
 use std::time::Clock;
 use tko_session::{Stop, Taped};
 
 const NO_SERVER: &str = "SERVER_ERROR no server\r\n";
 
 /// The words of a line, of which the first is the program's name.
-fn words_of(alloc: Global, line: &str) -> Result<Vec<String>, AllocError> {
+pub fn words_of(alloc: Global, line: &str) -> Result<Vec<String>, AllocError> {
     let mut words = Vec::new(alloc);
     for word in line.split(' ') {
         words.push(String::from_str(alloc, word)?)?;
@@ -27,7 +28,9 @@ pub fn tape(alloc: Global, bytes: &str, greatest: usize) -> Result<Taped, AllocE
 }
 
 /// Runs the command of a line over these ends, and returns its status.
-pub fn status_of<R: Wait + Net<Stream = TcpStream> + Clock>(
+pub fn status_of<
+    R: Wait + Net<Stream = TcpStream, Listener = TcpListener> + Clock + Threads + Sync,
+>(
     rt: &R,
     alloc: Global,
     line: &str,
@@ -40,7 +43,9 @@ pub fn status_of<R: Wait + Net<Stream = TcpStream> + Clock>(
 }
 
 /// Asserts the status of a line's command, its replies and what it writes for a fault.
-pub fn ends_with<R: Wait + Net<Stream = TcpStream> + Clock + Abort>(
+pub fn ends_with<
+    R: Wait + Net<Stream = TcpStream, Listener = TcpListener> + Clock + Threads + Sync + Abort,
+>(
     rt: &R,
     alloc: Global,
     line: &str,
@@ -58,13 +63,9 @@ pub fn ends_with<R: Wait + Net<Stream = TcpStream> + Clock + Abort>(
 
 /// Asserts that the command of a line ends with status 0 and these replies, also where each read or
 /// each write moves one byte.
-pub fn answers<R: Wait + Net<Stream = TcpStream> + Clock + Abort>(
-    rt: &R,
-    alloc: Global,
-    line: &str,
-    input: &str,
-    replies: &str,
-) -> Result<(), AllocError> {
+pub fn answers<
+    R: Wait + Net<Stream = TcpStream, Listener = TcpListener> + Clock + Threads + Sync + Abort,
+>(rt: &R, alloc: Global, line: &str, input: &str, replies: &str) -> Result<(), AllocError> {
     for (reads, writes) in [(4096, 4096), (1, 4096), (4096, 1)] {
         let input = tape(alloc, input, reads)?;
         let output = tape(alloc, "", writes)?;

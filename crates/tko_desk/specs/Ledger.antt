@@ -1,5 +1,5 @@
 -- A ledger: a book of totals, and the shares of the workers that counted them.
-use Rattle.std.specs.Prelude.{◌≡◌, ℕ, zero, suc, ◌+◌, ◌<◌, ◌⊎◌, Bool, ◌==◌, List, [], ◌∷◌, ◌++◌, All, length}
+use Rattle.std.specs.Prelude.{◌≡◌, ℕ, zero, suc, ◌+◌, ◌<◌, ◌⊎◌, Bool, ◌==◌, List, [], ◌∷◌, ◌++◌, All, codes, length}
 use Rattle.std.specs.List.{count_by, sum_by}
 use Rattle.tko_desk.specs.declared.numbers.Kind.{Kind}
 use Rattle.tko_desk.specs.declared.numbers.Kind.TheVariants.{Request, Attempt, Skip, Reply, NoServer, Probe}
@@ -10,6 +10,15 @@ use Rattle.tko_desk.specs.declared.book.Share.{Share}
 -- the greatest number that is counted
 abbrev pub most : ℕ
 most = 18446744073709551615
+
+-- the word that a kind is printed as
+abbrev pub kind_word : Kind → List ℕ
+kind_word Request = codes "request"
+kind_word Attempt = codes "attempt"
+kind_word Skip = codes "skip"
+kind_word Reply = codes "reply"
+kind_word NoServer = codes "no-server"
+kind_word Probe = codes "probe"
 
 abbrev pub none : Numbers
 none = record { request = 0; attempt = 0; skip = 0; reply = 0; no_server = 0; probe = 0 }

@@ -1,6 +1,6 @@
 //! What a ledger counts.
 ghost use Rattle.std.specs.Prelude.{◌≡◌, ◌+◌, ◌≤◌, ◌<◌, ◌↔◌, IsTrue};
-ghost use Rattle.tko_desk.specs.Ledger.{most, none, number_of, raised};
+ghost use Rattle.tko_desk.specs.Ledger.{kind_word, most, none, number_of, raised};
 
 /// What is counted.
 #[derive(Clone, Copy, Debug, PartialEq, Eq)]
@@ -31,7 +31,9 @@ impl Kind {
     ];
 
     /// The word that the kind is printed as.
-    pub fn word(self) -> &'static str {
+    pub fn word(self) -> &'static str
+        ensures { result.now ≡ kind_word self }
+    {
         match self {
             Kind::Request => "request",
             Kind::Attempt => "attempt",

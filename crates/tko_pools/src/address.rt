@@ -13,7 +13,7 @@ const MAX_PORT: u64 = 65_535;
 
 /// Whether a text is an address, `<host>:<port>`.
 #[tactic(auto, unfolding(crate::specs::Addresses::is_address))]
-pub(crate) fn is_address(text: &[u8]) -> bool
+pub fn is_address(text: &[u8]) -> bool
     ensures { result ≡ is_address text.now }
 {
     text.len() <= MAX_ADDRESS && is_visible(text) && is_parted(text)

@@ -1,7 +1,7 @@
 //! The configuration: pools of servers, a failover route over them, and the servers of a key.
 //!
 //! - `Config`: what a configuration's JSON text means; `ConfigFault`: why a text is none.
-//! - *Address*: `<host>:<port>`. *Pool*: a list of addresses under a name. *Child* of the route:
+//! - *Address*: `<host>:<port>`, by `is_address`. *Pool*: a list of addresses under a name. *Child* of the route:
 //!   the name of a pool. *Number* of a server: its place among the different addresses of the
 //!   children.
 //! - *Target*: the server that a child has for a key, by `fnv1a`.
@@ -16,6 +16,7 @@ mod json;
 mod numbering;
 mod route;
 
+pub use address::is_address;
 pub use config::Config;
 pub use fault::ConfigFault;
 pub use hash::fnv1a;

@@ -1,4 +1,5 @@
 pub mod Answering
+pub mod Counting
 pub mod Events
 pub mod Faults
 pub mod Io

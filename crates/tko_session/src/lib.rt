@@ -2,7 +2,8 @@
 //!
 //! - `Inlet` and `Outlet`: the two ends of a session; `Stop` is why a call moved no byte.
 //! - `Piped` and `Taped`: ends over std's readers and writers, and over memory.
-//! - `Parts`: what a session works on; `Trails` records each request and each trail.
+//! - `Parts`: what a session works on; `Trails` records each request and each trail. `Kept` keeps
+//!   the trails, and `Counts` counts what is in them.
 //! - `Probers`: which servers the session's failures marked, and when each is probed; `Moments` is
 //!   their clock, and `round` sends the probes that are due.
 //! - `Session`: one client's session between two pieces, and `Progress`, how far it answered. It
@@ -13,6 +14,7 @@
 #![tactic(auto)]
 
 mod answering;
+mod counts;
 mod elapsed;
 mod fault;
 mod io;
@@ -32,6 +34,7 @@ mod taped;
 mod trails;
 mod writing;
 
+pub use counts::Counts;
 pub use elapsed::Elapsed;
 pub use fault::SessionFault;
 pub use io::{Inlet, Outlet, Stop};

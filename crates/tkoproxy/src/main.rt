@@ -3,10 +3,11 @@
 
 use std::alloc::Global;
 use std::io::{Read, Write};
-use std::net::{Net, TcpStream};
+use std::net::{Net, TcpListener, TcpStream};
 use std::process::ExitCode;
 use std::rt::Env;
 use std::sync::Wait;
+use std::thread::Threads;
 use std::time::Clock;
 use std::{env, io};
 use tko_cli::command;
@@ -29,12 +30,12 @@ fn words_of(rt: &(impl Env + AllocGlobal)) -> io::Result<Vec<String>> {
 
 /// Runs the command over std's readers and writers. The bounds of `IoRuntime` are written out,
 /// since the prover covers only those at the runtime itself.
-fn run<R: Wait + Net<Stream = TcpStream> + Clock, I: Read + Drop, O: Write + Drop, F: Write + Drop>(
-    rt: &R,
-    alloc: Global,
-    words: &[String],
-    (input, output, faults): (I, O, F),
-) -> u8 {
+fn run<
+    R: Wait + Net<Stream = TcpStream, Listener = TcpListener> + Clock + Threads + Sync,
+    I: Read + Drop,
+    O: Write + Drop,
+    F: Write + Drop,
+>(rt: &R, alloc: Global, words: &[String], (input, output, faults): (I, O, F)) -> u8 {
     let mut input = Piped::new(input);
     let mut output = Piped::new(output);
     let mut faults = Piped::new(faults);

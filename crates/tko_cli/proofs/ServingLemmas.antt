@@ -1,0 +1,63 @@
+-- What `serve` writes, and why it fails.
+use Rattle.std.proofs.Common.{◌≡◌, ℕ, List, Some, None, inr, refl, subst}
+use Rattle.std.proofs.lemmas.Bool.{le-leb}
+use Rattle.std.proofs.Math.Dec.{leb-zero}
+use Rattle.tko_desk.specs.declared.numbers.Numbers.{Numbers}
+use Rattle.tko_model.specs.Ranges.{IsWithinRanges, first_fault}
+use Rattle.tko_model.specs.declared.settings.Settings.{Settings}
+use Rattle.tko_model.specs.declared.settings.SettingsFault.{SettingsFault}
+use Rattle.tko_server.specs.Runs.{tracker_settings}
+use Rattle.tko_server.specs.declared.run_fault.RunFault.{RunFault as ServerFault}
+use Rattle.tko_server.specs.declared.run_fault.RunFault.TheVariants as server_fault
+use Rattle.tko_server.specs.declared.running.Options.{Options as Server}
+use Rattle.tko_cli.specs.Faults.{fault_of_server}
+use Rattle.tko_cli.specs.Planned.{IsPlanned, IsServerOf}
+use Rattle.tko_cli.specs.Serving.{HasServed, ServeFails, ready_text}
+use Rattle.tko_cli.specs.Totals.{totals_text}
+use Rattle.tko_cli.specs.declared.planned.Plan.{Plan}
+use Rattle.tko_cli.specs.declared.serve_options.ServeOptions.{ServeOptions}
+
+-- settings in their ranges have no fault
+no_fault : (s : Settings) → IsWithinRanges s → first_fault s ≡ None
+no_fault s within =
+    rw (le-leb 1 _ within.servers.0, le-leb _ _ within.servers.1, le-leb 1 _ within.threads.0, le-leb _ _ within.threads.1,
+    le-leb 1 _ within.failures.0, le-leb _ _ within.failures.1, leb-zero s.limit, le-leb _ _ within.limit, le-leb 1 _ within.tries.0,
+    le-leb _ _ within.tries.1, leb-zero s.opening_stamp, le-leb _ _ within.stamp) refl
+
+-- the tracker of a planned server has the plan's settings
+settings_of_plan : (options : ServeOptions) (plan : Plan) (server : Server) → IsPlanned options plan
+    → IsServerOf plan options server → tracker_settings server ≡ plan.settings
+settings_of_plan options plan server planned is = rw (is.settings, is.config, planned.settings) refl
+
+-- so no setting of it is a fault
+pub never_unset : (options : ServeOptions) (plan : Plan) (server : Server) (name : SettingsFault)
+    → IsPlanned options plan → IsServerOf plan options server → first_fault (tracker_settings server) ≡ Some name → ⊥
+never_unset options plan server name planned is first =
+    let P : Settings → Type 0 = λ s. first_fault s ≡ Some name in
+    let broken = subst P (settings_of_plan options plan server planned is) first in
+    let none = no_fault plan.settings planned.within in
+    absurd (cc)
+
+-- after `ready` a server fails without another word
+pub server_fails : {O : Type 0} (takes : O → List ℕ → O → Type 0) (failures : O → ℕ) (options : ServeOptions)
+    (plan : Plan) (from to : O) (cause : ServerFault) → IsPlanned options plan → takes from ready_text to
+    → ((name : SettingsFault) → cause ≡ server_fault.Settings name → ⊥)
+    → ServeFails takes failures options from to (fault_of_server cause)
+server_fails takes failures options plan from to (server_fault.Settings name) planned ready never = absurd (never name refl)
+server_fails takes failures options plan from to server_fault.Memory planned ready never =
+    inr (record { plan = record { plan = plan; planned = planned }; ready = ready })
+server_fails takes failures options plan from to server_fault.Accept planned ready never =
+    record { plan = record { plan = plan; planned = planned }; ready = ready }
+
+-- `ready` and then the totals
+pub has_served : {O : Type 0} (takes : O → List ℕ → O → Type 0) (options : ServeOptions) (plan : Plan)
+    (from middle to : O) (numbers : Numbers) → IsPlanned options plan → takes from ready_text middle
+    → takes middle (totals_text numbers) to → HasServed takes options from to
+has_served takes options plan from middle to numbers planned ready totals =
+    record {
+      plan = record { plan = plan; planned = planned };
+      middle = middle;
+      numbers = numbers;
+      ready = ready;
+      totals = totals;
+    }

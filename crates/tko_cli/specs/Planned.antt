@@ -1,0 +1,83 @@
+-- What `serve` runs on, and why its options name none of it.
+use Rattle.std.specs.Prelude.{◌≡◌, ℕ, length, true, false, Some, string_bytes}
+use Rattle.tko_model.specs.Ranges.{IsWithinRanges, first_fault}
+use Rattle.tko_model.specs.declared.settings.Settings.{Settings}
+use Rattle.tko_model.specs.declared.settings.SettingsFault.{SettingsFault}
+use Rattle.tko_pools.specs.Addresses.{is_address}
+use Rattle.tko_pools.specs.Configs.{Configuration, Means, Refuses}
+use Rattle.tko_pools.specs.declared.fault.ConfigFault.{ConfigFault}
+use Rattle.tko_prober.specs.Delay.{IsRange}
+use Rattle.tko_server.specs.declared.running.Options.{Options as Server}
+use Rattle.tko_cli.specs.Faults.{fault_of_config}
+use Rattle.tko_cli.specs.declared.fault.ConfigFlaw.{ConfigFlaw}
+use Rattle.tko_cli.specs.declared.fault.Fault.{Fault}
+use Rattle.tko_cli.specs.declared.fault.Fault.TheVariants as fault
+use Rattle.tko_cli.specs.declared.planned.Plan.{Plan}
+use Rattle.tko_cli.specs.declared.serve_options.ServeOptions.{ServeOptions}
+
+-- the settings that the options name, of a tracker of so many servers
+abbrev pub serve_settings : ServeOptions → ℕ → Settings
+serve_settings options servers = record {
+  servers = servers;
+  threads = options.threads;
+  failures = options.failures;
+  limit = options.limit;
+  tries = options.tries;
+  opening_stamp = 0;
+}
+
+-- the configuration of the JSON, settings in their ranges, and delays in theirs; what it listens on
+-- is an address
+pub record IsPlanned (options : ServeOptions) (plan : Plan) : Type 0 where
+  pub config : Means (string_bytes options.config) plan.config
+  pub settings : plan.settings ≡ serve_settings options (length plan.config.addresses)
+  pub within : IsWithinRanges plan.settings
+  pub first : plan.delays.first ≡ options.first_delay
+  pub greatest : plan.delays.greatest ≡ options.greatest_delay
+  pub listen : is_address (string_bytes options.listen) ≡ true
+
+-- a server of this plan, with the time limit and the number of connections that the options name
+pub record IsServerOf (plan : Plan) (options : ServeOptions) (server : Server) : Type 0 where
+  pub config : server.config ≡ plan.config
+  pub settings : server.settings ≡ plan.settings
+  pub delays : server.delays ≡ plan.delays
+  pub timeout : server.timeout ≡ options.timeout
+  pub connections : server.connections ≡ options.connections
+
+-- this is what is wrong with the JSON
+pub record IsFlawedPlan (options : ServeOptions) (flaw : ConfigFlaw) : Type 0 where
+  pub cause : ConfigFault
+  pub refuses : Refuses (string_bytes options.config) cause
+  pub named : fault_of_config cause ≡ fault.Config flaw
+
+-- the JSON is a configuration, and this setting is the first one outside its range
+pub record IsUnsetPlan (options : ServeOptions) (name : SettingsFault) : Type 0 where
+  pub config : Configuration
+  pub means : Means (string_bytes options.config) config
+  pub first : first_fault (serve_settings options (length config.addresses)) ≡ Some name
+
+-- the JSON is a configuration, and the settings are in their ranges
+pub record IsSet (options : ServeOptions) : Type 0 where
+  pub config : Configuration
+  pub means : Means (string_bytes options.config) config
+  pub within : IsWithinRanges (serve_settings options (length config.addresses))
+
+-- the delays are out of their range, where all before them is good
+pub record HasBadDelays (options : ServeOptions) : Type 0 where
+  pub set : IsSet options
+  pub refused : ¬ IsRange options.first_delay options.greatest_delay
+
+-- what it is to listen on is no address, where all else is good
+pub record HasNoAddress (options : ServeOptions) : Type 0 where
+  pub set : IsSet options
+  pub delays : IsRange options.first_delay options.greatest_delay
+  pub refused : is_address (string_bytes options.listen) ≡ false
+
+-- why the options name nothing to run on: the first reason
+abbrev pub NoPlan : ServeOptions → Fault → Type 0
+NoPlan options (fault.Config flaw) = IsFlawedPlan options flaw
+NoPlan options (fault.Settings name) = IsUnsetPlan options name
+NoPlan options fault.Delays = HasBadDelays options
+NoPlan options fault.Listen = HasNoAddress options
+NoPlan options fault.Memory = Unit {0}
+NoPlan options _ = ⊥

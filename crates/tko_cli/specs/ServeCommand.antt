@@ -1,0 +1,64 @@
+-- The command `serve` as clap reads it, and its defaults.
+use Rattle.std.specs.Prelude.{ℕ, true, pos, Some, codes}
+use Rattle.clap.specs.Words.{App, Rule, Text, new_app, new_rule, with_rule}
+use Rattle.clap.specs.declared.builder.value_parser.ValueParser.TheVariants as parser
+use Rattle.tko_cli.specs.CommandLine.{config_option, max_number, number_option, with_tracker}
+
+abbrev pub default_threads : Text
+default_threads = codes "4"
+
+abbrev pub default_connections : Text
+default_connections = codes "0"
+
+abbrev pub default_timeout : Text
+default_timeout = codes "1000"
+
+abbrev pub default_first_delay : Text
+default_first_delay = codes "10000"
+
+abbrev pub default_greatest_delay : Text
+default_greatest_delay = codes "60000"
+
+-- the greatest number of connections
+abbrev pub max_connections : ℕ
+max_connections = 18446744073709551615
+
+-- `--listen ADDRESS`, which is required
+abbrev pub listen_option : Rule
+listen_option = record (new_rule (codes "listen")) {
+  long = Some (codes "listen");
+  value_names = 1;
+  required = true;
+}
+
+-- `--config JSON`, which is required here
+abbrev pub required_config : Rule
+required_config = record config_option { required = true }
+
+-- `--connections N`, a number of 64 bits
+abbrev pub connections_option : Rule
+connections_option = record (number_option (codes "connections") default_connections) {
+  parser = Some (parser.Unsigned 0 max_connections);
+}
+
+-- `--timeout MS`, from 1
+abbrev pub timeout_option : Rule
+timeout_option = record (number_option (codes "timeout") default_timeout) {
+  parser = Some (parser.Signed (pos 1) (pos max_number));
+}
+
+-- where it listens, to whom it speaks, and how many clients it serves
+abbrev pub with_clients : App → App
+with_clients app =
+    with_rule (with_rule (with_rule (with_rule app listen_option) required_config)
+    (number_option (codes "threads") default_threads)) connections_option
+
+-- how long an exchange may take, and how long probes wait
+abbrev pub with_times : App → App
+with_times app =
+    with_rule (with_rule (with_rule app timeout_option)
+    (number_option (codes "first-delay") default_first_delay))
+    (number_option (codes "greatest-delay") default_greatest_delay)
+
+abbrev pub serve_command : App
+serve_command = with_tracker (with_times (with_clients (new_app (codes "serve"))))

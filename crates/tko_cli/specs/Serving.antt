@@ -1,0 +1,45 @@
+-- What `serve` writes, and why it fails.
+use Rattle.std.specs.Prelude.{◌≡◌, ◌<◌, ◌⊎◌, ℕ, List, codes}
+use Rattle.tko_desk.specs.declared.numbers.Numbers.{Numbers}
+use Rattle.tko_cli.specs.Planned.{IsPlanned, NoPlan}
+use Rattle.tko_cli.specs.Totals.{totals_text}
+use Rattle.tko_cli.specs.declared.fault.Fault.{Fault}
+use Rattle.tko_cli.specs.declared.fault.Fault.TheVariants as fault
+use Rattle.tko_cli.specs.declared.planned.Plan.{Plan}
+use Rattle.tko_cli.specs.declared.serve_options.ServeOptions.{ServeOptions}
+
+-- what is printed once clients can connect
+abbrev pub ready_text : List ℕ
+ready_text = codes "ready\n"
+
+-- the options name what to run on
+pub record HasPlan (options : ServeOptions) : Type 0 where
+  pub plan : Plan
+  pub planned : IsPlanned options plan
+
+-- the options name what to run on, `ready` went out, and then the totals' lines
+pub record HasServed {O : Type 0} (takes : O → List ℕ → O → Type 0) (options : ServeOptions)
+    (from to : O) : Type 0 where
+  pub plan : HasPlan options
+  pub middle : O
+  pub numbers : Numbers
+  pub ready : takes from ready_text middle
+  pub totals : takes middle (totals_text numbers) to
+
+-- `ready` went out and nothing else
+pub record IsReady {O : Type 0} (takes : O → List ℕ → O → Type 0) (options : ServeOptions)
+    (from to : O) : Type 0 where
+  pub plan : HasPlan options
+  pub ready : takes from ready_text to
+
+module _ {O : Type 0} (takes : O → List ℕ → O → Type 0) (failures : O → ℕ) where
+  -- why it fails: the options name nothing to run on, or nothing can listen there, and then nothing
+  -- was written; the outlet failed; accepting failed after `ready`; or memory ran out, and then
+  -- `ready` went out or nothing
+  abbrev pub ServeFails : ServeOptions → O → O → Fault → Type 0
+  ServeFails options from to fault.Listen =
+      (NoPlan options fault.Listen ⊎ HasPlan options) × (to ≡ from)
+  ServeFails options from to fault.Write = failures from < failures to
+  ServeFails options from to fault.Accept = IsReady takes options from to
+  ServeFails options from to fault.Memory = (to ≡ from) ⊎ IsReady takes options from to
+  ServeFails options from to reason = NoPlan options reason × (to ≡ from)

@@ -1,0 +1,54 @@
+//! What `serve` runs on, read from its options before anything is opened.
+ghost use Rattle.std.specs.Prelude.{IfOk, IfErr};
+ghost use Rattle.tko_cli.specs.Planned.{IsPlanned, IsServerOf, NoPlan};
+
+use crate::Fault;
+use crate::serve_options::ServeOptions;
+use std::alloc::Global;
+use tko_model::Settings;
+use tko_pools::{Config, is_address};
+use tko_prober::Delays;
+
+/// What the options of `serve` name.
+#[derive(Drop)]
+pub(crate) struct Plan {
+    pub config: Config,
+    pub settings: Settings,
+    pub delays: Delays,
+}
+
+impl Plan {
+    /// What a server is started with.
+    pub fn server(self, options: &ServeOptions) -> tko_server::Options
+        ensures { IsServerOf self options.now result }
+    {
+        tko_server::Options {
+            config: self.config,
+            settings: self.settings,
+            delays: self.delays,
+            timeout: options.timeout,
+            connections: options.connections,
+        }
+    }
+}
+
+/// Reads what the options name, in the order configuration, settings, delays, address.
+pub(crate) fn plan_of(alloc: Global, options: &ServeOptions) -> Result<Plan, Fault>
+    ensures ok { IfOk result (IsPlanned options.now) }
+    ensures err { IfErr result (NoPlan options.now) }
+{
+    let config = Config::read(alloc, options.config.as_bytes())?;
+    let settings = options.settings(config.servers());
+    settings.check()?;
+    let Some(delays) = Delays::new(options.first_delay, options.greatest_delay) else {
+        return Err(Fault::Delays);
+    };
+    if !is_address(options.listen.as_bytes()) {
+        return Err(Fault::Listen);
+    }
+    Ok(Plan {
+        config,
+        settings,
+        delays,
+    })
+}

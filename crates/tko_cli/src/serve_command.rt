@@ -1,0 +1,103 @@
+//! The command `serve` as clap reads it.
+ghost use Rattle.std.specs.Prelude.{◌≡◌, false, IfOk};
+ghost use Rattle.clap.specs.Words.{App, rule_of};
+ghost use Rattle.tko_cli.specs.CommandLine.{ReadsAs, number_option};
+ghost use Rattle.tko_cli.specs.ServeCommand.{connections_option, listen_option, required_config, serve_command, timeout_option, with_clients, with_times};
+
+use crate::command_line::{number, with_tracker};
+use clap::builder::ValueParser;
+use clap::{Arg, Command, value_parser};
+use std::alloc::{AllocError, Global};
+
+const DEFAULT_THREADS: &str = "4";
+
+const DEFAULT_CONNECTIONS: &str = "0";
+
+const DEFAULT_TIMEOUT: &str = "1000";
+
+const DEFAULT_FIRST_DELAY: &str = "10000";
+
+const DEFAULT_GREATEST_DELAY: &str = "60000";
+
+pub(crate) fn serve<'a>(alloc: Global) -> Result<Command<'a>, AllocError>
+    ensures { IfOk result (ReadsAs serve_command) }
+{
+    let serve = Command::new(alloc, "serve").about(
+        "Answers clients that connect to it, over memcached servers",
+    );
+    let serve = with_clients(alloc, serve)?;
+    let serve = with_times(alloc, serve)?;
+    with_tracker(alloc, serve)
+}
+
+/// With the options of the clients and of the servers.
+fn with_clients<'a>(alloc: Global, command: Command<'a>) -> Result<Command<'a>, AllocError>
+    ensures { (app : App) → ReadsAs app command.entry → IfOk result (ReadsAs (with_clients app)) }
+{
+    let threads = "How many clients are served at once, 1 to 64";
+    command
+        .arg(listen(alloc))?
+        .arg(config(alloc))?
+        .arg(number(alloc, "threads", DEFAULT_THREADS, threads))?
+        .arg(connections(alloc))
+}
+
+/// With the options that are times.
+fn with_times<'a>(alloc: Global, command: Command<'a>) -> Result<Command<'a>, AllocError>
+    ensures { (app : App) → ReadsAs app command.entry → IfOk result (ReadsAs (with_times app)) }
+{
+    let first = "How long the first probe of a marked server waits, in milliseconds, from 1";
+    let greatest = "How long any probe waits at most, at least the first delay";
+    command
+        .arg(timeout(alloc))?
+        .arg(delay(alloc, "first-delay", DEFAULT_FIRST_DELAY, first))?
+        .arg(delay(alloc, "greatest-delay", DEFAULT_GREATEST_DELAY, greatest))
+}
+
+fn listen<'a>(alloc: Global) -> Arg<'a>
+    ensures rule { rule_of result ≡ listen_option }
+    ensures local { result.global ≡ false }
+{
+    Arg::new(alloc, "listen")
+        .long("listen")
+        .value_name("ADDRESS")
+        .required(true)
+        .help("Where it listens, <host>:<port>")
+}
+
+fn config<'a>(alloc: Global) -> Arg<'a>
+    ensures rule { rule_of result ≡ required_config }
+    ensures local { result.global ≡ false }
+{
+    Arg::new(alloc, "config")
+        .long("config")
+        .value_name("JSON")
+        .required(true)
+        .help("The pools and the route")
+}
+
+fn connections<'a>(alloc: Global) -> Arg<'a>
+    ensures rule { rule_of result ≡ connections_option }
+    ensures local { result.global ≡ false }
+{
+    let help = "After how many connections it ends; 0 for never";
+    number(alloc, "connections", DEFAULT_CONNECTIONS, help).value_parser(value_parser!(u64))
+}
+
+fn timeout<'a>(alloc: Global) -> Arg<'a>
+    ensures rule { rule_of result ≡ timeout_option }
+    ensures local { result.global ≡ false }
+{
+    let help = "How long an exchange with a server may take, in milliseconds";
+    number(alloc, "timeout", DEFAULT_TIMEOUT, help)
+        .value_name("MS")
+        .value_parser(ValueParser::signed(1, 4_294_967_295))
+}
+
+/// `--name MS`, a number of milliseconds.
+fn delay<'a>(alloc: Global, name: &'a str, default: &'a str, help: &'a str) -> Arg<'a>
+    ensures rule { rule_of result ≡ number_option name.now default.now }
+    ensures local { result.global ≡ false }
+{
+    number(alloc, name, default, help).value_name("MS")
+}

@@ -1,0 +1,34 @@
+use Rattle.std.proofs.Common.{◌∙◌, ap, refl, Err}
+use Rattle.std.proofs.lemmas.Result.{err_from_is_err_and}
+use Rattle.tko_server.proofs.RunLemmas.{ended_later, ended_well, not_opened}
+use Rattle.tko_server.proofs.running.run_with.Goals as goal
+
+pub returns-in_err-seating : goal.returns-in_err-seating
+returns-in_err-seating g c =
+    let p = err_from_is_err_and c.from_residual.result c.from_residual.ensures.1 in
+    record {
+      settings = not_opened _ _ _ c.in_err-seating.field-0.0 refl
+          c.in_err-seating.ensures.settings (p.1 ∙ ap Err p.2);
+    }
+
+pub returns-in_err-book : goal.returns-in_err-book
+returns-in_err-book g c =
+    let p = err_from_is_err_and c.from_residual-in_err-book.result
+    c.from_residual-in_err-book.ensures.1 in
+    record {
+      settings = ended_later _ _ _ _ _ refl c.in_ok-seating.ensures.settings
+          (p.1 ∙ ap Err p.2) tt;
+    }
+
+pub returns-in_err-serve_all : goal.returns-in_err-serve_all
+returns-in_err-serve_all g c =
+    let p = err_from_is_err_and c.from_residual-in_err-serve_all.result
+    c.from_residual-in_err-serve_all.ensures.1 in
+    record {
+      settings = ended_later _ _ _ _ c.in_err-serve_all.field-0.0 refl
+          c.in_ok-seating.ensures.settings (p.1 ∙ ap Err p.2) c.in_err-serve_all.ensures.fault;
+    }
+
+pub returns : goal.returns
+returns g c =
+    record { settings = ended_well _ _ _ _ _ refl c.in_ok-seating.ensures.settings refl }

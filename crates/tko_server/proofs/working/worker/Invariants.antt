@@ -1,0 +1,7 @@
+use Rattle.tko_session.specs.SessionState.{Reaches}
+use Rattle.tko_server.proofs.working.worker.Given as goal
+
+abbrev pub invariant-loop : goal.invariant-loop
+invariant-loop g l =
+    (goal.iterator-loop g).can_next l.iterator' × (goal.iterator-loop g).is_finite l.iterator'
+    × Reaches g.S.Worker.Health.servers g.L.Links.servers l.working.parts

@@ -1,0 +1,24 @@
+-- What a server is started with, and why it ends.
+use Rattle.std.specs.Prelude.{length}
+use Rattle.tko_model.specs.declared.plain.OpenFault.{OpenFault}
+use Rattle.tko_model.specs.declared.plain.OpenFault.TheVariants as opening
+use Rattle.tko_model.specs.declared.settings.Settings.{Settings}
+use Rattle.tko_server.specs.declared.run_fault.RunFault.{RunFault}
+use Rattle.tko_server.specs.declared.run_fault.RunFault.TheVariants as run
+use Rattle.tko_server.specs.declared.running.Options.{Options}
+
+-- the settings of a server's tracker, which has the servers of the configuration
+abbrev pub tracker_settings : Options → Settings
+tracker_settings options =
+    record options.settings { servers = length options.config.addresses }
+
+-- why a server ends whose tracker can't be opened
+abbrev pub fault_of_opening : OpenFault → RunFault
+fault_of_opening (opening.Settings fault) = run.Settings fault
+fault_of_opening opening.Memory = run.Memory
+
+-- the settings were in their ranges
+abbrev pub IsAfterOpening : RunFault → Type 0
+IsAfterOpening (run.Settings fault) = ⊥
+IsAfterOpening run.Memory = Unit {0}
+IsAfterOpening run.Accept = Unit {0}

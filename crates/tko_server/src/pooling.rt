@@ -1,0 +1,52 @@
+//! A pool of workers.
+ghost use Rattle.std.specs.Prelude.{◌≡◌, ◌<◌, ℕ, IfOk, slice_index_or, vec_len};
+ghost use Rattle.tko_server.specs.Workers.{AreReady};
+
+use crate::{Source, WorkerParts, WorkerReport, worker};
+use std::alloc::Global;
+use std::net::TcpListener;
+use std::thread;
+use std::thread::Threads;
+use tko_bytes::NoMemory;
+use tko_links::{IoRuntime, Links};
+use tko_route::{Health, Seating};
+use tko_session::{Inlet, Moments, Outlet};
+
+/// What one worker of a pool is started with.
+#[derive(Drop)]
+pub struct Member<'a, C, P, S, L, M> {
+    pub source: C,
+    pub idle: P,
+    pub parts: WorkerParts<'a, S, L, M>,
+}
+
+/// Runs a worker for each member, on a thread of its own, or one after another where no thread can be
+/// made. Returns what each returned, in order, once all have ended. If memory runs out, some members
+/// may not have run, and what the others returned is lost.
+pub fn pool<
+    'a,
+    R: IoRuntime<Listener = TcpListener> + Threads + Sync,
+    I: Inlet + Drop + Send,
+    O: Outlet + Drop + Send,
+    C: Source<Reader = I, Writer = O> + Drop + Send,
+    P: Drop + Send,
+    H: Health + Drop + Send,
+    S: Seating<Idle = P, Worker = H> + Sync,
+    L: Links + Drop + Send,
+    M: Moments + Drop + Send,
+>(
+    rt: &R,
+    alloc: Global,
+    members: Vec<Member<'a, C, P, S, L, M>>,
+) -> Result<Vec<(P, WorkerReport)>, NoMemory>
+    requires ready { AreReady S.own S.servers L.servers members.items }
+    ensures number { IfOk result (λ ended. vec_len ended ≡ vec_len members.entry) }
+    ensures own { IfOk result (λ ended. (place : ℕ) (m : _) (e : _) → place < vec_len ended
+        → S.own (slice_index_or members.entry.items place m).parts.seating.now
+        (slice_index_or ended.items place e).0) }
+{
+    let work = |member: Member<'_, C, P, S, L, M>| {
+        worker(rt, alloc, member.source, member.idle, member.parts)
+    };
+    Ok(thread::map_vec(rt, members, &work)?)
+}

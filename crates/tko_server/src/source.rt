@@ -1,0 +1,25 @@
+//! Where a worker's connections come from.
+
+use tko_links::IoRuntime;
+use tko_session::{Inlet, Outlet};
+
+/// What a worker does next.
+#[derive(Drop)]
+pub enum Next<I, O> {
+    /// A client: where its bytes come from, and where its replies go.
+    Connection(I, O),
+    /// There is none now, and the worker may do something else.
+    Idle,
+    /// None comes any more.
+    Closed,
+}
+
+/// Gives one connection after another.
+pub trait Source {
+    type Reader: Inlet + Drop;
+
+    type Writer: Outlet + Drop;
+
+    /// The next connection, for which it may wait.
+    fn next<R: IoRuntime>(&mut self, rt: &R) -> Next<Self::Reader, Self::Writer>;
+}

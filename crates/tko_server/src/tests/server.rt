@@ -1,0 +1,77 @@
+//! The server over loopback.
+
+use super::{SERVER_ERROR, SETTINGS, config, delays};
+use crate::{Options, RunFault, run};
+use std::alloc::Global;
+use std::io::{Read, Write};
+use std::net::{Ipv4Addr, Net, SocketAddr, TcpListener, TcpStream};
+use std::sync::Wait;
+use std::test::Fail;
+use std::thread::Threads;
+use std::time::{Clock, Duration};
+use std::{io, thread};
+use tko_desk::{Kind, Totals};
+use tko_model::Settings;
+
+fn listen<R: Net<Stream = TcpStream, Listener = TcpListener>>(rt: &R) -> io::Result<TcpListener> {
+    TcpListener::bind(rt, SocketAddr::from((Ipv4Addr::LOCALHOST, 0)))
+}
+
+/// `run`, with its bounds written out.
+fn serve<R: Wait + Net<Stream = TcpStream, Listener = TcpListener> + Clock + Threads + Sync>(
+    rt: &R,
+    alloc: Global,
+    listener: &TcpListener,
+    options: &Options,
+) -> Result<Totals, RunFault> {
+    run(rt, alloc, listener, options)
+}
+
+/// What a client reads that sends this.
+fn ask<R: Net<Stream = TcpStream>>(
+    rt: &R,
+    alloc: Global,
+    address: SocketAddr,
+    bytes: &[u8],
+) -> io::Result<Vec<u8>> {
+    let mut stream = TcpStream::connect(rt, address)?;
+    stream.set_read_timeout(Some(Duration::from_millis(10_000)))?;
+    stream.write_all(bytes)?;
+    let mut read = Vec::new(alloc);
+    stream.read_to_end(&mut read)?;
+    Ok(read)
+}
+
+/// One worker over the server at this port of the loopback, for two connections.
+fn options(alloc: Global, port: u16) -> Result<Options, Fail> {
+    Ok(Options {
+        config: config(alloc, format!(in alloc; "127.0.0.1:{port}")?.as_str())?,
+        settings: Settings {
+            threads: 1,
+            ..SETTINGS
+        },
+        delays: delays()?,
+        timeout: 1_000,
+        connections: 2,
+    })
+}
+
+/// The first request finds the closed port and marks the server; the second one skips it.
+#[test]
+fn totals_of_two_connections(rt: HostRuntime) -> Result<(), Fail> {
+    let alloc = rt.alloc();
+    let listener = listen(&rt)?;
+    let address = listener.local_addr()?;
+    let options = options(alloc, listen(&rt)?.local_addr()?.port())?;
+    let ask = || ask(&rt, alloc, address, b"get a\r\nquit\r\n");
+    let (totals, read) = thread::join(
+        &rt,
+        || serve(&rt, alloc, &listener, &options),
+        || (ask(), ask()),
+    );
+    assert_eq!(rt; read.0?.as_slice(), SERVER_ERROR);
+    assert_eq!(rt; read.1?.as_slice(), SERVER_ERROR);
+    let numbers = totals.map_err(|_| "run")?.numbers;
+    assert_eq!(rt; Kind::ALL.map(|kind| numbers.of(kind)), [4, 1, 1, 0, 2, 0]);
+    Ok(())
+}

@@ -1,0 +1,136 @@
+//! A worker: one thread that serves one connection after another.
+ghost use Rattle.std.specs.Prelude.{◌≡◌, ◌≤◌, length};
+ghost use Rattle.tko_server.specs.Workers.{IsEquipped};
+ghost use Rattle.tko_session.specs.SessionState.{Reaches};
+
+use crate::{Account, Next, Source, WorkerReport};
+use std::alloc::Global;
+use std::sync::Wait;
+use tko_links::{IoRuntime, Links};
+use tko_pools::Config;
+use tko_route::{Health, Seating};
+use tko_session::{
+    Counts, Inlet, Moments, Outlet, Parts, Probers, Report, SessionFault, round, serve,
+};
+
+/// What a worker works with: the seat that it takes, the links, the configuration, the probers, their
+/// clock, and its account.
+#[derive(Drop)]
+pub struct WorkerParts<'a, S, L, M> {
+    pub seating: &'a S,
+    pub links: L,
+    pub config: Config,
+    pub probers: Probers,
+    pub moments: M,
+    pub account: Account<'a>,
+}
+
+/// Serves each connection that the source gives, until it gives none any more. Where the source is
+/// idle, and after each request, the probers of the servers that this worker marked get a round. At
+/// the end the worker gives up its marks, and gives its place back.
+pub fn worker<R: IoRuntime, C: Source + Drop, S: Seating, L: Links + Drop, M: Moments + Drop>(
+    rt: &R,
+    alloc: Global,
+    mut source: C,
+    idle: S::Idle,
+    parts: WorkerParts<'_, S, L, M>,
+) -> (S::Idle, WorkerReport)
+    requires own { S.own parts.seating.now idle }
+    requires equipped { IsEquipped S.servers L.servers parts }
+    ensures own { S.own parts.entry.seating.now result.0 }
+{
+    let WorkerParts {
+        seating,
+        links,
+        config,
+        probers,
+        moments,
+        mut account,
+    } = parts;
+    let mut working = Working {
+        parts: Parts {
+            health: seating.seat(idle),
+            links,
+            trails: Counts::new(),
+            config,
+            probers,
+            moments,
+        },
+        report: WorkerReport::new(),
+        probes: 0,
+    };
+    for _ in rt.forever() {
+        match source.next(rt) {
+            Next::Connection(mut reader, mut writer) => {
+                working.serve(rt, alloc, &mut reader, &mut writer);
+                working.settle(rt, &mut account);
+            }
+            Next::Idle => working.round(rt),
+            Next::Closed => break,
+        }
+    }
+    working.settle(rt, &mut account);
+    let Working { parts, report, .. } = working;
+    (seating.leave(rt, parts.health), report)
+}
+
+/// A worker at work.
+#[derive(Drop)]
+struct Working<H, L, M> {
+    parts: Parts<H, L, Counts, M>,
+    report: WorkerReport,
+    /// The probes that were added to the account.
+    probes: u64,
+}
+
+impl<H: Health, L: Links, M: Moments> Working<H, L, M> {
+    /// Serves one client. A fault of its session is counted, and the worker goes on.
+    fn serve<R: IoRuntime, I: Inlet, O: Outlet>(
+        &mut self,
+        rt: &R,
+        alloc: Global,
+        reader: &mut I,
+        writer: &mut O,
+    )
+        requires reach { Reaches H.servers L.servers self.old.parts }
+        ensures reach { Reaches H.servers L.servers self.new.parts }
+    {
+        let served = serve(rt, alloc, reader, writer, &mut self.parts);
+        self.report.count(&served);
+    }
+
+    /// One round of the probers.
+    fn round<R: IoRuntime>(&mut self, rt: &R)
+        requires reach { Reaches H.servers L.servers self.old.parts }
+        ensures reach { Reaches H.servers L.servers self.new.parts }
+    {
+        if round(rt, &mut self.parts).is_err() {
+            self.report.memory = true;
+        }
+    }
+
+    /// Adds what was counted since the last time to the account.
+    fn settle<R: Wait>(&mut self, rt: &R, account: &mut Account<'_>)
+        requires reach { Reaches H.servers L.servers self.old.parts }
+        ensures reach { Reaches H.servers L.servers self.new.parts }
+    {
+        let probes = probes_of(&self.parts.links, self.parts.config.addresses().len());
+        let more = probes.saturating_sub(self.probes);
+        if account.add(rt, &self.parts.trails, more) {
+            self.report.ledger_full = true;
+        }
+        self.parts.trails = Counts::new();
+        self.probes = probes;
+    }
+}
+
+/// How many probes these links sent to so many servers; it stays at 2^64 - 1.
+fn probes_of<L: Links>(links: &L, servers: usize) -> u64
+    requires { servers ≤ L.servers links.now }
+{
+    let mut probes = 0u64;
+    for server in 0..servers {
+        probes = probes.saturating_add(links.probes(server));
+    }
+    probes
+}

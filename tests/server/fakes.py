@@ -1,0 +1,107 @@
+"""Servers that are not memcached: each does with a request what a test needs."""
+import socket
+import threading
+
+from ports import HOST, free_port
+
+STORES = (b"set", b"add", b"replace", b"append", b"prepend", b"cas")
+
+
+class Fake:
+    """Calls `behave(connection, request)` for each request that comes, on a thread for each connection, and keeps the
+    bytes of all requests. A closed connection, or an answer of b"", ends the connection; None answers nothing."""
+
+    def __init__(self, behave):
+        self.behave = behave
+        self.requests = []
+        self.connections = []
+        self.listener = socket.create_server((HOST, free_port()))
+        self.address = "%s:%d" % self.listener.getsockname()
+        threading.Thread(target=self.accept, daemon=True).start()
+
+    def accept(self):
+        while True:
+            try:
+                connection, _ = self.listener.accept()
+            except OSError:
+                return
+            connection.setsockopt(socket.IPPROTO_TCP, socket.TCP_NODELAY, 1)
+            self.connections.append(connection)
+            threading.Thread(target=self.serve, args=(connection,), daemon=True).start()
+
+    def serve(self, connection):
+        with connection, connection.makefile("rb") as file:
+            try:
+                for request in requests(file):
+                    self.requests.append(request)
+                    answer = self.behave(connection, request)
+                    if answer == b"":
+                        return
+                    if answer is not None:
+                        connection.sendall(answer)
+            except OSError:
+                pass
+
+    def close(self):
+        # An accept that waits is not ended by a close alone.
+        self.listener.shutdown(socket.SHUT_RDWR)
+        self.listener.close()
+        for connection in list(self.connections):
+            try:
+                connection.shutdown(socket.SHUT_RDWR)
+            except OSError:
+                pass
+
+    def count(self, word):
+        return sum(request.split()[0] == word for request in list(self.requests))
+
+
+class Closed:
+    """A port that nobody listens at, and that nobody else can take."""
+
+    def __init__(self):
+        self.socket = socket.socket()
+        self.socket.bind((HOST, 0))
+        self.address = "%s:%d" % self.socket.getsockname()
+
+    def close(self):
+        self.socket.close()
+
+
+class Deaf:
+    """A port whose listener accepts nobody, and whose queue is full: a connection to it is never made."""
+
+    def __init__(self):
+        self.listener = socket.create_server((HOST, free_port()), backlog=0)
+        self.address = "%s:%d" % self.listener.getsockname()
+        self.waiting = []
+        while self.fill():
+            pass
+
+    def fill(self):
+        """One more connection in the queue, unless it is full."""
+        connection = socket.socket()
+        self.waiting.append(connection)
+        connection.settimeout(0.2)
+        try:
+            connection.connect(self.listener.getsockname())
+        except socket.timeout:
+            return False
+        return True
+
+    def close(self):
+        for each in [self.listener, *self.waiting]:
+            each.close()
+
+
+def requests(file):
+    """The requests of a connection, each with its data."""
+    for line in file:
+        words = line.split()
+        if words and words[0] in STORES:
+            line += file.read(int(words[4]) + 2)
+        yield line
+
+
+def key_of(request):
+    return request.split()[1]

@@ -1,0 +1,178 @@
+"""What the tests run: memcached servers and the proxy, each on a free port of 127.0.0.1.
+
+Every process is ended by its own handle, also where a test fails."""
+import atexit
+import json
+import os
+import re
+import select
+import signal
+import subprocess
+import tempfile
+import unittest
+
+from fakes import Closed, Deaf, Fake
+from ports import HOST, free_port, is_open, wait_until
+from talk import Client
+
+PROGRAM = os.environ["TKOPROXY"]
+started = []
+
+
+def start(words, **options):
+    process = subprocess.Popen(words, stdin=subprocess.DEVNULL, **options)
+    started.append(process)
+    return process
+
+
+def stop(process):
+    if process.poll() is None:
+        process.kill()
+    process.wait()
+    if process in started:
+        started.remove(process)
+
+
+@atexit.register
+def stop_all():
+    for process in list(started):
+        stop(process)
+
+
+class Memcached:
+    """A memcached server, which can be killed, paused and started again on its port."""
+
+    def __init__(self, *options):
+        self.options = options
+        self.port = free_port()
+        self.address = f"{HOST}:{self.port}"
+        self.start()
+
+    def start(self):
+        user = ["-u", "nobody"] if os.getuid() == 0 else []
+        self.process = start(["memcached", "-l", HOST, "-p", str(self.port), "-U", "0", *user, *self.options],
+                             stderr=subprocess.DEVNULL)
+        wait_until(self.is_listening, 10, f"memcached listens at {self.address}")
+
+    def is_listening(self):
+        if self.process.poll() is not None:
+            raise AssertionError(f"memcached ended with status {self.process.returncode}")
+        return is_open(self.port)
+
+    def client(self):
+        return Client(self.port)
+
+    def count(self, name):
+        """A number of `stats`, for example cmd_get."""
+        with self.client() as client:
+            return int(re.search(rb"STAT %s (\d+)" % name.encode(), client.ask(b"stats\r\n")).group(1))
+
+    def pause(self):
+        self.process.send_signal(signal.SIGSTOP)
+
+    def resume(self):
+        self.process.send_signal(signal.SIGCONT)
+
+    def kill(self):
+        stop(self.process)
+
+
+def configuration(failover_exptime=60, **pools):
+    """The configuration of a failover route over these pools, in the order given; a pool is a list of servers."""
+    named = {name: {"servers": [server.address for server in servers]} for name, servers in pools.items()}
+    children = [f"PoolRoute|{name}" for name in pools]
+    return json.dumps({"pools": named, "route": {"type": "FailoverRoute", "children": children,
+                                                 "failover_exptime": failover_exptime}})
+
+
+def serve_words(port, config, options):
+    named = [word for name, value in options.items() for word in ("--" + name.replace("_", "-"), str(value))]
+    return [PROGRAM, "serve", "--listen", f"{HOST}:{port}", "--config", config, *named]
+
+
+class Proxy:
+    """The running program, from its line `ready` on."""
+
+    def __init__(self, config, port=None, **options):
+        self.port = port or free_port()
+        self.errors = tempfile.TemporaryFile()
+        self.process = start(serve_words(self.port, config, options), bufsize=0, stdout=subprocess.PIPE,
+                             stderr=self.errors)
+        ready, _, _ = select.select([self.process.stdout], [], [], 20)
+        line = self.process.stdout.readline() if ready else b"nothing"
+        if line != b"ready\n":
+            _, text = self.close()
+            raise AssertionError(f"the program printed {line!r}, and on standard error {text!r}")
+
+    def error_text(self):
+        self.errors.seek(0)
+        return self.errors.read()
+
+    def client(self, **options):
+        return Client(self.port, **options)
+
+    def marks(self):
+        """The mark of each server, by its address, as `stats tko` tells it on a connection of its own."""
+        with self.client() as client:
+            lines = client.ask(b"stats tko\r\n").decode().split("\r\n")
+        return dict(line.split()[1:] for line in lines if line.startswith("STAT"))
+
+    def status(self, name):
+        """A number of /proc/PID/status, for example VmRSS in KiB."""
+        with open(f"/proc/{self.process.pid}/status", encoding="ascii") as file:
+            return int(re.search(rf"^{name}:\s+(\d+)", file.read(), re.M).group(1))
+
+    def files(self):
+        return len(os.listdir(f"/proc/{self.process.pid}/fd"))
+
+    def end(self, seconds=10):
+        """Waits until the program ends by itself. Its status, and what it printed after `ready`."""
+        status = self.process.wait(seconds)
+        return status, self.process.stdout.read().decode()
+
+    def close(self):
+        running = self.process.poll() is None
+        stop(self.process)
+        self.process.stdout.close()
+        with self.errors:
+            text = self.error_text()
+        return running, text
+
+
+class ServerTest(unittest.TestCase):
+    """A test whose servers and proxies are ended after it, and whose proxy keeps running and reports no error."""
+
+    def memcached(self, *options):
+        server = Memcached(*options)
+        self.addCleanup(server.kill)
+        return server
+
+    def fake(self, behave):
+        """A server that answers each request by `behave(connection, request)`."""
+        return self.kept(Fake(behave))
+
+    def closed(self):
+        """A port that refuses connections."""
+        return self.kept(Closed())
+
+    def deaf(self):
+        """A port that neither makes nor refuses connections."""
+        return self.kept(Deaf())
+
+    def proxy(self, config, **options):
+        proxy = Proxy(config, **options)
+        self.addCleanup(self.close_proxy, proxy, "connections" in options)
+        return proxy
+
+    def close_proxy(self, proxy, may_end):
+        running, text = proxy.close()
+        self.assertTrue(running or may_end, "the program ended before the test did")
+        self.assertEqual(text, b"")
+
+    def client(self, port):
+        return self.kept(Client(port))
+
+    def kept(self, part):
+        """Until the test has ended, and then closed."""
+        self.addCleanup(part.close)
+        return part
