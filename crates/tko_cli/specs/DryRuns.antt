@@ -34,10 +34,18 @@ DryParts = Parts OneThread ScriptedState (List (List Attempt)) Still
 abbrev pub words_in : DryOptions → List (List ℕ)
 words_in options = words_of (string_bytes options.outcomes)
 
+-- how long the first probe of a server waits in `dry`, in milliseconds
+abbrev pub dry_first_delay : ℕ
+dry_first_delay = 10000
+
+-- how long any probe waits at most in `dry`, in milliseconds
+abbrev pub dry_greatest_delay : ℕ
+dry_greatest_delay = 60000
+
 -- the delays of probes that no option names
 pub record AreDefaultDelays (delays : Delays) : Type 0 where
-  pub first : delays.first ≡ 10000
-  pub greatest : delays.greatest ≡ 60000
+  pub first : delays.first ≡ dry_first_delay
+  pub greatest : delays.greatest ≡ dry_greatest_delay
 
 -- parts before the first request, over this configuration: a tracker used by thread 0, these
 -- scripts, nothing sent or probed, no trail, and no server that is going to be probed

@@ -1,79 +1,36 @@
 //! Links over TCP to a listener on loopback that plays a list of acts.
 ghost use Rattle.std.specs.Prelude.{◌≡◌, IfOk, length};
 
-use crate::{Links, Outcome, TcpLinks, TcpWire};
+use crate::tests::acts::{acts_of, play};
+use crate::tests::{get_a, word_of};
+use crate::{Links, TcpLinks, TcpWire};
 use std::alloc::Global;
-use std::io::{Read, Write};
 use std::net::{Ipv4Addr, Net, SocketAddr, TcpListener, TcpStream};
 use std::sync::Wait;
 use std::test::Fail;
 use std::time::{Clock, Duration};
 use std::{io, thread};
 use tko_model::{Look, Mark};
-use tko_text::{Key, Keys, Request, Response};
 
-const MISS: &[u8] = b"END\r\n";
+// A row is what a peer does while two requests are sent, and what comes of them. A table is one
+// literal, since each further value of a table adds to its proof.
 
-const VALUE: &[u8] = b"VALUE a 0 1\r\nx\r\nEND\r\n";
+/// A whole answer, at once, byte by byte and of 1 MiB; half a line and an end; an end before the
+/// answer; further bytes behind the answer.
+const ANSWERS: &str = "aqmqv miss value
+aqdqm value miss
+aqLqm large miss
+aqecaqm broken miss
+acaqm broken miss
+aqMaqv miss value";
 
-const PIECE: [u8; 1024] = [b'x'; 1024];
+/// An end after the answer, before the next request.
+const CLOSED: &str = "aqmcaqv miss value";
 
-/// What a peer does next.
-#[derive(Clone, Copy)]
-enum Act {
-    Accept,
-    Read,
-    Send(&'static [u8]),
-    /// Sends each byte by itself, with so many milliseconds before it.
-    Drip(&'static [u8], u64),
-    /// Sends a value of 1 MiB in small pieces.
-    SendLarge,
-    Sleep(u64),
-    Close,
-}
-
-/// Plays the acts, and closes what is open.
-fn play<R: Clock>(rt: &R, listener: &TcpListener, acts: &[Act]) -> io::Result<()> {
-    let mut stream = None;
-    for act in acts {
-        match (act, &mut stream) {
-            (Act::Accept, _) => stream = Some(listener.accept()?.0),
-            (Act::Sleep(millis), _) => thread::sleep(rt, Duration::from_millis(*millis)),
-            (Act::Close, _) => stream = None,
-            (_, Some(stream)) => {
-                let _done = play_on(rt, stream, *act);
-            }
-            _ => {}
-        }
-    }
-    Ok(())
-}
-
-/// Plays an act on a connection that the other side may have closed.
-fn play_on<R: Clock>(rt: &R, stream: &mut TcpStream, act: Act) -> io::Result<()> {
-    match act {
-        Act::Read => {
-            let _count = stream.read(&mut [0; 100])?;
-        }
-        Act::Send(bytes) => stream.write_all(bytes)?,
-        Act::Drip(bytes, millis) => {
-            stream.set_nodelay(true)?;
-            for byte in bytes {
-                thread::sleep(rt, Duration::from_millis(millis));
-                stream.write_all(&[*byte])?;
-            }
-        }
-        Act::SendLarge => {
-            stream.write_all(b"VALUE a 0 1048576\r\n")?;
-            for _ in 0..1024 {
-                stream.write_all(&PIECE)?;
-            }
-            stream.write_all(b"\r\nEND\r\n")?;
-        }
-        _ => {}
-    }
-    Ok(())
-}
+/// A late answer is never that of the next request, and a byte from time to time does not prolong
+/// the exchange.
+const SLOW: &str = "aqwvaqm timeout miss
+aqDaqm timeout miss";
 
 fn listen<R: Net<Stream = TcpStream, Listener = TcpListener>>(rt: &R) -> io::Result<TcpListener> {
     TcpListener::bind(rt, SocketAddr::from((Ipv4Addr::LOCALHOST, 0)))
@@ -98,137 +55,57 @@ fn get<R: Wait + Net<Stream = TcpStream> + Clock>(
     requires { length links.old.sends ≡ 1 }
     ensures { length links.new.sends ≡ 1 }
 {
-    let Some(key) = Key::of(alloc, b"a".as_slice())? else {
-        return Ok("no key");
-    };
-    let request = Request::Get {
-        keys: Keys::new(vec![in alloc; key]?),
-    };
+    let request = get_a(alloc)?;
     let Look::Up(_, clear) = Look::of(0, Mark::Up(0)) else {
         return Ok("marked");
     };
-    Ok(match links.exchange(rt, clear, &request) {
-        Ok(outcome) => word(&outcome),
-        Err(_) => "memory",
-    })
+    Ok(word_of(&links.exchange(rt, clear, &request)))
 }
 
-fn word(outcome: &Outcome) -> &'static str {
-    match outcome {
-        Outcome::Reply(Response::Values(None)) => "miss",
-        Outcome::Reply(Response::Values(Some(value))) => match value.data.as_bytes().len() {
-            1 => "value",
-            1_048_576 => "large",
-            _ => "other value",
-        },
-        Outcome::Reply(_) => "reply",
-        Outcome::Timeout => "timeout",
-        Outcome::Refused => "refused",
-        Outcome::Broken => "broken",
-        Outcome::Spent => "spent",
-    }
+/// What comes of one `get a`, and of another after so many milliseconds, as a row for these acts.
+fn row_of<R: Wait + Net<Stream = TcpStream> + Clock>(
+    rt: &R,
+    alloc: Global,
+    links: &mut TcpLinks,
+    acts: &str,
+    pause: u64,
+) -> Result<String, Fail>
+    requires { length links.old.sends ≡ 1 }
+{
+    let first = get(rt, alloc, links)?;
+    thread::sleep(rt, Duration::from_millis(pause));
+    let second = get(rt, alloc, links)?;
+    Ok(format!(in alloc; "{acts} {first} {second}")?)
 }
 
 #[test]
-fn closed_port_is_refused_and_silent_peer_times_out(rt: HostRuntime) -> Result<(), Fail> {
-    let alloc = rt.alloc();
-    let mut closed = links_to(alloc, &listen(&rt)?, 50)?;
-    assert_eq!(rt; get(&rt, alloc, &mut closed)?, "refused");
+fn a_closed_port_is_refused(rt: HostRuntime) -> Result<(), Fail> {
+    let mut closed = links_to(rt.alloc(), &listen(&rt)?, 50)?;
+    assert_eq!(rt; get(&rt, rt.alloc(), &mut closed)?, "refused");
+    Ok(())
+}
+
+#[test]
+fn a_silent_peer_times_out(rt: HostRuntime) -> Result<(), Fail> {
     let silent = listen(&rt)?;
-    let mut links = links_to(alloc, &silent, 50)?;
-    assert_eq!(rt; get(&rt, alloc, &mut links)?, "timeout");
+    let mut links = links_to(rt.alloc(), &silent, 50)?;
+    assert_eq!(rt; get(&rt, rt.alloc(), &mut links)?, "timeout");
     Ok(())
 }
 
 #[test]
 fn peers_that_answer_in_many_ways(rt: HostRuntime) -> Result<(), Fail> {
-    use Act::{Accept, Close, Drip, Read, Send, SendLarge, Sleep};
     let alloc = rt.alloc();
-    for (limit, acts, pause, outcomes) in [
-        (
-            9_000,
-            vec![in alloc; Accept, Read, Send(MISS), Read, Send(VALUE)]?,
-            0,
-            ("miss", "value"),
-        ),
-        (
-            9_000,
-            vec![in alloc; Accept, Read, Drip(VALUE, 1), Read, Send(MISS)]?,
-            0,
-            ("value", "miss"),
-        ),
-        (
-            9_000,
-            vec![in alloc; Accept, Read, SendLarge, Read, Send(MISS)]?,
-            0,
-            ("large", "miss"),
-        ),
-        // half a line and an end
-        (
-            9_000,
-            vec![in alloc; Accept, Read, Send(b"EN"), Close, Accept, Read, Send(MISS)]?,
-            0,
-            ("broken", "miss"),
-        ),
-        // closed before the answer
-        (
-            9_000,
-            vec![in alloc; Accept, Close, Accept, Read, Send(MISS)]?,
-            0,
-            ("broken", "miss"),
-        ),
-        // further bytes behind the answer
-        (
-            9_000,
-            vec![in alloc;
-                Accept,
-                Read,
-                Send(b"END\r\nEND\r\n"),
-                Accept,
-                Read,
-                Send(VALUE),
-            ]?,
-            0,
-            ("miss", "value"),
-        ),
-        // closed after the answer
-        (
-            9_000,
-            vec![in alloc; Accept, Read, Send(MISS), Close, Accept, Read, Send(VALUE)]?,
-            200,
-            ("miss", "value"),
-        ),
-        // a late answer is never that of the next request
-        (
-            300,
-            vec![in alloc;
-                Accept,
-                Read,
-                Sleep(350),
-                Send(VALUE),
-                Accept,
-                Read,
-                Send(MISS),
-            ]?,
-            0,
-            ("timeout", "miss"),
-        ),
-        // a byte from time to time does not prolong the exchange
-        (
-            300,
-            vec![in alloc; Accept, Read, Drip(VALUE, 30), Accept, Read, Send(MISS)]?,
-            0,
-            ("timeout", "miss"),
-        ),
-    ] {
-        let listener = listen(&rt)?;
-        let mut links = links_to(alloc, &listener, limit)?;
-        let peer = thread::spawn(&rt, move || play(&rt, &listener, acts.as_slice()))?;
-        let first = get(&rt, alloc, &mut links)?;
-        thread::sleep(&rt, Duration::from_millis(pause));
-        let second = get(&rt, alloc, &mut links)?;
-        assert_eq!(rt; (first, second), outcomes);
-        assert!(rt; peer.join(&rt).is_ok());
+    for (limit, pause, table) in [(9_000, 0, ANSWERS), (9_000, 200, CLOSED), (300, 0, SLOW)] {
+        for row in table.lines() {
+            let acts = acts_of(row);
+            let listener = listen(&rt)?;
+            let mut links = links_to(alloc, &listener, limit)?;
+            let peer = thread::spawn(&rt, move || play(&rt, &listener, acts))?;
+            let came = row_of(&rt, alloc, &mut links, acts, pause)?;
+            assert_eq!(rt; came.as_str(), row);
+            assert!(rt; peer.join(&rt).is_ok());
+        }
     }
     Ok(())
 }

@@ -37,8 +37,8 @@ pub struct Options {
     pub connections: u64,
 }
 
-/// Accepts connections and serves each over TCP links by one of the workers, who share the health of
-/// the servers. Returns the totals once the last connection was served.
+/// Accepts connections and serves each over TCP links by one of the workers, who share the health
+/// of the servers. Returns the totals once the last connection was served.
 pub fn run<R: IoRuntime<Listener = TcpListener> + Threads + Sync>(
     rt: &R,
     alloc: Global,
@@ -116,8 +116,8 @@ fn serve_all<
     Ok(())
 }
 
-/// The totals of the book. Each worker gave its share back, so `gather` does not refuse them; what a
-/// lock had in it is known by its type alone, so no contract says that.
+/// The totals of the book. Each worker gave its share back, so `gather` does not refuse them; what
+/// a lock had in it is known by its type alone, so no contract says that.
 fn totals_of(book: Book, shares: Vec<Share>) -> Totals
     ensures { result.numbers ≡ book.totals }
 {

@@ -8,6 +8,7 @@ use tko_pools::Config;
 use tko_prober::Delays;
 use tko_route::TrackerSettings;
 
+mod gate;
 mod pools;
 mod screen;
 mod server;

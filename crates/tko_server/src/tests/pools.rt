@@ -2,101 +2,23 @@
 ghost use Rattle.std.specs.Prelude.{◌<◌, All, IfOk, length};
 ghost use Rattle.tko_server.specs.Workers.{AreReady, IsEquipped};
 
+use super::gate::{Gate, Gated};
 use super::screen::{Visit, Visits};
 use super::{SETTINGS, Two, config, delays};
 use crate::{Account, Member, WorkerParts, pool};
 use std::alloc::Global;
 use std::net::{Net, TcpListener, TcpStream};
-use std::sync::atomic::{AtomicBool, Ordering};
 use std::sync::{Mutex, Wait};
 use std::test::Fail;
-use std::thread;
 use std::thread::Threads;
-use std::time::{Clock, Duration};
+use std::time::Clock;
 use tko_desk::{Book, Share};
-use tko_links::{IoRuntime, Links, NoMemory, Outcome, Script, Scripted};
-use tko_model::{Clear, Duty};
+use tko_links::{Script, Scripted};
 use tko_route::{LockedIdle, LockedSeating};
 use tko_session::{Probers, Still};
-use tko_text::Request;
 
 /// Each member has one client.
 const VISITS: [Visit; 1] = [Visit::Client(b"get a\r\n")];
-
-/// How many turns of a millisecond a request waits for the other.
-const TURNS: u32 = 1_000;
-
-/// Two requests that wait for each other: the second is answered once the first came, and the first
-/// once the second was answered.
-#[derive(Drop)]
-struct Gate {
-    first_came: AtomicBool,
-    second_answered: AtomicBool,
-    late: AtomicBool,
-}
-
-impl Gate {
-    fn wait<R: IoRuntime>(&self, rt: &R, flag: &AtomicBool) {
-        for _ in 0..TURNS {
-            if flag.load(Ordering::SeqCst) {
-                return;
-            }
-            thread::sleep(rt, Duration::from_millis(1));
-        }
-        self.late.store(true, Ordering::SeqCst);
-    }
-}
-
-/// Scripted links whose exchange waits at the gate.
-#[derive(Drop)]
-struct Gated<'a> {
-    inner: Scripted,
-    gate: &'a Gate,
-    is_first: bool,
-}
-
-impl<'a> Links for Gated<'a> {
-    ghost use Rattle.std.specs.Prelude.{length, slice_index};
-    ghost use Rattle.tko_links.specs.Scripted.{IsPlayed};
-
-    ghost servers = { λ links. length links.inner.sends };
-
-    ghost sent = { λ links server. slice_index links.inner.sends server };
-
-    ghost probed = { λ links server. slice_index links.inner.probes server };
-
-    ghost exchanges = { λ old it new. IsPlayed old.inner it new.inner };
-
-    fn exchange<R: IoRuntime>(
-        &mut self,
-        rt: &R,
-        clear: Clear,
-        request: &Request,
-    ) -> Result<Outcome, NoMemory> {
-        let gate = self.gate;
-        if self.is_first {
-            gate.first_came.store(true, Ordering::SeqCst);
-            gate.wait(rt, &gate.second_answered);
-            return self.inner.exchange(rt, clear, request);
-        }
-        gate.wait(rt, &gate.first_came);
-        let outcome = self.inner.exchange(rt, clear, request);
-        gate.second_answered.store(true, Ordering::SeqCst);
-        outcome
-    }
-
-    fn probe<R: IoRuntime>(&mut self, rt: &R, duty: Duty) -> Result<Outcome, NoMemory> {
-        self.inner.probe(rt, duty)
-    }
-
-    fn sends(&self, server: usize) -> u64 {
-        self.inner.sends(server)
-    }
-
-    fn probes(&self, server: usize) -> u64 {
-        self.inner.probes(server)
-    }
-}
 
 /// What two members share.
 #[derive(Drop)]
@@ -194,17 +116,13 @@ fn run_both<R: Wait + Net<Stream = TcpStream, Listener = TcpListener> + Clock + 
         seating,
         book: Mutex::new(book),
         text: Mutex::new(Vec::new(alloc)),
-        gate: Gate {
-            first_came: AtomicBool::new(false),
-            second_answered: AtomicBool::new(false),
-            late: AtomicBool::new(false),
-        },
+        gate: Gate::new(),
     };
     let members = shared.members(alloc, seats, &mut shares)?;
     let workers = pool(rt, alloc, members)?.len();
     Ok(Ended {
         workers,
-        late: shared.gate.late.load(Ordering::SeqCst),
+        late: shared.gate.is_late(),
         text: shared.text.into_inner(),
     })
 }

@@ -2,6 +2,7 @@
 
 use super::{MISSES, TWICE, refused_and_misses, run};
 use crate::{Inlet, Outlet, Piped, Stop};
+use std::alloc::Global;
 use std::io;
 use std::io::{ErrorKind, Read, Write};
 use std::net::{Net, TcpStream};
@@ -9,20 +10,31 @@ use std::sync::Wait;
 use std::test::Fail;
 use std::time::Clock;
 
-#[test]
-fn pipes_carry_the_same(rt: HostRuntime) -> Result<(), Fail> {
-    let alloc = rt.alloc();
-    let mut reader = Piped::new(TWICE);
+/// What a session over pipes writes, if it does not fail.
+fn piped<R: Wait + Net<Stream = TcpStream> + Clock>(
+    rt: &R,
+    alloc: Global,
+    input: &[u8],
+) -> Result<Vec<u8>, Fail> {
+    let mut reader = Piped::new(input);
     let mut writer = Piped::new(Vec::new(alloc));
     let ran = run(
-        &rt,
+        rt,
         alloc,
         &mut reader,
         &mut writer,
         refused_and_misses(alloc)?,
     )?;
-    assert!(rt; ran.result.is_ok());
-    assert_eq!(rt; writer.inner.as_slice(), MISSES);
+    if ran.result.is_err() {
+        return Err("a failed session".into());
+    }
+    Ok(writer.inner)
+}
+
+#[test]
+fn pipes_carry_the_same(rt: HostRuntime) -> Result<(), Fail> {
+    let _stream: Option<TcpStream> = None;
+    assert_eq!(rt; piped(&rt, rt.alloc(), TWICE)?.as_slice(), MISSES);
     Ok(())
 }
 
