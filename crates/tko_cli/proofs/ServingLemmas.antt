@@ -20,9 +20,20 @@ use Rattle.tko_cli.specs.declared.serve_options.ServeOptions.{ServeOptions}
 -- settings in their ranges have no fault
 no_fault : (s : Settings) → IsWithinRanges s → first_fault s ≡ None
 no_fault s within =
-    rw (le-leb 1 _ within.servers.0, le-leb _ _ within.servers.1, le-leb 1 _ within.threads.0, le-leb _ _ within.threads.1,
-    le-leb 1 _ within.failures.0, le-leb _ _ within.failures.1, leb-zero s.limit, le-leb _ _ within.limit, le-leb 1 _ within.tries.0,
-    le-leb _ _ within.tries.1, leb-zero s.opening_stamp, le-leb _ _ within.stamp) refl
+    rw (
+      le-leb 1 _ within.servers.0,
+      le-leb _ _ within.servers.1,
+      le-leb 1 _ within.threads.0,
+      le-leb _ _ within.threads.1,
+      le-leb 1 _ within.failures.0,
+      le-leb _ _ within.failures.1,
+      leb-zero s.limit,
+      le-leb _ _ within.limit,
+      le-leb 1 _ within.tries.0,
+      le-leb _ _ within.tries.1,
+      leb-zero s.opening_stamp,
+      le-leb _ _ within.stamp,
+    ) refl
 
 -- the tracker of a planned server has the plan's settings
 settings_of_plan : (options : ServeOptions) (plan : Plan) (server : Server) → IsPlanned options plan
