@@ -1,6 +1,8 @@
 -- Members of a pool that are ready.
-use Rattle.std.proofs.Common.{◌≡◌, ℕ, List, All, [], ◌∷◌, ◌++◌, subst, sym}
+use Rattle.std.proofs.Common.{◌≡◌, ◌∙◌, ℕ, zero, suc, ◌+◌, List, All, [], ◌∷◌, ◌++◌, ap, arith, length, refl, subst, sym}
+use Rattle.std.proofs.lemmas.Grind.{length_at_push}
 use Rattle.std.proofs.lemmas.List.Elements.{All-push}
+use Rattle.tko_desk.specs.Ledger.{fresh_share, fresh_shares}
 use Rattle.tko_server.specs.declared.pooling.Member.{Member}
 use Rattle.tko_server.specs.Workers.{AreReady, IsEquipped, IsReady}
 
@@ -14,3 +16,26 @@ one_more_ready {C} {P} {S} {L} {M} own seated linked before after member pushed 
     let R : Member C P S L M → Type 0 = λ m. IsReady own seated linked m in
     let one : R member = record { seat = seat; equipped = equipped } in
     subst (All R) (sym pushed) (All-push R before member ready one)
+
+-- one member more, and one seat and one share less to come
+pub one_seat_less : {P H D : Type 0} (seats later : List P) (seat : P) (shares left : List H)
+    (share : H) (before after : List D) (member : D) (threads : ℕ) → seats ≡ seat ∷ later
+    → shares ≡ share ∷ left → after ≡ before ++ member ∷ []
+    → length before + length seats ≡ threads → length shares ≡ length seats
+    → (length after + length later ≡ threads) × (length left ≡ length later)
+one_seat_less seats later _ shares left _ before after member _ taken lent pushed counted same =
+    let one_more : length after ≡ length before + 1 =
+    ap length pushed ∙ (length_at_push before member).1 in
+    let fewer_seats : length seats ≡ length later + 1 = omega (arith, ap length taken) in
+    let fewer_shares : length shares ≡ length left + 1 = omega (arith, ap length lent) in (
+      omega (arith, one_more, fewer_seats, counted),
+      omega (arith, fewer_seats, fewer_shares, same),
+    )
+
+-- a ledger has so many shares
+pub number_of_shares : (name shares : ℕ) → length (fresh_shares name shares) ≡ shares
+number_of_shares name zero = refl
+number_of_shares name (suc n) =
+    let fresh = fresh_shares name n in
+    let one_more : length (fresh ++ fresh_share name n ∷ []) ≡ length fresh + 1 =
+    (length_at_push fresh (fresh_share name n)).1 in omega (arith, one_more, number_of_shares name n)

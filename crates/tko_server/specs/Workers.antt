@@ -23,8 +23,10 @@ abbrev pub AreReady : {C P S L M : Type 0} → (S → P → Type 0) → (S → �
     → List (Member C P S L M) → Type 0
 AreReady own seated linked members = All (λ member. IsReady own seated linked member) members
 
--- these are ready, at a seating in a lock with these settings, and by links over a wire
+-- as many as these settings have threads, ready at a seating in a lock with these settings, and by
+-- links over a wire
 abbrev pub AreMembersOf : {C S W M : Type 0} → Settings
     → List (Member C ℕ S (WiredState W) M) → Type 0
-AreMembersOf settings members = AreReady (λ _ idle. idle < settings.threads) (λ _. settings.servers)
+AreMembersOf settings members = (length members ≡ settings.threads)
+    × AreReady (λ _ idle. idle < settings.threads) (λ _. settings.servers)
     (λ links. length links.sends) members

@@ -32,8 +32,8 @@ pub(crate) type ServerMember<'a, S> = Member<
 >;
 
 impl<S: TrackerSettings> Shared<'_, S> {
-    /// A member for each seat, in order, as long as there are shares. All of them take the clients
-    /// from one channel.
+    /// A member for each seat, in order, with the share of the same place. All of them take the
+    /// clients from one channel.
     pub(crate) fn members<'a, R: IoRuntime>(
         &'a self,
         rt: &R,
@@ -43,6 +43,8 @@ impl<S: TrackerSettings> Shared<'_, S> {
         accepted: &Receiver<Client>,
     ) -> Result<Vec<ServerMember<'a, S>>, NoMemory>
         requires own { All (λ idle. idle < S.settings.threads) seats.items }
+        requires seats { length seats.items ≡ S.settings.threads }
+        requires shares { length shares.old ≡ S.settings.threads }
         requires servers { S.settings.servers ≡ length self.now.options.now.config.addresses }
         ensures ready { IfOk result (λ members. AreMembersOf S.settings members.items) }
     {

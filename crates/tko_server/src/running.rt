@@ -95,6 +95,8 @@ fn serve_all<
     shares: &mut [Share],
 ) -> Result<(), RunFault>
     requires own { All (λ idle. idle < S.settings.threads) seats.items }
+    requires seats { length seats.items ≡ S.settings.threads }
+    requires shares { length shares.old ≡ S.settings.threads }
     requires servers { S.settings.servers ≡ length shared.now.options.now.config.addresses }
     ensures fault { IfErr result IsAfterOpening }
 {

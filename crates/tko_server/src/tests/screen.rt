@@ -30,26 +30,26 @@ impl<'a> Outlet for Screen<'a> {
 
 /// What a source gives.
 #[derive(Clone, Copy)]
-pub enum Visit {
+pub enum Visit<'a> {
     /// A client that sends this.
-    Client(&'static [u8]),
+    Client(&'a [u8]),
     Idle,
 }
 
 /// A source of these visits, one after another.
 #[derive(Drop)]
 pub struct Visits<'a> {
-    pub visits: &'a [Visit],
+    pub visits: &'a [Visit<'a>],
     pub next: usize,
     pub text: &'a Mutex<Vec<u8>>,
 }
 
 impl<'a> Source for Visits<'a> {
-    type Reader = Piped<&'static [u8]>;
+    type Reader = Piped<&'a [u8]>;
 
     type Writer = Screen<'a>;
 
-    fn next<R: IoRuntime>(&mut self, _rt: &R) -> Next<Piped<&'static [u8]>, Screen<'a>> {
+    fn next<R: IoRuntime>(&mut self, _rt: &R) -> Next<Piped<&'a [u8]>, Screen<'a>> {
         let visit = self.visits.get(self.next);
         self.next = self.next.saturating_add(1);
         match visit {

@@ -22,16 +22,21 @@ struct Left {
     report: WorkerReport,
 }
 
-/// A worker serves these visits at these moments, over one server with these scripts.
+/// A worker serves these visits at these moments, over one server with these scripts. Its share has
+/// counted so many requests already.
 fn work<R: Wait + Net<Stream = TcpStream> + Clock>(
     rt: &R,
     alloc: Global,
     visits: &[Visit],
     moments: Vec<u64>,
     scripts: Vec<Script>,
+    requests: u64,
 ) -> Result<Left, Fail> {
     let (seating, mut seats) = LockedSeating::<Two>::open(alloc, SETTINGS)?;
-    let (book, mut shares) = Book::open(alloc, 0, 1)?;
+    let (mut book, mut shares) = Book::open(alloc, 0, 1)?;
+    let mut share = shares.pop().ok_or("a share")?;
+    book.add_many(&mut share, Kind::Request, requests)
+        .map_err(|_| "a ledger with room")?;
     let book = Mutex::new(book);
     let text = Mutex::new(Vec::new(alloc));
     let source = Visits {
@@ -39,7 +44,6 @@ fn work<R: Wait + Net<Stream = TcpStream> + Clock>(
         next: 0,
         text: &text,
     };
-    let mut share = shares.pop().ok_or("a share")?;
     let parts = WorkerParts {
         seating: &seating,
         links: Scripted::new(alloc, 1, scripts)?,
@@ -77,7 +81,7 @@ fn idle_worker_probes(rt: HostRuntime) -> Result<(), Fail> {
     let client = Visit::Client(b"get a\r\n");
     let visits = [client, Visit::Idle, Visit::Idle, client];
     let moments = vec![in alloc; 0, 9_999, 10_000, 10_001, 10_002]?;
-    let left = work(&rt, alloc, &visits, moments, outage(alloc)?)?;
+    let left = work(&rt, alloc, &visits, moments, outage(alloc)?, 0)?;
     let mut replies = SERVER_ERROR.to_vec(alloc)?;
     replies.extend_from_slice(b"END\r\n")?;
     assert_eq!(rt; left.text, replies);
@@ -90,5 +94,26 @@ fn idle_worker_probes(rt: HostRuntime) -> Result<(), Fail> {
         ledger_full: false,
     };
     assert_eq!(rt; left.report, report);
+    Ok(())
+}
+
+/// The first client's line is too long. The ledger can count no further request.
+#[test]
+fn faults_and_a_full_ledger_are_reported(rt: HostRuntime) -> Result<(), Fail> {
+    let _stream: Option<TcpStream> = None;
+    let alloc = rt.alloc();
+    let long = vec![in alloc; b'x'; 65_537]?;
+    let visits = [Visit::Client(&long), Visit::Client(b"get a\r\n")];
+    let scripts = outage(alloc)?;
+    let left = work(&rt, alloc, &visits, Vec::new(alloc), scripts, u64::MAX)?;
+    let report = WorkerReport {
+        sessions: 2,
+        faults: 1,
+        memory: false,
+        ledger_full: true,
+    };
+    assert_eq!(rt; left.report, report);
+    assert_eq!(rt; left.numbers.of(Kind::Request), u64::MAX);
+    assert_eq!(rt; left.numbers.of(Kind::Attempt), 1);
     Ok(())
 }

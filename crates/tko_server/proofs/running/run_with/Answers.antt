@@ -1,5 +1,7 @@
-use Rattle.std.proofs.Common.{◌∙◌, ap, refl, Err}
+use Rattle.std.proofs.Common.{◌∙◌, ap, length, refl, Err}
+use Rattle.std.proofs.lemmas.List.FromFn.{length-range_with_len}
 use Rattle.std.proofs.lemmas.Result.{err_from_is_err_and}
+use Rattle.tko_server.proofs.MemberLemmas.{number_of_shares}
 use Rattle.tko_server.proofs.RunLemmas.{ended_later, ended_well, not_opened}
 use Rattle.tko_server.proofs.running.run_with.Goals as goal
 
@@ -32,3 +34,13 @@ returns-in_err-serve_all g c =
 pub returns : goal.returns
 returns g c =
     record { settings = ended_well _ _ _ _ _ refl c.in_ok-seating.ensures.settings refl }
+
+pub serve_all-requires-clause-seats : goal.serve_all-requires-clause-seats
+serve_all-requires-clause-seats g c κs within =
+    ap length c.in_ok-seating.ensures.seats ∙ length-range_with_len 0 _
+    ∙ ap (λ settings. settings.threads) c.requires.settings
+
+pub serve_all-requires-clause-shares : goal.serve_all-requires-clause-shares
+serve_all-requires-clause-shares g c κs within =
+    ap length c.deref_mut.ensures.value ∙ ap length c.in_ok-book.ensures.list_is
+    ∙ number_of_shares 0 _ ∙ ap (λ settings. settings.threads) c.requires.settings
