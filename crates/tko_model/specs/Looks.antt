@@ -1,5 +1,5 @@
--- What a mark means to a caller: the tracker's reply to a look-up and what it finds, and whose right it
--- is to probe the server.
+-- What a mark means to a caller: the tracker's reply to a look-up and what it finds, and whose
+-- right it is to probe the server.
 use Rattle.std.specs.Prelude.{ℕ, ◌==◌, Option, Some, None, if◌then◌else◌}
 use Rattle.tko_model.specs.declared.look.Look.{Look}
 use Rattle.tko_model.specs.declared.look.Look.TheVariants as look

@@ -14,8 +14,8 @@ pub record Gains {S A : Type 0} (step : S → A → S → Type 0) (old : S) (ite
     : Type 0 where
   pub leads : Lead step old items new
 
--- an item of a health record: a call of an operation on a server, and its reply; or a request for the
--- right to probe a server, which was denied
+-- an item of a health record: a call of an operation on a server, and its reply; or a request for
+-- the right to probe a server, which was denied
 pub data HealthItem : Type 0 where
   Called : (op : Op) (server : ℕ) (reply : Reply) → HealthItem
   NoDuty : (server : ℕ) → HealthItem

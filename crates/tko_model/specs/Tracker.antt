@@ -98,7 +98,7 @@ is_soft (Hard thread) = false
 abbrev pub softs : List ServerState → ℕ
 softs servers = count_by (λ server. is_soft server.mark) servers
 
--- whether there is room for one more soft mark where there are so many
+-- whether there is room for one more soft mark beside those that are marked so
 abbrev pub has_room : Settings → ℕ → Bool
 has_room s marked = nat_lt marked s.limit
 

@@ -4,8 +4,8 @@ ghost use Rattle.std.specs.Prelude.{◌≡◌};
 use crate::Mark;
 use std::marker::Model;
 
-/// The right to probe one server once. In contracts it is that server's number. Only the thread that
-/// marked the server has it; it can be neither copied nor cloned, and a probe consumes it.
+/// The right to probe one server once. In contracts it is that server's number. Only the thread
+/// that marked the server has it; it can be neither copied nor cloned, and a probe consumes it.
 #[derive(Debug, Drop)]
 pub struct Duty {
     server: usize,

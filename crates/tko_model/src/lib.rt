@@ -33,5 +33,3 @@ pub use transition::Transition;
 
 #[cfg(test)]
 mod tests;
-#[cfg(test)]
-mod text_tests;

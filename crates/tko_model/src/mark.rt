@@ -3,7 +3,7 @@
 /// What a tracker knows of a server.
 #[derive(Clone, Copy, Debug, PartialEq, Eq)]
 pub enum Mark {
-    /// Unmarked, after so many soft failures in a row.
+    /// Unmarked; its number is the soft failures in a row so far.
     Up(u32),
     /// Marked after soft failures, by the thread of this number, which alone probes it.
     Soft(u32),
@@ -31,6 +31,7 @@ pub enum Reply {
     Marked(Mark),
     /// A soft failure was counted; this is the new count.
     Counted(u32),
+    /// A soft failure marked the server, as the last of `failures` in a row.
     TookSoft,
     /// The limit of soft marks is reached, so the server was not marked.
     Full,
@@ -40,6 +41,7 @@ pub enum Reply {
     Worn,
     /// Every try lost to another thread, and nothing changed.
     Contended,
+    /// A hard failure marked the server.
     TookHard,
     /// The thread's own soft mark became a hard one.
     Hardened,

@@ -85,7 +85,7 @@ impl Settings {
         }
         Ok(())
     }
-    /// Whether there is room for one more soft mark where there are so many.
+    /// Whether there is room for one more soft mark beside `softs` of them.
     pub fn has_room(&self, softs: usize) -> bool
         ensures { result ≡ has_room self.now softs }
     {

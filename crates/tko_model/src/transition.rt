@@ -116,6 +116,7 @@ impl Transition {
     fn on_soft_failure(settings: &Settings, room: bool, thread: u32, count: u32) -> Transition
         ensures { result ≡ on_soft_failure settings.now room thread count }
     {
+        // The first test is what keeps `count + 1` from wrapping.
         if count < settings.failures && count + 1 < settings.failures {
             Self::becomes(Mark::Up(count + 1), Reply::Counted(count + 1))
         } else if room {

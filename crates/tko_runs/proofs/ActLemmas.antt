@@ -1,6 +1,6 @@
 -- What an atomic step of the core claims: the words that it finds and leaves are those that its kind can leave, and
 -- writing the word that it leaves makes the words of the core after it.
-use Rattle.std.proofs.Common.{◌≡◌, ℕ, ◌+◌, ◌<◌, Bool, true, false, cond, eqb, List, length, set, Some, None, ◌⊎◌, inl, inr, refl, sym, ap, ◌∙◌, subst, arith, get_or-set_same}
+use Rattle.std.proofs.Common.{◌≡◌, ℕ, ◌+◌, ◌<◌, Bool, true, false, cond, eqb, List, length, Some, None, ◌⊎◌, inl, inr, refl, sym, ap, ◌∙◌, subst, arith}
 use Rattle.std.specs.Prelude.{◌&&◌}
 use Rattle.std.proofs.lemmas.Bool.{eq-eqb, eqb-true, ne_eqb}
 use Rattle.std.proofs.lemmas.List.{set-get_or}
@@ -16,7 +16,7 @@ use Rattle.tko_model.specs.declared.transition.Transition.{Transition}
 use Rattle.tko_model.specs.Tracker.{IsFit, becomes, on_others, on_own_hard, on_own_soft, server_at, stays, transition}
 use Rattle.tko_model.specs.Looks.{look_reply}
 use Rattle.tko_runs.specs.States.{IsPlace, same_word, written, written_slots, wrote}
-use Rattle.tko_runs.specs.Words.{CanLeave, CanLeaveServer, CanMark, IsExchange}
+use Rattle.tko_runs.specs.Words.{CanLeave, CanLeaveServer, CanMark, IsExchange, IsValid}
 use Rattle.tko_steps.specs.declared.phase.Call.{Call}
 use Rattle.tko_steps.specs.declared.phase.Phase.{Phase}
 use Rattle.tko_steps.specs.declared.phase.Phase.TheVariants.{Start, Read, AtThreshold, Limit, Reserving, Holding, Firming, Losing, Loosening, Loosened, Emptied}
@@ -27,10 +27,11 @@ use Rattle.tko_steps.specs.declared.step.Word.{Word}
 use Rattle.tko_steps.specs.declared.step.Word.TheVariants as word
 use Rattle.tko_steps.specs.declared.table.Action.{Action}
 use Rattle.tko_steps.specs.declared.table.Action.TheVariants.{LookAtServer, LookAtSlots, Exchange, Reserve, Settle, Loosen, Give}
-use Rattle.tko_steps.specs.Core.{owner_of, CoreState, Shared, abstract_of, is_call_step, is_done, kind_of, kind_of_exchange, number_of, place_of, seen_by, shared_after, thread_at, word_at}
+use Rattle.tko_steps.specs.Core.{owner_of, CoreState, Shared, abstract_of, is_call_step, number_of, seen_by, shared_after, thread_at, word_at}
+use Rattle.tko_steps.specs.Steps.{is_done, kind_of, kind_of_exchange, place_of, word_after}
 use Rattle.tko_steps.specs.Invariant.{IsCore, IsFoundBy, IsOwnOrUp}
 use Rattle.tko_steps.specs.Table.{action_of, same_mark, same_server, same_slots}
-use Rattle.tko_steps.proofs.CoreLemmas.{CanAct-at, enrolled-le, knows_at, one-le-held}
+use Rattle.tko_steps.proofs.CoreLemmas.{CanAct-at, enrolled-le, knows_at, one-le-held, stamp-fits}
 use Rattle.tko_steps.proofs.LegalLemmas.{Knows}
 use Rattle.tko_steps.proofs.TableLemmas.{eq-same_server, same_server-true, same_slots-true}
 use Rattle.tko_steps.proofs.ThreadLemmas.{number-lt}
@@ -40,13 +41,13 @@ use Rattle.tko_steps.specs.Runs.{OwnStep}
 pub record Acts (s : Settings) (shared : Shared) (server : ℕ) (act : Action) : Type 0 where
   pub steps : is_call_step (kind_of act) ≡ true
   pub place : IsPlace shared.servers (place_of server act)
-  pub servers : written shared.servers (place_of server act) (word_at (shared_after shared server act) (place_of server act))
+  pub servers : written shared.servers (place_of server act) (word_after act (word_at shared (place_of server act)))
       ≡ (shared_after shared server act).servers
-  pub slots : written_slots shared.slots (place_of server act) (word_at (shared_after shared server act) (place_of server act))
+  pub slots : written_slots shared.slots (place_of server act) (word_after act (word_at shared (place_of server act)))
       ≡ (shared_after shared server act).slots
-  pub wins : wrote (kind_of act) (word_at shared (place_of server act)) (word_at (shared_after shared server act) (place_of server act))
+  pub wins : wrote (kind_of act) (word_at shared (place_of server act)) (word_after act (word_at shared (place_of server act)))
       ≡ is_done (seen_by shared server act)
-  pub can : CanLeave s shared.slots.held (kind_of act) (word_at shared (place_of server act)) (word_at (shared_after shared server act) (place_of server act))
+  pub can : CanLeave s shared.slots.held (kind_of act) (word_at shared (place_of server act)) (word_after act (word_at shared (place_of server act)))
 
 abbrev unread : ServerState
 unread = record { mark = Up 0; stamp = 0 }
@@ -146,26 +147,25 @@ module _ (s : Settings) (shared : Shared) (server : ℕ) (found : ServerState) (
   new = record { mark = mark; stamp = found.stamp + 1 }
 
   Acts-won : same_server now found ≡ true → server < length shared.servers
-      → CanMark s shared.slots.held (kind_of_exchange found.mark mark) found.mark mark → IsFit s mark (found.stamp + 1)
+      → CanMark s shared.slots.held (kind_of_exchange found.mark mark) found.mark mark → IsValid s (record { mark = mark; stamp = found.stamp + 1 })
       → Acts s shared server (Exchange found mark)
-  Acts-won won inside can fit =
+  Acts-won won inside can valid =
       let is : now ≡ found = same_server-true now found won in
-      let there : server_at (set shared.servers server new) server ≡ new = get_or-set_same shared.servers server new unread inside in
       let apart : same_server new now ≡ false =
       rw is (ap (λ t. same_mark mark found.mark && t) (next-apart found.stamp) ∙ and-false (same_mark mark found.mark)) in
       let wins : wrote (kind_of_exchange found.mark mark) (word.Server now) (word.Server new) ≡ true =
       exchange-wrote found.mark mark (word.Server now) (word.Server new) ∙ ap (λ t. cond t false true) apart in
-      let exchange : IsExchange s shared.slots.held (kind_of_exchange found.mark mark) found new = record { mark = can; stamp = refl; fit = fit } in
+      let exchange : IsExchange s shared.slots.held (kind_of_exchange found.mark mark) found new = record { mark = can; stamp = refl; valid = valid } in
       let C : ServerState → Type 0 = λ it. CanLeaveServer s shared.slots.held (kind_of_exchange found.mark mark) it new in
       let leaves : CanLeaveServer s shared.slots.held (kind_of_exchange found.mark mark) now new =
       subst C (sym is) (exchange-won s shared.slots.held found.mark mark found new exchange) in
       record {
         steps = exchange-steps found.mark mark;
         place = inside;
-        servers = rw (won, there) refl;
+        servers = rw won refl;
         slots = refl;
-        wins = rw (won, there) wins;
-        can = rw (won, there) leaves;
+        wins = rw won wins;
+        can = rw won leaves;
       }
 
   Acts-lost : same_server now found ≡ false → server < length shared.servers
@@ -186,17 +186,17 @@ module _ (s : Settings) (shared : Shared) (server : ℕ) (found : ServerState) (
 
   either : (test : Bool) → same_server now found ≡ test → server < length shared.servers
       → ((owner : ℕ) → owner_of found.mark ≡ Some owner → now ≡ found)
-      → CanMark s shared.slots.held (kind_of_exchange found.mark mark) found.mark mark → IsFit s mark (found.stamp + 1)
+      → CanMark s shared.slots.held (kind_of_exchange found.mark mark) found.mark mark → IsValid s (record { mark = mark; stamp = found.stamp + 1 })
       → Acts s shared server (Exchange found mark)
-  either true won inside stands can fit = Acts-won won inside can fit
-  either false lost inside stands can fit =
+  either true won inside stands can valid = Acts-won won inside can valid
+  either false lost inside stands can valid =
       Acts-lost lost inside (λ owner owned.
       let same : same_server now found ≡ true = eq-same_server now found (stands owner owned) in cc)
 
   Acts-exchange : server < length shared.servers → ((owner : ℕ) → owner_of found.mark ≡ Some owner → now ≡ found)
-      → CanMark s shared.slots.held (kind_of_exchange found.mark mark) found.mark mark → IsFit s mark (found.stamp + 1)
+      → CanMark s shared.slots.held (kind_of_exchange found.mark mark) found.mark mark → IsValid s (record { mark = mark; stamp = found.stamp + 1 })
       → Acts s shared server (Exchange found mark)
-  Acts-exchange inside stands can fit = either (same_server now found) refl inside stands can fit
+  Acts-exchange inside stands can valid = either (same_server now found) refl inside stands can valid
 
 -- The marks that the sequential tracker gives in place of others.
 
@@ -265,6 +265,13 @@ fresh-can s held number (Up count) none low some = (refl, low, some)
 fresh-can s held number (Soft owner) none low some = cc
 fresh-can s held number (Hard owner) none low some = cc
 
+-- what a thread may write is a valid word
+write-valid : (s : Settings) (number : ℕ) (mark : Mark) (stamp : ℕ) → IsFit s mark stamp → IsOwnOrUp number mark → number < s.threads
+    → IsValid s (record { mark = mark; stamp = stamp })
+write-valid s number (Up count) stamp fit own low = (fit.0, stamp-fits s (Up count) stamp fit)
+write-valid s number (Soft owner) stamp fit own low = absurd own
+write-valid s number (Hard owner) stamp fit own low = (rw own low, stamp-fits s (Hard owner) stamp fit)
+
 -- what was found marked still stands
 found-stands : (number : ℕ) (now found : ServerState) (mark : Mark) → IsFoundBy number now found mark
     → (owner : ℕ) → owner_of mark ≡ Some owner → now ≡ found
@@ -294,7 +301,7 @@ module _ (core : CoreState) (thread : ℕ) (call : Call) (is : IsCore core) (ins
       Acts-exchange core.settings core.shared call.server found mark knows.0
       (found-stands call.number now_at found found.mark knows.2.1)
       (decided-can core.settings core.shared.slots.held call.number call.op found.mark mark found.stamp answer write.own (number-low phase stands) (says.1 true))
-      write.fit
+      (write-valid core.settings call.number mark (found.stamp + 1) write.fit write.own (number-low phase stands))
   acts (AtThreshold found) stands says = Acts-look_slots core.settings core.shared call.server
   acts (Limit found) stands says =
       Acts-look core.settings core.shared call.server (CanAct-at core thread call is inside (Limit found) stands)
@@ -309,7 +316,7 @@ module _ (core : CoreState) (thread : ℕ) (call : Call) (is : IsCore core) (ins
       (λ owner owned. let none : None ≡ Some owner = sym fresh.0 ∙ owned in cc)
       (fresh-can core.settings core.shared.slots.held call.number found.mark fresh.0 (number-low phase stands)
       (one-le-held core thread call is inside phase stands refl))
-      (omega (arith, fresh.1))
+      (number-low phase stands, omega (arith, fresh.1))
   acts Firming stands says =
       Acts-settle core.settings core.shared call.server (CanAct-at core thread call is inside Firming stands).0
   acts Losing stands says =
@@ -323,6 +330,6 @@ module _ (core : CoreState) (thread : ℕ) (call : Call) (is : IsCore core) (ins
       Acts-exchange core.settings core.shared call.server found mark knows.0
       (λ owner owned. knows.2.2)
       (decided-can core.settings core.shared.slots.held call.number call.op found.mark mark found.stamp answer write.own (number-low phase stands) (says.1 true))
-      write.fit
+      (write-valid core.settings call.number mark (found.stamp + 1) write.fit write.own (number-low phase stands))
   acts (Emptied answer) stands says =
       Acts-give core.settings core.shared call.server (CanAct-at core thread call is inside (Emptied answer) stands)

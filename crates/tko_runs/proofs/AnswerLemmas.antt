@@ -27,10 +27,13 @@ use Rattle.tko_steps.specs.declared.phase.ThreadState.TheVariants.{NotEnrolled, 
 use Rattle.tko_steps.specs.declared.table.Action.TheVariants.{Exchange, Reserve}
 use Rattle.tko_steps.specs.declared.table.Decision.{Decision}
 use Rattle.tko_steps.specs.declared.table.Decision.TheVariants.{Goes, Answers}
-use Rattle.tko_steps.specs.Core.{CoreState, Shared, after_act, after_step, after_step_from, follows, has_call, seen_by, state_after, thread_at, wins}
+use Rattle.tko_steps.specs.Core.{CoreState, Shared, after_act, after_step, after_step_from, follows, has_call, seen_by, thread_at}
+use Rattle.tko_steps.specs.Steps.{state_after, writes}
+use Rattle.tko_steps.specs.declared.step.Word.TheVariants as word
 use Rattle.tko_steps.specs.Invariant.{IsCore}
 use Rattle.tko_steps.specs.Table.{action_of, at_threshold, from_mark, from_up_by, goes, lost_try, next_of, on_others, on_own_hard_by, on_own_soft_by, same_server, unless_worn}
 use Rattle.tko_steps.specs.Runs.{Step}
+use Rattle.tko_steps.proofs.CostLemmas.{depth}
 use Rattle.tko_steps.proofs.CoreLemmas.{IsCore-after_act, knows_at}
 use Rattle.tko_steps.proofs.RunLemmas.{Holds-run}
 
@@ -84,20 +87,6 @@ run-most p all thread k high is =
     sym (ap (λ most. after_all p (replicate (steps_to_answer most p.core thread) (Step thread))) none) ∙ is
 
 -- The most steps of a run line are enough.
-
--- how many steps of its try a call at this phase has taken, or at least so many
-abbrev depth : Phase → ℕ
-depth Start = 0
-depth (Read found mark answer) = 1
-depth (AtThreshold found) = 1
-depth (Limit found) = 2
-depth (Reserving found slots) = 2
-depth (Holding found) = 3
-depth Firming = 4
-depth Losing = 4
-depth (Loosening found mark answer) = 1
-depth (Loosened found mark answer) = 2
-depth (Emptied answer) = 3
 
 -- at most so many steps are left of a call
 abbrev left_of : Settings → ThreadState → ℕ
@@ -197,15 +186,15 @@ module _ (s : Settings) (call : Call) (left : call.lost < s.tries) where
       let P : ℕ → Type 0 = λ before. IsNearer before (from_mark found.mark s call found) in
       subst P all (begun-from_mark found.mark found)
   nearer shared (Read found mark answer) =
-      nearer-won _ (wins shared call.server (Exchange found mark)) (Answers answer) (omega (arith, left)) (omega (arith, left))
+      nearer-won _ (writes (Exchange found mark) (word.Server (server_at shared.servers call.server))) (Answers answer) (omega (arith, left)) (omega (arith, left))
   nearer shared (AtThreshold found) = nearer-at_threshold found shared.slots
   nearer shared (Limit found) =
       nearer-won _ (same_server found (server_at shared.servers call.server)) (Answers reply.Full) (omega (arith, left)) (omega (arith, left))
   nearer shared (Reserving found slots) =
-      nearer-won _ (wins shared call.server (Reserve slots)) (goes call (Holding found)) (omega (arith, left)) (omega (arith, left))
+      nearer-won _ (writes (Reserve slots) (word.Soft shared.slots)) (goes call (Holding found)) (omega (arith, left)) (omega (arith, left))
   nearer shared (Holding found) =
       let before = 5 * (s.tries - call.lost) - 3 in
-      cond_both (wins shared call.server (Exchange found (Soft call.number))) (goes call Firming) (goes call Losing) (IsNearer before)
+      cond_both (writes (Exchange found (Soft call.number)) (word.Server (server_at shared.servers call.server))) (goes call Firming) (goes call Losing) (IsNearer before)
       (λ e. omega (arith, left)) (λ e. omega (arith, left))
   nearer shared Firming = omega (arith, left)
   nearer shared Losing = nearer-lost _ (omega (arith, left))

@@ -5,15 +5,15 @@ use Rattle.tko_model.specs.declared.mark.Op.{Op}
 use Rattle.tko_model.specs.declared.mark.Reply.{Reply}
 use Rattle.tko_model.specs.declared.settings.Settings.{Settings}
 use Rattle.tko_model.specs.declared.state.ServerState.{ServerState}
-use Rattle.tko_model.specs.Tracker.{IsFit, server_at}
+use Rattle.tko_model.specs.Tracker.{server_at}
 use Rattle.tko_runs.specs.declared.checking.calls.Calls.{Calls}
 use Rattle.tko_runs.specs.declared.checking.point.CheckedCall.{CheckedCall}
 use Rattle.tko_runs.specs.declared.checking.state.CheckState.{CheckState}
 use Rattle.tko_runs.specs.declared.run.event.Event.{Event}
 use Rattle.tko_runs.specs.declared.run.event.Event.TheVariants.{Begin, Step}
 use Rattle.tko_runs.specs.States.{CanCome, HasCall, RunState, entry_at, moment_of, number_of, state_after, written, wrote}
-use Rattle.tko_runs.specs.CheckStates.{AllFit, HasBegun, HasEntered, HasFollowed, IsCheckOf}
-use Rattle.tko_runs.specs.Words.{CanLeave, CanLeaveServer}
+use Rattle.tko_runs.specs.CheckStates.{AllValid, HasBegun, HasEntered, HasFollowed, IsCheckOf}
+use Rattle.tko_runs.specs.Words.{CanLeave, CanLeaveServer, IsValid}
 use Rattle.tko_steps.specs.declared.step.Kind.{Kind}
 use Rattle.tko_steps.specs.declared.step.Kind.TheVariants as kind
 use Rattle.tko_steps.specs.declared.step.Place.{Place}
@@ -24,39 +24,36 @@ use Rattle.tko_steps.specs.Core.{is_call_step, word_at}
 use Rattle.tko_steps.specs.Runs.{Moment, StepTaken, count_of, steps_in}
 use Rattle.tko_runs.proofs.KeptLemmas.{AreCalls-begun, AreCalls-enrolled, AreCalls-stepped, IsEffect-shown, latest_inside}
 
--- Words that fit.
+-- Valid words.
 
-abbrev IsFitState : Settings → ServerState → Type 0
-IsFitState s server = IsFit s server.mark server.stamp
+-- what a step leaves of a valid word is a valid word
+left-valid : (s : Settings) (held : ℕ) (by : Kind) (found left : ServerState) → CanLeaveServer s held by found left
+    → IsValid s found → IsValid s left
+left-valid s held kind.Look found left can valid = subst (IsValid s) (sym can) valid
+left-valid s held kind.Count found left (inl same) valid = subst (IsValid s) (sym same) valid
+left-valid s held kind.Count found left (inr won) valid = won.valid
+left-valid s held kind.Mark found left (inl same) valid = subst (IsValid s) (sym same) valid
+left-valid s held kind.Mark found left (inr won) valid = won.valid
+left-valid s held kind.Own found left can valid = can.valid
+left-valid s held kind.Reserve found left can valid = absurd can
+left-valid s held kind.Shift found left can valid = absurd can
+left-valid s held kind.Give found left can valid = absurd can
+left-valid s held kind.Enrol found left can valid = absurd can
 
--- what a step leaves of a word that fits its server fits it
-left-fit : (s : Settings) (held : ℕ) (by : Kind) (found left : ServerState) → CanLeaveServer s held by found left
-    → IsFitState s found → IsFitState s left
-left-fit s held kind.Look found left can fit = subst (IsFitState s) (sym can) fit
-left-fit s held kind.Count found left (inl same) fit = subst (IsFitState s) (sym same) fit
-left-fit s held kind.Count found left (inr won) fit = won.fit
-left-fit s held kind.Mark found left (inl same) fit = subst (IsFitState s) (sym same) fit
-left-fit s held kind.Mark found left (inr won) fit = won.fit
-left-fit s held kind.Own found left can fit = can.fit
-left-fit s held kind.Reserve found left can fit = absurd can
-left-fit s held kind.Shift found left can fit = absurd can
-left-fit s held kind.Give found left can fit = absurd can
-left-fit s held kind.Enrol found left can fit = absurd can
-
-written-fit : (s : Settings) (held : ℕ) (servers : List ServerState) (by : Kind) (at : Place) (found left : Word)
-    → AllFit s servers → ((server : ℕ) → at ≡ place.Server server → (server < length servers) × (found ≡ word.Server (server_at servers server)))
-    → CanLeave s held by found left → AllFit s (written servers at left)
-written-fit s held servers by (place.Server server) (word.Server found) (word.Server left) fit finds can =
+written-valid : (s : Settings) (held : ℕ) (servers : List ServerState) (by : Kind) (at : Place) (found left : Word)
+    → AllValid s servers → ((server : ℕ) → at ≡ place.Server server → (server < length servers) × (found ≡ word.Server (server_at servers server)))
+    → CanLeave s held by found left → AllValid s (written servers at left)
+written-valid s held servers by (place.Server server) (word.Server found) (word.Server left) valid finds can =
     let here = finds server refl in
     let same : found ≡ server_at servers server = cc here.1 in
-    All-set (IsFitState s) servers server left
-    (left-fit s held by found left can (subst (IsFitState s) (sym same) (fit server _ here.0))) fit
-written-fit s held servers by (place.Server server) (word.Soft found) (word.Server left) fit finds can = absurd can
-written-fit s held servers by (place.Server server) (word.Enrolled found) (word.Server left) fit finds can = absurd can
-written-fit s held servers by (place.Server server) found (word.Soft left) fit finds can = fit
-written-fit s held servers by (place.Server server) found (word.Enrolled left) fit finds can = fit
-written-fit s held servers by place.Soft found left fit finds can = fit
-written-fit s held servers by place.Enrolment found left fit finds can = fit
+    All-set (IsValid s) servers server left
+    (left-valid s held by found left can (subst (IsValid s) (sym same) (valid server _ here.0))) valid
+written-valid s held servers by (place.Server server) (word.Soft found) (word.Server left) valid finds can = absurd can
+written-valid s held servers by (place.Server server) (word.Enrolled found) (word.Server left) valid finds can = absurd can
+written-valid s held servers by (place.Server server) found (word.Soft left) valid finds can = valid
+written-valid s held servers by (place.Server server) found (word.Enrolled left) valid finds can = valid
+written-valid s held servers by place.Soft found left valid finds can = valid
+written-valid s held servers by place.Enrolment found left valid finds can = valid
 
 -- The three kinds of events.
 
@@ -68,7 +65,7 @@ IsCheckOf-begun : (past : List Moment) (old : CheckState) (thread : ℕ) (op : O
 IsCheckOf-begun past old thread op server calls is come begun =
     record {
       settings = is.settings;
-      fit = is.fit;
+      valid = is.valid;
       steps = is.steps;
       calls = AreCalls-begun old.settings old.run past old.calls calls thread (number_of (entry_at old.run thread)) op server
           is.calls begun come.0.0 come.1 come.0.1;
@@ -124,7 +121,7 @@ enters_enrolled old event run thread kind.Enrol at found left answer is enrols c
       run = refl;
       stands = λ past stands. record {
         settings = stands.settings;
-        fit = stands.fit;
+        valid = stands.valid;
         steps = omega (arith, stands.steps);
         calls = AreCalls-enrolled old.settings old.run past old.calls step stands.calls can.0.0 can.0.1;
       };
@@ -149,7 +146,7 @@ IsCheckOf-followed past old mid thread by at found left answer is steps come did
     let number : old.steps + 1 ≡ steps_in past + count_of by = ap (λ n. n + 1) is.steps ∙ ap (λ n. steps_in past + n) one in
     rw (did.settings, did.run, steps) (record {
       settings = is.settings;
-      fit = written-fit old.settings old.run.words.slots.held old.run.words.servers by at found left is.fit
+      valid = written-valid old.settings old.run.words.slots.held old.run.words.servers by at found left is.valid
           (λ server there. (rw there at can.1, finds-server old.run at found server did.follows.finds there)) did.follows.can;
       steps = did.steps ∙ number;
       calls = AreCalls-stepped old.settings old.run past old.calls mid.calls did.effect answer at left step is.calls did.grows

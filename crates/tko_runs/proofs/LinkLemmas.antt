@@ -24,14 +24,16 @@ use Rattle.tko_steps.specs.declared.phase.Call.{Call}
 use Rattle.tko_steps.specs.declared.phase.Phase.{Phase}
 use Rattle.tko_steps.specs.declared.phase.ThreadState.{ThreadState}
 use Rattle.tko_steps.specs.declared.phase.ThreadState.TheVariants.{NotEnrolled, Idle, InCall}
-use Rattle.tko_steps.specs.Runs.{Begin, Step, Turn, Moment, World, after_turns, happens, run, start}
-use Rattle.tko_steps.specs.Core.{CoreState, abstract_of, answer_of, follows, kind_of, place_of, shared_after, state_after, thread_at, word_at}
+use Rattle.tko_steps.specs.Runs.{Turn, Moment, World, run, start}
+use Rattle.tko_steps.specs.Core.{CoreState, abstract_of, follows, thread_at, word_at}
+use Rattle.tko_steps.specs.Steps.{answer_of, kind_of, place_of, state_after, word_after}
 use Rattle.tko_steps.specs.Table.{action_of}
 use Rattle.tko_runs.proofs.ActLemmas.{Acts, acts}
 use Rattle.tko_runs.proofs.EventLemmas.{AllFollow-push, claimed_after_all-push}
-use Rattle.tko_steps.proofs.EveryCallLemmas.{HoldsBoth, HoldsBoth-happens, HoldsCalls-start}
-use Rattle.tko_steps.proofs.RunLemmas.{Holds-start}
-use Rattle.tko_steps.proofs.WiringLemmas.{begun, keeps-begin, keeps-step, stepped_from}
+use Rattle.tko_model.specs.Tracker.{server_at}
+use Rattle.tko_steps.proofs.EveryCallLemmas.{HoldsBoth, along}
+use Rattle.tko_steps.proofs.LegalLemmas.{Knows}
+use Rattle.tko_steps.proofs.WiringLemmas.{begun, stepped_from}
 
 -- Events, one more at the end.
 
@@ -155,7 +157,7 @@ module _ (s : Settings) (w : World) (thread : ℕ) (call : Call) (phase : Phase)
   found_word = word_at w.core.shared at_place
 
   abbrev left_word : Word
-  left_word = word_at (shared_after w.core.shared call.server act) at_place
+  left_word = word_after act found_word
 
   abbrev decision : Decision
   decision = follows w.core call phase
@@ -184,32 +186,16 @@ Linked-called : (s : Settings) (w : World) (thread : ℕ) (call : Call) (phase :
     → Linked s (stepped_from w thread (InCall call phase))
 Linked-called s w thread call phase both linked inside stands =
     let mine = rw stands at (both.1.stand thread) in
-    let does = acts w.core thread call both.0.core inside mine.0 phase stands mine.2 in
+    let K : Settings → Type 0 = λ settings. Knows settings thread call mine.0 (server_at (abstract_of w.core) call.server) phase in
+    let does = acts w.core thread call both.0.core inside mine.0 phase stands (subst K (sym both.0.settings) mine.2) in
     let P : Settings → Type 0 = λ settings. Acts settings w.core.shared call.server (action_of call.number phase) in
     Linked-act s w thread call phase linked inside stands (subst P both.0.settings does)
 
-Linked-stepped_from : (s : Settings) (w : World) (thread : ℕ) (state : ThreadState) → HoldsBoth s w → Linked s w
-    → thread < length w.core.threads → thread_at w.core thread ≡ state
-    → Linked s (stepped_from w thread state)
-Linked-stepped_from s w thread NotEnrolled both linked inside stands = Linked-enrolled s w thread linked inside stands
-Linked-stepped_from s w thread (Idle number) both linked inside stands = linked
-Linked-stepped_from s w thread (InCall call phase) both linked inside stands =
-    Linked-called s w thread call phase both linked inside stands
-
-Linked-happens : (s : Settings) (w : World) (turn : Turn) → HoldsBoth s w → Linked s w → Linked s (happens w turn)
-Linked-happens s w (Begin thread op server) both linked =
-    keeps-begin (Linked s) w thread op server linked (λ number inside stands on_server.
-    Linked-begun s w thread number op server linked inside stands on_server)
-Linked-happens s w (Step thread) both linked =
-    keeps-step (Linked s) w thread linked (λ inside.
-    Linked-stepped_from s w thread (thread_at w.core thread) both linked inside refl)
-
-Linked-after_turns : (s : Settings) (w : World) (turns : List Turn) → HoldsBoth s w → Linked s w → Linked s (after_turns w turns)
-Linked-after_turns s w [] both linked = linked
-Linked-after_turns s w (turn ∷ turns) both linked =
-    Linked-after_turns s (happens w turn) turns (HoldsBoth-happens s w turn both) (Linked-happens s w turn both linked)
-
 -- each run is what its events claim
 pub Linked-run : (s : Settings) → IsWithinRanges s → (turns : List Turn) → Linked s (run s turns)
-Linked-run s ranges turns =
-    Linked-after_turns s (start s) turns (Holds-start s ranges, HoldsCalls-start s) (Linked-start s)
+Linked-run =
+    along Linked
+    (λ s ranges. Linked-start s)
+    (λ s w thread number op server both inside stands on_server linked. Linked-begun s w thread number op server linked inside stands on_server)
+    (λ s w thread both inside stands linked. Linked-enrolled s w thread linked inside stands)
+    (λ s w thread call phase both inside stands linked. Linked-called s w thread call phase both linked inside stands)

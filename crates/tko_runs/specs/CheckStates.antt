@@ -7,7 +7,7 @@ use Rattle.tko_model.specs.declared.settings.Settings.{Settings}
 use Rattle.tko_model.specs.declared.state.ServerState.{ServerState}
 use Rattle.tko_model.specs.declared.transition.Transition.{Transition}
 use Rattle.tko_model.specs.Ranges.{IsWithinRanges}
-use Rattle.tko_model.specs.Tracker.{IsFit, changed, transition_on}
+use Rattle.tko_model.specs.Tracker.{changed, transition_on}
 use Rattle.tko_runs.specs.declared.checking.calls.Calls.{Calls}
 use Rattle.tko_runs.specs.declared.checking.RunFault.{RunFault}
 use Rattle.tko_runs.specs.declared.checking.RunFault.TheVariants as fault
@@ -21,6 +21,7 @@ use Rattle.tko_runs.specs.declared.run.state.ThreadEntry.TheVariants.{NotEnrolle
 use Rattle.tko_runs.specs.States.{AllCome, RunState, claimed, entry_at, moment_of, opened_state, state_after, written}
 use Rattle.tko_runs.specs.Orders.{AllFollow, Follows, FollowsAt, IsFirstIllegal, IsOrder}
 use Rattle.tko_runs.specs.Effects.{IsKept}
+use Rattle.tko_runs.specs.Words.{IsValid}
 use Rattle.tko_steps.specs.declared.step.Kind.{Kind}
 use Rattle.tko_steps.specs.declared.step.Place.{Place}
 use Rattle.tko_steps.specs.declared.step.Word.{Word}
@@ -138,13 +139,13 @@ pub record Shows
 
 -- The state of the check.
 
-abbrev pub AllFit : Settings → List ServerState → Type 0
-AllFit s servers = All (λ state. IsFit s state.mark state.stamp) servers
+abbrev pub AllValid : Settings → List ServerState → Type 0
+AllValid s servers = All (IsValid s) servers
 
 -- it keeps the calls of this past, and how many steps of calls there were
 pub record IsCheckOf (past : List Moment) (d : CheckState) : Type 0 where
   pub settings : IsWithinRanges d.settings
-  pub fit : AllFit d.settings d.run.words.servers
+  pub valid : AllValid d.settings d.run.words.servers
   pub steps : d.steps ≡ steps_in past
   pub calls : AreCalls d.settings d.run past d.calls
 

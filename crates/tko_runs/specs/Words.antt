@@ -1,11 +1,12 @@
 -- What a step of each kind can leave of the word that it finds, whoever takes it: the words alone
--- decide, that one and how many slots the soft word says are held.
+-- decide, that one and how many slots the soft word says are held. Whether the call may do that, as
+-- on a worn server, is for the call to answer.
 use Rattle.std.specs.Prelude.{◌≡◌, ℕ, ◌+◌, ◌<◌, ◌⊎◌}
 use Rattle.tko_model.specs.declared.mark.Mark.{Mark}
 use Rattle.tko_model.specs.declared.mark.Mark.TheVariants.{Up, Soft, Hard}
 use Rattle.tko_model.specs.declared.settings.Settings.{Settings}
 use Rattle.tko_model.specs.declared.state.ServerState.{ServerState}
-use Rattle.tko_model.specs.Tracker.{IsFit}
+use Rattle.tko_word.specs.Words.{IsMarkOf, stamp_end}
 use Rattle.tko_steps.specs.declared.phase.Slots.{Slots}
 use Rattle.tko_steps.specs.declared.step.Kind.{Kind}
 use Rattle.tko_steps.specs.declared.step.Kind.TheVariants as kind
@@ -27,12 +28,16 @@ CanMark s held by (Hard owner) (Up count) = (by ≡ kind.Own) × (count ≡ 0)
 CanMark s held by (Hard owner) (Soft thread) = ⊥
 CanMark s held by (Hard owner) (Hard thread) = ⊥
 
--- an exchange of a server's word that is won: the stamp is one more, and fits the mark
+-- there is a word of this mark and stamp under the settings
+abbrev pub IsValid : Settings → ServerState → Type 0
+IsValid s server = IsMarkOf s server.mark × (server.stamp < stamp_end)
+
+-- an exchange of a server's word that is won: the stamp is one more, and the word is a valid one
 pub record IsExchange
     (s : Settings) (held : ℕ) (kind : Kind) (found left : ServerState) : Type 0 where
   pub mark : CanMark s held kind found.mark left.mark
   pub stamp : left.stamp ≡ found.stamp + 1
-  pub fit : IsFit s left.mark left.stamp
+  pub valid : IsValid s left
 
 -- a lost exchange leaves the word as it was; an own step is never lost
 abbrev pub CanLeaveServer : Settings → ℕ → Kind → ServerState → ServerState → Type 0

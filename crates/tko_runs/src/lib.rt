@@ -29,8 +29,3 @@ pub use run::event::{Event, SkippedTurn};
 pub use schedule::Schedule;
 pub use schedule::command::Command;
 pub use schedule::fault::ScheduleFault;
-
-#[cfg(test)]
-mod limit_tests;
-#[cfg(test)]
-mod row_tests;

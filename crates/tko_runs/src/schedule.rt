@@ -14,9 +14,6 @@ use std::alloc::Global;
 use std::marker::Model;
 use tko_model::Settings;
 
-#[cfg(test)]
-mod tests;
-
 /// The most bytes of a schedule.
 const MAX_BYTES: usize = 1_048_576;
 

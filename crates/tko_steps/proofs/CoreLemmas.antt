@@ -21,7 +21,8 @@ use Rattle.tko_steps.specs.declared.phase.ThreadState.{ThreadState}
 use Rattle.tko_steps.specs.declared.phase.ThreadState.TheVariants.{NotEnrolled, Idle, InCall}
 use Rattle.tko_steps.specs.declared.table.Decision.{Decision}
 use Rattle.tko_steps.specs.declared.table.Decision.TheVariants.{Goes, Answers}
-use Rattle.tko_steps.specs.Core.{owner_of, CanAct, CoreState, IsPlace, abstract_of, after_act, after_enrol, begun_by, has_number, is_enrolled, number_of, opened_core, place_of, state_after, thread_at, with_thread}
+use Rattle.tko_steps.specs.Core.{owner_of, CanAct, CoreState, IsPlace, abstract_of, after_act, after_enrol, has_number, is_enrolled, number_of, opened_core, thread_at, with_thread}
+use Rattle.tko_steps.specs.Steps.{begun_by, place_of, state_after}
 use Rattle.tko_word.specs.Words.{IsMark, stamp_end}
 use Rattle.tko_steps.specs.Invariant.{IsCore, IsFoundBy, IsOwnOrUp, IsPhase, IsThread, holds, holds_at, is_loose, is_loose_at}
 use Rattle.tko_steps.specs.Table.{action_of, goes, lost_try, same_server, same_slots}
@@ -657,7 +658,7 @@ IsCore-opened_core s ranges =
 pub enrolled-le : (core : CoreState) → IsCore core → core.shared.enrolled ≤ core.settings.threads
 enrolled-le core is = omega (arith, is.enrolled, is.threads, count_by-le-length is_enrolled core.threads)
 
-stamp-fits : (s : Settings) (mark : Mark) (stamp : ℕ) → IsFit s mark stamp → stamp < stamp_end
+pub stamp-fits : (s : Settings) (mark : Mark) (stamp : ℕ) → IsFit s mark stamp → stamp < stamp_end
 stamp-fits s (Up count) stamp fit = omega (arith, fit.1)
 stamp-fits s (Soft owner) stamp fit = omega arith
 stamp-fits s (Hard owner) stamp fit = omega arith

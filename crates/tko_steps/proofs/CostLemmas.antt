@@ -1,5 +1,5 @@
--- The numbers of steps: what each phase says of how many steps its call took.
-use Rattle.std.proofs.Common.{◌≡◌, ℕ, suc, ◌+◌, ◌*◌, ◌<◌, ◌≤◌, cond, eqb, List, ◌∷◌, length, All, refl, sym, subst, arith}
+-- The numbers of steps: what each phase says of how many steps its call took so far.
+use Rattle.std.proofs.Common.{◌≡◌, ℕ, suc, ◌+◌, ◌*◌, ◌<◌, ◌≤◌, cond, eqb, List, length, All, refl, sym, subst, arith}
 use Rattle.std.proofs.lemmas.Bool.{cond_both, eqb-false}
 use Rattle.tko_model.specs.declared.mark.Mark.{Mark}
 use Rattle.tko_model.specs.declared.mark.Mark.TheVariants.{Up, Soft, Hard}
@@ -8,6 +8,7 @@ use Rattle.tko_model.specs.declared.mark.Op.TheVariants.{LookUp, SoftFailure, Ha
 use Rattle.tko_model.specs.declared.mark.Reply.TheVariants.{Contended, Full}
 use Rattle.tko_model.specs.declared.settings.Settings.{Settings}
 use Rattle.tko_model.specs.declared.state.ServerState.{ServerState}
+use Rattle.tko_model.specs.Ranges.{IsWithinRanges}
 use Rattle.tko_model.specs.Tracker.{server_at}
 use Rattle.tko_steps.specs.declared.phase.Call.{Call as CallState}
 use Rattle.tko_steps.specs.declared.phase.Phase.{Phase}
@@ -15,14 +16,16 @@ use Rattle.tko_steps.specs.declared.phase.Phase.TheVariants.{Start, Read, AtThre
 use Rattle.tko_steps.specs.declared.phase.ThreadState.TheVariants.{InCall}
 use Rattle.tko_steps.specs.declared.table.Decision.{Decision}
 use Rattle.tko_steps.specs.declared.table.Decision.TheVariants.{Goes, Answers}
-use Rattle.tko_steps.specs.Core.{abstract_of, follows, thread_at}
+use Rattle.tko_steps.specs.Core.{Shared, follows, word_at}
 use Rattle.tko_steps.specs.Cost.{IsShort, most_steps}
-use Rattle.tko_steps.specs.Invariant.{IsCore, IsFoundBy}
+use Rattle.tko_steps.specs.Invariant.{IsFoundBy, IsThread}
+use Rattle.tko_steps.specs.Steps.{answer_of, begun_by, decided_by, place_of}
 use Rattle.tko_steps.specs.Runs.{InEveryRun, OwnStep, World, calls_of}
-use Rattle.tko_steps.specs.Table.{goes, lost_try, same_server, same_slots}
+use Rattle.tko_steps.specs.Table.{action_of, from_start, goes, lost_try, same_server, same_slots}
 use Rattle.tko_steps.proofs.CoreLemmas.{knows_at}
-use Rattle.tko_steps.proofs.FamilyLemmas.{Follows, InFamily-run, act_own}
-use Rattle.tko_steps.proofs.FirstLookLemmas.{CanLoosen, CanRead, Leads, LeadsTo, Leads-from_start}
+use Rattle.tko_steps.proofs.EveryCallLemmas.{InFamily-run}
+use Rattle.tko_steps.proofs.FamilyLemmas.{Follows, act_own}
+use Rattle.tko_steps.proofs.FirstLookLemmas.{CanLoosen, CanRead, Leads, LeadsTo, Leads-from_start, leads-to}
 use Rattle.tko_steps.proofs.TableLemmas.{eq-same_server}
 use Rattle.tko_steps.proofs.WiringLemmas.{stepped_from}
 
@@ -35,7 +38,7 @@ per_try Success = 2
 per_try Release = 0
 
 -- how many steps of a try come before this phase
-abbrev depth : Phase → ℕ
+abbrev pub depth : Phase → ℕ
 depth Start = 0
 depth (Read found mark answer) = 1
 depth (AtThreshold found) = 1
@@ -62,8 +65,8 @@ Fits op number (Loosening found mark answer) = CanLoosen op
 Fits op number (Loosened found mark answer) = CanLoosen op
 Fits op number (Emptied answer) = CanLoosen op
 
-pub record KnowsCost (s : Settings) (call : CallState) (steps : List OwnStep) (phase : Phase) : Type 0 where
-  pub few : length steps ≤ per_try call.op * call.lost + depth phase
+pub record KnowsCost (s : Settings) (call : CallState) (taken : ℕ) (phase : Phase) : Type 0 where
+  pub few : taken ≤ per_try call.op * call.lost + depth phase
   pub left : call.lost < s.tries
   pub fits : Fits call.op call.number phase
 
@@ -124,145 +127,148 @@ own-hard number now found (Up count) is by = cc
 own-hard number now found (Soft owner) is by = absurd by
 own-hard number now found (Hard owner) is by = by.1
 
-module _ (w : World) (thread : ℕ) (call : CallState) (steps : List OwnStep) (is : IsCore w.core) (inside : thread < length w.core.threads) where
-  abbrev s : Settings
-  s = w.core.settings
+-- a call begins
+pub cost-begin : (s : Settings) (number : ℕ) (op : Op) (server : ℕ) → IsWithinRanges s → KnowsCost s (begun_by number op server) 0 Start
+cost-begin s number op server ranges = record { few = omega arith; left = ranges.tries.0; fits = tt }
 
+-- what is known once so many steps were taken and the last of them was decided
+abbrev pub CostAfter : Settings → CallState → ℕ → Decision → Type 0
+CostAfter s call taken (Goes lost phase) = KnowsCost s (record call { lost = lost }) taken phase
+CostAfter s call taken (Answers answer) = taken ≤ most_steps s call.op
+
+-- the step of a call that took so many, over plain data
+module _ (s : Settings) (shared : Shared) (call : CallState) (taken : ℕ) where
   abbrev now : ServerState
-  now = server_at (abstract_of w.core) call.server
+  now = server_at shared.servers call.server
 
-  abbrev own : Phase → OwnStep
-  own phase = act_own w thread call phase
-
-  abbrev Knows : World → ℕ → CallState → List OwnStep → Phase → Type 0
-  Knows at who it taken phase = KnowsCost s it taken phase
-
-  abbrev Next : Phase → Decision → Type 0
-  Next phase decision =
-      Follows s Knows (IsShort s) (stepped_from w thread (InCall call phase)) thread call steps (own phase) decision
+  abbrev Next : Decision → Type 0
+  Next decision = CostAfter s call (suc taken) decision
 
   -- the try goes on
-  goes-on : (phase next : Phase) → KnowsCost s call steps phase → depth next ≡ depth phase + 1 → Fits call.op call.number next
-      → KnowsCost s call (own phase ∷ steps) next
+  goes-on : (phase next : Phase) → KnowsCost s call taken phase → depth next ≡ depth phase + 1 → Fits call.op call.number next
+      → KnowsCost s call (suc taken) next
   goes-on phase next knows deeper fits =
       record {
-        few = rw deeper (one-more (per_try call.op * call.lost) (length steps) (depth phase) knows.few);
+        few = rw deeper (one-more (per_try call.op * call.lost) taken (depth phase) knows.few);
         left = knows.left;
         fits = fits;
       }
 
   -- the try is lost
-  loses : (phase : Phase) → call.lost < s.tries → suc (length steps) ≤ per_try call.op * (call.lost + 1) + 0
-      → suc (length steps) ≤ most_steps s call.op → Next phase (lost_try s call)
-  loses phase left few short =
-      cond_both (eqb s.tries (call.lost + 1)) (Answers Contended) (Goes (call.lost + 1) Start) (Next phase)
+  loses : call.lost < s.tries → suc taken ≤ per_try call.op * (call.lost + 1) + 0
+      → suc taken ≤ most_steps s call.op → Next (lost_try s call)
+  loses left few short =
+      cond_both (eqb s.tries (call.lost + 1)) (Answers Contended) (Goes (call.lost + 1) Start) Next
       (λ last. short)
       (λ more. let apart = eqb-false s.tries (call.lost + 1) more in
       record { few = few; left = omega (arith, left, apart); fits = tt })
 
-  loses-its : (phase : Phase) → KnowsCost s call steps phase → call.op ≡ SoftFailure → depth phase ≤ 4 → Next phase (lost_try s call)
+  loses-its : (phase : Phase) → KnowsCost s call taken phase → call.op ≡ SoftFailure → depth phase ≤ 4 → Next (lost_try s call)
   loses-its phase knows soft deep =
-      loses phase knows.left
-      (loses-soft call.op (length steps) call.lost (depth phase) soft deep knows.few)
-      (ends-soft s call.op (length steps) call.lost (depth phase) soft deep knows.few knows.left)
+      loses knows.left
+      (loses-soft call.op taken call.lost (depth phase) soft deep knows.few)
+      (ends-soft s call.op taken call.lost (depth phase) soft deep knows.few knows.left)
 
-  start-next : (decision : Decision) → KnowsCost s call steps Start → Leads call.op call now decision → Next Start decision
+  start-next : (decision : Decision) → KnowsCost s call taken Start → Leads call.op call now decision → Next decision
   start-next (Goes lost phase) knows (same, leads) = to-phase phase leads
     where
-      first : (phase : Phase) → depth phase ≡ 1 → Fits call.op call.number phase → KnowsCost s (record call { lost = lost }) (own Start ∷ steps) phase
+      first : (phase : Phase) → depth phase ≡ 1 → Fits call.op call.number phase → KnowsCost s (record call { lost = lost }) (suc taken) phase
       first phase one fits =
-          let P : ℕ → Type 0 = λ n. KnowsCost s (record call { lost = n }) (own Start ∷ steps) phase in
+          let P : ℕ → Type 0 = λ n. KnowsCost s (record call { lost = n }) (suc taken) phase in
           subst P (sym same) (goes-on Start phase knows one fits)
 
-      to-phase : (phase : Phase) → LeadsTo call.op call now phase → Next Start (Goes lost phase)
-      to-phase Start leads = absurd leads
-      to-phase (Read found mark answer) leads =
-          let P : ServerState → Type 0 = λ it. CanRead call.op call.number it.mark in
-          first (Read found mark answer) refl (subst P (sym leads.0) leads.2)
-      to-phase (AtThreshold found) leads = first (AtThreshold found) refl leads.1
-      to-phase (Limit found) leads = absurd leads
-      to-phase (Reserving found slots) leads = absurd leads
-      to-phase (Holding found) leads = absurd leads
-      to-phase Firming leads = absurd leads
-      to-phase Losing leads = absurd leads
-      to-phase (Loosening found mark answer) leads = first (Loosening found mark answer) refl leads.2
-      to-phase (Loosened found mark answer) leads = absurd leads
-      to-phase (Emptied answer) leads = absurd leads
-  start-next (Answers answer) knows leads = ends-any s call.op (length steps) call.lost knows.few knows.left
+      to-phase : (phase : Phase) → LeadsTo call.op call now phase → Next (Goes lost phase)
+      to-phase = leads-to call.op call now (λ it. Next (Goes lost it))
+          (λ found mark answer leads. let P : ServerState → Type 0 = λ it. CanRead call.op call.number it.mark in
+          first (Read found mark answer) refl (subst P (sym leads.0) leads.2))
+          (λ found leads. first (AtThreshold found) refl leads.1)
+          (λ found mark answer leads. first (Loosening found mark answer) refl leads.2)
+  start-next (Answers answer) knows leads = ends-any s call.op taken call.lost knows.few knows.left
 
-  pub cost-act : (phase : Phase) → thread_at w.core thread ≡ InCall call phase → KnowsCost s call steps phase
-      → Next phase (follows w.core call phase)
-  cost-act Start stands knows = start-next (follows w.core call Start) knows (Leads-from_start s call now)
-  cost-act (Read found mark answer) stands knows =
+  pub cost-act : (phase : Phase) → IsThread s shared.servers (InCall call phase) → KnowsCost s call taken phase
+      → Next (decided_by s call phase (word_at shared (place_of call.server (action_of call.number phase))))
+  cost-act Start here knows = start-next (from_start s call now) knows (Leads-from_start s call now)
+  cost-act (Read found mark answer) here knows =
       let phase : Phase = Read found mark answer in
-      let by = (knows_at w.core thread call is inside phase stands).2.1 in
-      let short = ends-read s call.op call.number found.mark (length steps) call.lost knows.fits knows.few knows.left in
-      cond_both (same_server now found) (Answers answer) (lost_try s call) (Next phase)
+      let by = here.2.1 in
+      let short = ends-read s call.op call.number found.mark taken call.lost knows.fits knows.few knows.left in
+      cond_both (same_server now found) (Answers answer) (lost_try s call) Next
       (λ won. short)
       (λ lost.
-      loses phase knows.left
-      (loses-read call.op call.number found.mark (length steps) call.lost knows.fits
+      loses knows.left
+      (loses-read call.op call.number found.mark taken call.lost knows.fits
       (λ hard. let same = eq-same_server now found (own-hard call.number now found found.mark hard by) in cc) knows.few) short)
-  cost-act (AtThreshold found) stands knows =
+  cost-act (AtThreshold found) here knows =
       let phase : Phase = AtThreshold found in
-      let slots = w.core.shared.slots in
+      let slots = shared.slots in
       let rest = cond (eqb (slots.firm + slots.held) s.limit) (lost_try s call) (goes call (Reserving found slots)) in
-      cond_both (eqb slots.firm s.limit) (goes call (Limit found)) rest (Next phase)
+      cond_both (eqb slots.firm s.limit) (goes call (Limit found)) rest Next
       (λ full. goes-on phase (Limit found) knows refl knows.fits)
-      (λ below. cond_both (eqb (slots.firm + slots.held) s.limit) (lost_try s call) (goes call (Reserving found slots)) (Next phase)
+      (λ below. cond_both (eqb (slots.firm + slots.held) s.limit) (lost_try s call) (goes call (Reserving found slots)) Next
       (λ held. loses-its phase knows knows.fits (omega arith))
       (λ left. goes-on phase (Reserving found slots) knows refl knows.fits))
-  cost-act (Limit found) stands knows =
+  cost-act (Limit found) here knows =
       let phase : Phase = Limit found in
-      cond_both (same_server found now) (Answers Full) (lost_try s call) (Next phase)
-      (λ same. ends-soft s call.op (length steps) call.lost 2 knows.fits (omega arith) knows.few knows.left)
+      cond_both (same_server found now) (Answers Full) (lost_try s call) Next
+      (λ same. ends-soft s call.op taken call.lost 2 knows.fits (omega arith) knows.few knows.left)
       (λ other. loses-its phase knows knows.fits (omega arith))
-  cost-act (Reserving found before) stands knows =
+  cost-act (Reserving found before) here knows =
       let phase : Phase = Reserving found before in
-      cond_both (same_slots w.core.shared.slots before) (goes call (Holding found)) (lost_try s call) (Next phase)
+      cond_both (same_slots shared.slots before) (goes call (Holding found)) (lost_try s call) Next
       (λ won. goes-on phase (Holding found) knows refl knows.fits)
       (λ lost. loses-its phase knows knows.fits (omega arith))
-  cost-act (Holding found) stands knows =
+  cost-act (Holding found) here knows =
       let phase : Phase = Holding found in
-      cond_both (same_server now found) (goes call Firming) (goes call Losing) (Next phase)
+      cond_both (same_server now found) (goes call Firming) (goes call Losing) Next
       (λ won. goes-on phase Firming knows refl knows.fits)
       (λ lost. goes-on phase Losing knows refl knows.fits)
-  cost-act Firming stands knows = ends-soft s call.op (length steps) call.lost 4 knows.fits (omega arith) knows.few knows.left
-  cost-act Losing stands knows = loses-its Losing knows knows.fits (omega arith)
-  cost-act (Loosening found mark answer) stands knows =
+  cost-act Firming here knows = ends-soft s call.op taken call.lost 4 knows.fits (omega arith) knows.few knows.left
+  cost-act Losing here knows = loses-its Losing knows knows.fits (omega arith)
+  cost-act (Loosening found mark answer) here knows =
       goes-on (Loosening found mark answer) (Loosened found mark answer) knows refl knows.fits
-  cost-act (Loosened found mark answer) stands knows = goes-on (Loosened found mark answer) (Emptied answer) knows refl knows.fits
-  cost-act (Emptied answer) stands knows = ends-loosen s call.op (length steps) call.lost 3 knows.fits (omega arith) knows.few knows.left
+  cost-act (Loosened found mark answer) here knows = goes-on (Loosened found mark answer) (Emptied answer) knows refl knows.fits
+  cost-act (Emptied answer) here knows = ends-loosen s call.op taken call.lost 3 knows.fits (omega arith) knows.few knows.left
 
--- an open call took fewer
-cost-open : (s : Settings) (call : CallState) (steps : List OwnStep) (phase : Phase) → KnowsCost s call steps phase
-    → suc (length steps) ≤ most_steps s call.op
-cost-open s call steps Start knows = ends-any s call.op (length steps) call.lost knows.few knows.left
-cost-open s call steps (Read found mark answer) knows =
-    ends-read s call.op call.number found.mark (length steps) call.lost knows.fits knows.few knows.left
-cost-open s call steps (AtThreshold found) knows = ends-soft s call.op (length steps) call.lost 1 knows.fits (omega arith) knows.few knows.left
-cost-open s call steps (Limit found) knows = ends-soft s call.op (length steps) call.lost 2 knows.fits (omega arith) knows.few knows.left
-cost-open s call steps (Reserving found slots) knows = ends-soft s call.op (length steps) call.lost 2 knows.fits (omega arith) knows.few knows.left
-cost-open s call steps (Holding found) knows = ends-soft s call.op (length steps) call.lost 3 knows.fits (omega arith) knows.few knows.left
-cost-open s call steps Firming knows = ends-soft s call.op (length steps) call.lost 4 knows.fits (omega arith) knows.few knows.left
-cost-open s call steps Losing knows = ends-soft s call.op (length steps) call.lost 4 knows.fits (omega arith) knows.few knows.left
-cost-open s call steps (Loosening found mark answer) knows =
-    ends-loosen s call.op (length steps) call.lost 1 knows.fits (omega arith) knows.few knows.left
-cost-open s call steps (Loosened found mark answer) knows =
-    ends-loosen s call.op (length steps) call.lost 2 knows.fits (omega arith) knows.few knows.left
-cost-open s call steps (Emptied answer) knows = ends-loosen s call.op (length steps) call.lost 3 knows.fits (omega arith) knows.few knows.left
+-- an open call took fewer than it may
+pub cost-open : (s : Settings) (call : CallState) (taken : ℕ) (phase : Phase) → KnowsCost s call taken phase → taken < most_steps s call.op
+cost-open s call taken Start knows = ends-any s call.op taken call.lost knows.few knows.left
+cost-open s call taken (Read found mark answer) knows =
+    ends-read s call.op call.number found.mark taken call.lost knows.fits knows.few knows.left
+cost-open s call taken (AtThreshold found) knows = ends-soft s call.op taken call.lost 1 knows.fits (omega arith) knows.few knows.left
+cost-open s call taken (Limit found) knows = ends-soft s call.op taken call.lost 2 knows.fits (omega arith) knows.few knows.left
+cost-open s call taken (Reserving found slots) knows = ends-soft s call.op taken call.lost 2 knows.fits (omega arith) knows.few knows.left
+cost-open s call taken (Holding found) knows = ends-soft s call.op taken call.lost 3 knows.fits (omega arith) knows.few knows.left
+cost-open s call taken Firming knows = ends-soft s call.op taken call.lost 4 knows.fits (omega arith) knows.few knows.left
+cost-open s call taken Losing knows = ends-soft s call.op taken call.lost 4 knows.fits (omega arith) knows.few knows.left
+cost-open s call taken (Loosening found mark answer) knows =
+    ends-loosen s call.op taken call.lost 1 knows.fits (omega arith) knows.few knows.left
+cost-open s call taken (Loosened found mark answer) knows =
+    ends-loosen s call.op taken call.lost 2 knows.fits (omega arith) knows.few knows.left
+cost-open s call taken (Emptied answer) knows = ends-loosen s call.op taken call.lost 3 knows.fits (omega arith) knows.few knows.left
+
+-- the same along a run
+follows-cost : (s : Settings) (new : World) (thread : ℕ) (call : CallState) (steps : List OwnStep) (own : OwnStep) (decision : Decision)
+    → own.step.answer ≡ answer_of decision → CostAfter s call (suc (length steps)) decision
+    → Follows s (λ at who one taken phase. KnowsCost s one (length taken) phase) (IsShort s) new thread call steps own decision
+follows-cost s new thread call steps own (Goes lost phase) answers costs = costs
+follows-cost s new thread call steps own (Answers answer) answers costs = (costs, λ none. cc)
 
 pub ShortCalls-run : InEveryRun (λ s w. All (IsShort s) (calls_of w.past))
 ShortCalls-run s ranges turns =
-    (InFamily-run s (λ at thread call steps phase. KnowsCost s call steps phase) (IsShort s)
-    (λ w thread number op server both stands. record { few = omega arith; left = ranges.tries.0; fits = tt })
-    (λ w thread call steps phase knows. let more = cost-open s call steps phase knows in omega (arith, more))
+    (InFamily-run s (λ at thread call steps phase. KnowsCost s call (length steps) phase) (IsShort s)
+    (λ w thread number op server both stands. cost-begin s number op server ranges)
+    (λ w thread call steps phase knows.
+    let more = cost-open s call (length steps) phase knows in
+    let most : length steps ≤ most_steps s call.op = omega (arith, more) in (most, λ open_yet. more))
     (λ w thread call steps phase both inside stands found knows.
-    let P : Settings → Type 0 = λ it. KnowsCost it call steps phase in
+    let P : Settings → Type 0 = λ it. KnowsCost it call (length steps) phase in
     let Q : Settings → Type 0 = λ it.
-    Follows it (λ at who one taken after. KnowsCost it one taken after) (IsShort it) (stepped_from w thread (InCall call phase)) thread call steps
+    Follows it (λ at who one taken after. KnowsCost it one (length taken) after) (IsShort it) (stepped_from w thread (InCall call phase)) thread call steps
     (act_own w thread call phase) (follows w.core call phase) in
-    subst Q both.0.settings (cost-act w thread call steps both.0.core inside phase stands (subst P (sym both.0.settings) knows)))
+    subst Q both.0.settings
+    (follows-cost w.core.settings (stepped_from w thread (InCall call phase)) thread call steps (act_own w thread call phase) (follows w.core call phase) refl
+    (cost-act w.core.settings w.core.shared call (length steps) phase (knows_at w.core thread call both.0.core inside phase stands)
+    (subst P (sym both.0.settings) knows))))
     (λ w thread other op server call steps phase knows. knows)
     (λ w thread other state call steps phase both inside at here apart knows. knows)
     ranges turns).1.calls

@@ -1,11 +1,10 @@
 -- The law of every call of a run: what each phase knows is kept by each turn.
-use Rattle.std.proofs.Common.{◌≡◌, ℕ, ◌+◌, ◌<◌, ◌≤◌, Bool, true, false, cond, eqb, List, [], ◌∷◌, length, get_or, set, All, Option, Some, None, inl, inr, ⊎_elim, refl, sym, ap, ◌∙◌, subst, arith, get_or-set_same, get_or-set_other}
+use Rattle.std.proofs.Common.{◌≡◌, ℕ, ◌+◌, ◌<◌, ◌≤◌, Bool, true, false, cond, eqb, List, ◌∷◌, length, set, All, inl, inr, ⊎_elim, refl, sym, ap, ◌∙◌, subst, arith, get_or-set_same, get_or-set_other}
 use Rattle.std.proofs.lemmas.Bool.{cases_Bool, cases_eq, cond_both, eqb-true, lt-ltb}
-use Rattle.std.proofs.lemmas.List.Elements.{All-nil, All-cons}
+use Rattle.std.proofs.lemmas.List.Elements.{All-nil}
 use Rattle.std.proofs.lemmas.List.Sums.{sum_by-le-sum_by}
 use Rattle.tko_model.specs.declared.mark.Mark.{Mark}
 use Rattle.tko_model.specs.declared.mark.Mark.TheVariants.{Up, Soft}
-use Rattle.tko_model.specs.declared.mark.Op.{Op}
 use Rattle.tko_model.specs.declared.mark.Reply.{Reply}
 use Rattle.tko_model.specs.declared.mark.Reply.TheVariants.{Full, TookSoft}
 use Rattle.tko_model.specs.declared.settings.Settings.{Settings}
@@ -17,26 +16,25 @@ use Rattle.tko_steps.specs.declared.phase.Phase.TheVariants.{Start, Read, AtThre
 use Rattle.tko_steps.specs.declared.phase.Slots.{Slots}
 use Rattle.tko_steps.specs.declared.phase.ThreadState.{ThreadState}
 use Rattle.tko_steps.specs.declared.phase.ThreadState.TheVariants.{NotEnrolled, Idle, InCall}
-use Rattle.tko_steps.specs.declared.step.Kind.TheVariants as kind
-use Rattle.tko_steps.specs.declared.step.Place.TheVariants as place
-use Rattle.tko_steps.specs.declared.step.Word.TheVariants as word
 use Rattle.tko_steps.specs.declared.table.Decision.{Decision}
 use Rattle.tko_steps.specs.declared.table.Decision.TheVariants.{Goes, Answers}
-use Rattle.tko_steps.specs.Runs.{Begin, Step, Turn, Call, InEveryRun, OwnStep, StepTaken, World, after_turns, and_step, begun_call, calls_of, happens, own_step, start, with_step}
-use Rattle.tko_steps.specs.Core.{CoreState, abstract_of, after_act, begun_by, follows, state_after, thread_at}
+use Rattle.tko_model.specs.Ranges.{IsWithinRanges}
+use Rattle.tko_steps.specs.Runs.{Turn, Call, InEveryRun, OwnStep, StepTaken, World, and_step, calls_of, happens, run, start}
+use Rattle.tko_steps.specs.Core.{CoreState, abstract_of, after_act, follows, thread_at}
 use Rattle.tko_steps.specs.Invariant.{IsCore, holds, is_loose}
 use Rattle.tko_steps.specs.Legal.{IsQuiet}
 use Rattle.tko_steps.specs.Table.{goes, lost_try, same_server, same_slots}
-use Rattle.tko_steps.proofs.CountLemmas.{get_or-replicate_same, bit}
-use Rattle.tko_steps.proofs.CallLemmas.{All-with_step, latest, latest-begun_call, latest-begun_call_other, latest-with_step_other, latest-with_step_same, with_step-none}
+use Rattle.tko_steps.proofs.CountLemmas.{bit}
 use Rattle.tko_steps.proofs.CoreLemmas.{knows_at, written}
-use Rattle.tko_steps.proofs.LegalLemmas.{IsNotNewer, IsSoundCall, Knows, Knows-kept, Told, done-before, done-write, open_call, sound-answered, sound-open, sound-quiet, still_quiet, told-full, told-limit, told-lost, told-start, with_decision}
+use Rattle.tko_steps.proofs.LegalLemmas.{IsNotNewer, IsSoundCall, Knows, Knows-kept, Told, done-before, done-write, open_call, sound-answered, sound-open, still_quiet, told-full, told-limit, told-lost, told-start, with_decision}
 use Rattle.tko_steps.proofs.OwnLemmas.{act_step, exchange_step}
-use Rattle.tko_steps.proofs.RunLemmas.{Holds, Holds-begun, Holds-start, Holds-stepped_from, loose-le-holds}
+use Rattle.tko_steps.proofs.AlongLemmas.{AtAct, AtBegin, AtEnrol, along-turn, along-turns}
+use Rattle.tko_steps.proofs.FamilyLemmas.{Acts, Follows, InFamily, InFamily-start, InFamily-turn, IsEnough, KeptAtBegin, KeptAtStep, Opens, act_own}
+use Rattle.tko_steps.proofs.RunLemmas.{Holds, Holds-start, Holds-turn, loose-le-holds}
 use Rattle.tko_steps.proofs.StartLemmas.{Says-from_start}
 use Rattle.tko_steps.proofs.TableLemmas.{eq-same_server, same_server-true}
 use Rattle.tko_steps.proofs.ThreadLemmas.{count_by-moved}
-use Rattle.tko_steps.proofs.WiringLemmas.{begun, keeps-begin, keeps-step, stepped_from}
+use Rattle.tko_steps.proofs.WiringLemmas.{stepped_from}
 
 -- ---- the limit
 
@@ -243,171 +241,82 @@ Knows-lost s thread call steps it lost (Loosening found mark answer) knows = kno
 Knows-lost s thread call steps it lost (Loosened found mark answer) knows = knows
 Knows-lost s thread call steps it lost (Emptied answer) knows = knows
 
--- a thread and the call that it began last
-abbrev pub StandsWith : Settings → List ServerState → ThreadState → ℕ → Option Call → Type 0
-StandsWith s servers NotEnrolled thread found = found ≡ None
-StandsWith s servers (Idle number) thread found = Unit {0}
-StandsWith s servers (InCall call phase) thread found =
-    (steps : List OwnStep) × (found ≡ Some (open_call thread call steps))
-    × Knows s thread call steps (server_at servers call.server) phase
+-- what is known of a call in this world
+abbrev pub KnowsCall : Settings → World → ℕ → CallState → List OwnStep → Phase → Type 0
+KnowsCall s w thread call steps phase = Knows s thread call steps (server_at (abstract_of w.core) call.server) phase
 
-abbrev pub AllStand : Settings → List ServerState → List ThreadState → List Call → Type 0
-AllStand s servers threads calls =
-    (thread : ℕ) → StandsWith s servers (get_or threads thread NotEnrolled) thread (latest thread calls)
-
-StandsWith-kept : (s : Settings) (servers new : List ServerState) (state : ThreadState) (thread : ℕ) (found : Option Call)
-    → ((at : ℕ) → IsNotNewer (server_at servers at) (server_at new at))
-    → StandsWith s servers state thread found → StandsWith s new state thread found
-StandsWith-kept s servers new NotEnrolled thread found on stands = stands
-StandsWith-kept s servers new (Idle number) thread found on stands = tt
-StandsWith-kept s servers new (InCall call phase) thread found on (steps, is, knows) =
-    (steps, is, Knows-kept s thread call steps (server_at servers call.server) (server_at new call.server) phase (on call.server) knows)
-
--- one thread has another state, and the calls of the others are as they were
-AllStand-set : (s : Settings) (servers now : List ServerState) (threads : List ThreadState) (thread : ℕ) (new : ThreadState) (calls others : List Call)
-    → thread < length threads → StandsWith s now new thread (latest thread others)
-    → ((at : ℕ) → IsNotNewer (server_at servers at) (server_at now at))
-    → ((other : ℕ) → (other ≡ thread → ⊥) → latest other others ≡ latest other calls)
-    → AllStand s servers threads calls → AllStand s now (set threads thread new) others
-AllStand-set s servers now threads thread new calls others inside stands on same all other =
-    ⊎_elim
-    (λ (e : other ≡ thread).
-    let P : ℕ → Type 0 = λ at. StandsWith s now (get_or (set threads thread new) at NotEnrolled) at (latest at others) in
-    subst P (sym e) (rw (get_or-set_same threads thread new NotEnrolled inside) stands))
-    (λ (apart : other ≡ thread → ⊥).
-    rw (get_or-set_other threads thread other new NotEnrolled apart, same other apart)
-    (StandsWith-kept s servers now (get_or threads other NotEnrolled) other (latest other calls) on (all other)))
-    (cases_eq other thread)
-
-told-sound : (s : Settings) (thread : ℕ) (call : CallState) (steps : List OwnStep) (at : ℕ) (base : StepTaken) (it : ServerState) (decision : Decision)
-    → Told s thread call steps at base it decision
-    → IsSoundCall s (and_step (open_call thread call steps) (with_decision at base decision))
-told-sound s thread call steps at base it (Goes lost phase) told =
-    sound-open s thread call (with_decision at base (Goes lost phase) ∷ steps) it phase told
-told-sound s thread call steps at base it (Answers answer) told = told
-
-told-stands : (s : Settings) (servers : List ServerState) (thread : ℕ) (call : CallState) (steps : List OwnStep) (at : ℕ) (base : StepTaken) (decision : Decision)
-    → Told s thread call steps at base (server_at servers call.server) decision
-    → StandsWith s servers (state_after call decision) thread (Some (and_step (open_call thread call steps) (with_decision at base decision)))
-told-stands s servers thread call steps at base (Goes lost phase) told =
+-- what its own step leaves a call with, in the world after it
+follows-told : (s : Settings) (new : World) (thread : ℕ) (call : CallState) (steps : List OwnStep) (at : ℕ) (base : StepTaken) (decision : Decision)
+    → Told s thread call steps at base (server_at (abstract_of new.core) call.server) decision
+    → Follows s (KnowsCall s) (IsSoundCall s) new thread call steps (with_decision at base decision) decision
+follows-told s new thread call steps at base (Goes lost phase) told =
     let own = with_decision at base (Goes lost phase) in
-    (own ∷ steps, refl, Knows-lost s thread call (own ∷ steps) (server_at servers call.server) lost phase told)
-told-stands s servers thread call steps at base (Answers answer) told = tt
+    Knows-lost s thread call (own ∷ steps) (server_at (abstract_of new.core) call.server) lost phase told
+follows-told s new thread call steps at base (Answers answer) told = told
+
+call-acts : (s : Settings) → Acts s (KnowsCall s) (IsSoundCall s) (Holds s)
+call-acts s w thread call steps phase holds inside stands found knows =
+    let own = act_own w thread call phase in
+    let base = act_step w.core thread call phase in
+    let new = stepped_from w thread (InCall call phase) in
+    let now = server_at (abstract_of w.core) call.server in
+    let decision = follows w.core call phase in
+    let P : Settings → Type 0 = λ it. Knows it thread call steps now phase in
+    let Q : Settings → Type 0 = λ it. Told it thread call steps own.at base (server_at (abstract_of new.core) call.server) decision in
+    let told = told-act w.core thread call holds.core inside steps own.at phase stands (subst P (sym holds.settings) knows) in
+    follows-told s new thread call steps own.at base decision (subst Q holds.settings told)
+
+call-kept : (s : Settings) → KeptAtStep s (KnowsCall s) (IsSoundCall s) (Holds s)
+call-kept s w thread other NotEnrolled call steps phase holds inside at here apart knows = knows
+call-kept s w thread other (Idle number) call steps phase holds inside at here apart knows = knows
+call-kept s w thread other (InCall by to) call steps phase holds inside at here apart knows =
+    let new = after_act w.core other by to in
+    Knows-kept s thread call steps (server_at (abstract_of w.core) call.server) (server_at (abstract_of new) call.server) phase
+    (act-on w.core other by holds.core inside to at call.server) knows
 
 -- what holds of the calls in each run
-pub record HoldsCalls (w : World) : Type 0 where
-  pub calls : All (IsSoundCall w.core.settings) (calls_of w.past)
-  pub stand : AllStand w.core.settings (abstract_of w.core) w.core.threads (calls_of w.past)
+abbrev pub HoldsCalls : Settings → World → Type 0
+HoldsCalls s w = InFamily s (KnowsCall s) (IsSoundCall s) w
 
-pub HoldsCalls-start : (s : Settings) → HoldsCalls (start s)
-HoldsCalls-start s =
-    record {
-      calls = All-nil (IsSoundCall s);
-      stand = λ thread. rw (get_or-replicate_same s.threads thread NotEnrolled) refl;
-    }
-
-pub HoldsCalls-begun : (w : World) (thread number : ℕ) (op : Op) (server : ℕ) → HoldsCalls w
-    → thread < length w.core.threads → thread_at w.core thread ≡ Idle number → HoldsCalls (begun w thread op server)
-HoldsCalls-begun w thread number op server holds inside stands =
-    let s = w.core.settings in
-    let servers = abstract_of w.core in
-    let new : ThreadState = InCall (begun_by number op server) Start in
-    let call : Call = begun_call thread number op server in
-    let calls = calls_of w.past in
-    rw stands (record {
-      calls = All-cons (IsSoundCall s) call calls (sound-quiet s call refl (All-nil IsQuiet)) holds.calls;
-      stand = AllStand-set s servers servers w.core.threads thread new calls (call ∷ calls) inside
-          ([], latest-begun_call thread number op server calls, All-nil IsQuiet) (λ at. inl refl)
-          (latest-begun_call_other thread number op server calls) holds.stand;
-    })
-
--- an enrolment, with what it reports
-abbrev pub enrol_step : CoreState → ℕ → StepTaken
-enrol_step core thread =
-    record {
-      thread = thread;
-      kind = kind.Enrol;
-      place = place.Enrolment;
-      found = word.Enrolled core.shared.enrolled;
-      left = word.Enrolled (core.shared.enrolled + 1);
-      won = true;
-      answer = None;
-      before = abstract_of core;
-      after = abstract_of core;
-    }
-
-HoldsCalls-enrolled : (w : World) (thread : ℕ) → HoldsCalls w → thread < length w.core.threads → thread_at w.core thread ≡ NotEnrolled
-    → HoldsCalls (stepped_from w thread NotEnrolled)
-HoldsCalls-enrolled w thread holds inside stands =
-    let s = w.core.settings in
-    let servers = abstract_of w.core in
-    let calls = calls_of w.past in
-    let own : OwnStep = own_step (enrol_step w.core thread) w.past in
-    let none : latest thread calls ≡ None = rw stands at (holds.stand thread) in
-    let same : with_step own calls ≡ calls = with_step-none own calls none in
-    record {
-      calls = let P : List Call → Type 0 = λ all. All (IsSoundCall s) all in subst P (sym same) holds.calls;
-      stand = AllStand-set s servers servers w.core.threads thread (Idle w.core.shared.enrolled) calls (with_step own calls) inside tt
-          (λ at. inl refl) (λ other apart. ap (latest other) same) holds.stand;
-    }
-
-HoldsCalls-act : (w : World) (thread : ℕ) (call : CallState) (phase : Phase) → IsCore w.core → HoldsCalls w → thread < length w.core.threads
-    → thread_at w.core thread ≡ InCall call phase → HoldsCalls (stepped_from w thread (InCall call phase))
-HoldsCalls-act w thread call phase is holds inside stands =
-    let s = w.core.settings in
-    let servers = abstract_of w.core in
-    let new = after_act w.core thread call phase in
-    let calls = calls_of w.past in
-    let base = act_step w.core thread call phase in
-    let own : OwnStep = own_step base w.past in
-    let decision = follows w.core call phase in
-    let mine = rw stands at (holds.stand thread) in
-    let steps = mine.0 in
-    let opened = open_call thread call steps in
-    let told = told-act w.core thread call is inside steps own.at phase stands mine.2 in
-    let sound : IsSoundCall s (and_step opened own) = told-sound s thread call steps own.at base (server_at (abstract_of new) call.server) decision told in
-    let now : latest thread (with_step own calls) ≡ Some (and_step opened own) = latest-with_step_same own opened calls mine.1 in
-    let standing = told-stands s (abstract_of new) thread call steps own.at base decision told in
-    let P : Call → Type 0 = λ it. IsSoundCall s (and_step it own) in
-    let Q : Option Call → Type 0 = λ found. StandsWith s (abstract_of new) (state_after call decision) thread found in
-    record {
-      calls = All-with_step (IsSoundCall s) own calls holds.calls
-          (λ it found. let same : opened ≡ it = cc (found, mine.1) in subst P same sound);
-      stand = AllStand-set s servers (abstract_of new) w.core.threads thread (state_after call decision) calls (with_step own calls) inside
-          (subst Q (sym now) standing) (act-on w.core thread call is inside phase stands)
-          (λ other apart. latest-with_step_other own calls other apart) holds.stand;
-    }
-
-pub HoldsCalls-stepped_from : (w : World) (thread : ℕ) (state : ThreadState) → IsCore w.core → HoldsCalls w → thread < length w.core.threads
-    → thread_at w.core thread ≡ state → HoldsCalls (stepped_from w thread state)
-HoldsCalls-stepped_from w thread NotEnrolled is holds inside stands = HoldsCalls-enrolled w thread holds inside stands
-HoldsCalls-stepped_from w thread (Idle number) is holds inside stands = holds
-HoldsCalls-stepped_from w thread (InCall call phase) is holds inside stands = HoldsCalls-act w thread call phase is holds inside stands
+HoldsCalls-turn : (s : Settings) (w : World) (turn : Turn) → Holds s w → HoldsCalls s w → HoldsCalls s (happens w turn)
+HoldsCalls-turn s =
+    InFamily-turn s (KnowsCall s) (IsSoundCall s) (Holds s)
+    (λ w thread number op server holds stands. All-nil IsQuiet)
+    (λ w thread call steps phase knows. sound-open s thread call steps (server_at (abstract_of w.core) call.server) phase knows)
+    (call-acts s)
+    (λ w thread other op server call steps phase knows. knows)
+    (call-kept s)
 
 -- the law of each state and that of each call
 abbrev pub HoldsBoth : Settings → World → Type 0
-HoldsBoth s w = Holds s w × HoldsCalls w
+HoldsBoth s w = Holds s w × HoldsCalls s w
 
 pub HoldsBoth-happens : (s : Settings) (w : World) (turn : Turn) → HoldsBoth s w → HoldsBoth s (happens w turn)
-HoldsBoth-happens s w (Begin thread op server) both =
-    keeps-begin (HoldsBoth s) w thread op server both
-    (λ number inside stands on_server. (
-      Holds-begun s w thread number op server both.0 inside stands on_server,
-      HoldsCalls-begun w thread number op server both.1 inside stands,
-    ))
-HoldsBoth-happens s w (Step thread) both =
-    keeps-step (HoldsBoth s) w thread both
-    (λ inside. (
-      Holds-stepped_from s w thread (thread_at w.core thread) both.0 inside refl,
-      HoldsCalls-stepped_from w thread (thread_at w.core thread) both.0.core both.1 inside refl,
-    ))
+HoldsBoth-happens s w turn both = (Holds-turn s w turn both.0, HoldsCalls-turn s w turn both.0 both.1)
 
-pub HoldsBoth-after_turns : (s : Settings) (w : World) (turns : List Turn) → HoldsBoth s w → HoldsBoth s (after_turns w turns)
-HoldsBoth-after_turns s w [] both = both
-HoldsBoth-after_turns s w (turn ∷ turns) both = HoldsBoth-after_turns s (happens w turn) turns (HoldsBoth-happens s w turn both)
+pub HoldsBoth-start : (s : Settings) → IsWithinRanges s → HoldsBoth s (start s)
+HoldsBoth-start s ranges = (Holds-start s ranges, InFamily-start s (KnowsCall s) (IsSoundCall s))
+
+pub HoldsBoth-run : InEveryRun HoldsBoth
+HoldsBoth-run s ranges turns = along-turns HoldsBoth HoldsBoth-happens s (start s) turns (HoldsBoth-start s ranges)
 
 pub SoundCalls-run : InEveryRun (λ s w. All (IsSoundCall s) (calls_of w.past))
-SoundCalls-run s ranges turns =
-    let both = HoldsBoth-after_turns s (start s) turns (Holds-start s ranges, HoldsCalls-start s) in
-    let P : Settings → Type 0 = λ settings. All (IsSoundCall settings) (calls_of (after_turns (start s) turns).past) in
-    subst P both.0.settings both.1.calls
+SoundCalls-run s ranges turns = (HoldsBoth-run s ranges turns).1.calls
+
+-- what begins, enrolments and steps of calls keep holds in every run
+pub along : (P : Settings → World → Type 0) → ((s : Settings) → IsWithinRanges s → P s (start s))
+    → AtBegin HoldsBoth P → AtEnrol HoldsBoth P → AtAct HoldsBoth P → InEveryRun P
+along P opens at_begin at_enrol at_act = λ s ranges turns.
+    (along-turns (λ it w. HoldsBoth it w × P it w)
+    (λ it w turn all. (HoldsBoth-happens it w turn all.0, along-turn HoldsBoth P at_begin at_enrol at_act it w turn all.0 all.1))
+    s (start s) turns (HoldsBoth-start s ranges, opens s ranges)).1
+
+-- a further family of facts about calls
+module _ (s : Settings) (K : World → ℕ → CallState → List OwnStep → Phase → Type 0) (P : Call → Type 0)
+    (opens : Opens s K P (HoldsBoth s)) (enough : IsEnough s K P) (acts : Acts s K P (HoldsBoth s)) (at_begin : KeptAtBegin s K P)
+    (at_step : KeptAtStep s K P (HoldsBoth s)) where
+  pub InFamily-run : IsWithinRanges s → (turns : List Turn) → HoldsBoth s (run s turns) × InFamily s K P (run s turns)
+  InFamily-run ranges turns =
+      along-turns (λ it w. HoldsBoth s w × InFamily s K P w)
+      (λ it w turn all. (HoldsBoth-happens s w turn all.0, InFamily-turn s K P (HoldsBoth s) opens enough acts at_begin at_step w turn all.0 all.1))
+      s (start s) turns (HoldsBoth-start s ranges, InFamily-start s K P)

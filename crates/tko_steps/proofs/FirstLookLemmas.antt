@@ -5,13 +5,14 @@ use Rattle.tko_model.specs.declared.mark.Mark.{Mark}
 use Rattle.tko_model.specs.declared.mark.Mark.TheVariants.{Up, Soft, Hard}
 use Rattle.tko_model.specs.declared.mark.Op.{Op}
 use Rattle.tko_model.specs.declared.mark.Op.TheVariants.{LookUp, SoftFailure, HardFailure, Success, Release}
+use Rattle.tko_model.specs.declared.mark.Reply.{Reply}
 use Rattle.tko_model.specs.declared.mark.Reply.TheVariants as reply
 use Rattle.tko_model.specs.declared.settings.Settings.{Settings}
 use Rattle.tko_model.specs.declared.state.ServerState.{ServerState}
 use Rattle.tko_model.specs.Ranges.{worn}
 use Rattle.tko_steps.specs.declared.phase.Call.{Call}
 use Rattle.tko_steps.specs.declared.phase.Phase.{Phase}
-use Rattle.tko_steps.specs.declared.phase.Phase.TheVariants.{Read, AtThreshold, Loosening}
+use Rattle.tko_steps.specs.declared.phase.Phase.TheVariants.{Start, Read, AtThreshold, Limit, Reserving, Holding, Firming, Losing, Loosening, Loosened, Emptied}
 use Rattle.tko_steps.specs.declared.table.Decision.{Decision}
 use Rattle.tko_steps.specs.declared.table.Decision.TheVariants.{Goes, Answers}
 use Rattle.tko_steps.specs.Core.{owner_of}
@@ -36,6 +37,24 @@ LeadsTo op call now (Read found mark answer) = (found ≡ now) × (is_plain answ
 LeadsTo op call now (AtThreshold found) = (found ≡ now) × (op ≡ SoftFailure) × (owner_of now.mark ≡ None)
 LeadsTo op call now (Loosening found mark answer) = (found ≡ now) × (is_plain answer ≡ true) × CanLoosen op
 LeadsTo op call now phase = ⊥
+
+-- one case for each such phase
+pub leads-to : (op : Op) (call : Call) (now : ServerState) (Q : Phase → Type 0)
+    → ((found : ServerState) (mark : Mark) (answer : Reply) → LeadsTo op call now (Read found mark answer) → Q (Read found mark answer))
+    → ((found : ServerState) → LeadsTo op call now (AtThreshold found) → Q (AtThreshold found))
+    → ((found : ServerState) (mark : Mark) (answer : Reply) → LeadsTo op call now (Loosening found mark answer) → Q (Loosening found mark answer))
+    → (phase : Phase) → LeadsTo op call now phase → Q phase
+leads-to op call now Q read threshold loosening Start leads = absurd leads
+leads-to op call now Q read threshold loosening (Read found mark answer) leads = read found mark answer leads
+leads-to op call now Q read threshold loosening (AtThreshold found) leads = threshold found leads
+leads-to op call now Q read threshold loosening (Limit found) leads = absurd leads
+leads-to op call now Q read threshold loosening (Reserving found slots) leads = absurd leads
+leads-to op call now Q read threshold loosening (Holding found) leads = absurd leads
+leads-to op call now Q read threshold loosening Firming leads = absurd leads
+leads-to op call now Q read threshold loosening Losing leads = absurd leads
+leads-to op call now Q read threshold loosening (Loosening found mark answer) leads = loosening found mark answer leads
+leads-to op call now Q read threshold loosening (Loosened found mark answer) leads = absurd leads
+leads-to op call now Q read threshold loosening (Emptied answer) leads = absurd leads
 
 abbrev pub Leads : Op → Call → ServerState → Decision → Type 0
 Leads op call now (Goes lost phase) = (lost ≡ call.lost) × LeadsTo op call now phase

@@ -15,7 +15,7 @@ use Rattle.tko_steps.specs.declared.phase.Phase.{Phase}
 use Rattle.tko_steps.specs.declared.phase.Phase.TheVariants.{Start, Read, AtThreshold, Limit, Reserving, Holding, Firming, Losing, Loosening, Loosened, Emptied}
 use Rattle.tko_steps.specs.declared.table.Decision.{Decision}
 use Rattle.tko_steps.specs.declared.table.Decision.TheVariants.{Goes, Answers}
-use Rattle.tko_steps.specs.Core.{answer_of}
+use Rattle.tko_steps.specs.Steps.{answer_of}
 use Rattle.tko_steps.specs.Legal.{ChangesAtMostOnce, IsFullAtLimit, IsLegal, IsLegalAt, IsQuiet, TakesEffect}
 use Rattle.tko_steps.specs.Runs.{Call, OwnStep, StepTaken, and_step}
 use Rattle.tko_steps.specs.Table.{lost_try}

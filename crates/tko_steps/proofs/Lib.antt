@@ -1,4 +1,5 @@
 pub mod AloneLemmas
+pub mod AlongLemmas
 pub mod CallLemmas
 pub mod ChainLemmas
 pub mod CoreLemmas
@@ -7,16 +8,21 @@ pub mod CountLemmas
 pub mod EveryCallLemmas
 pub mod FamilyLemmas
 pub mod FirstLookLemmas
+pub mod JoinedLemmas
+pub mod KindLemmas
 pub mod LegalLemmas
 pub mod LoserLemmas
 pub mod LostLemmas
 pub mod NumberLemmas
 pub mod OtherLemmas
 pub mod OwnLemmas
+pub mod OwnedLemmas
 pub mod OwnerLemmas
+pub mod PackedLemmas
 pub mod RunLemmas
 pub mod SoloLemmas
 pub mod StartLemmas
+pub mod StepLemmas
 pub mod TableLemmas
 pub mod ThreadLemmas
 pub mod TrackerLemmas

@@ -14,18 +14,19 @@ use Rattle.tko_steps.specs.declared.phase.Slots.{Slots}
 use Rattle.tko_steps.specs.declared.phase.ThreadState.{ThreadState}
 use Rattle.tko_steps.specs.declared.phase.ThreadState.TheVariants.{NotEnrolled, Idle, InCall}
 use Rattle.tko_steps.specs.declared.step.Place.TheVariants as place
-use Rattle.tko_steps.specs.Core.{abstract_of, kind_of_exchange, thread_at}
+use Rattle.tko_steps.specs.Core.{abstract_of, thread_at}
+use Rattle.tko_steps.specs.Steps.{kind_of_exchange}
 use Rattle.tko_steps.specs.Invariant.{IsCore, holds}
 use Rattle.tko_steps.specs.Lost.{IsChangedSince, IsLostToOther, IsSlotOfOther, LosesToOthers, finds_change, finds_no_slot, is_look, last_look, newest_steps}
 use Rattle.tko_steps.specs.Runs.{Call, InEveryRun, OwnStep, StepTaken, Took, World, calls_of, run}
 use Rattle.tko_steps.specs.Table.{same_server, same_slots}
 use Rattle.tko_steps.proofs.CallLemmas.{latest}
-use Rattle.tko_steps.proofs.EveryCallLemmas.{HoldsBoth, enrol_step}
+use Rattle.tko_steps.proofs.EveryCallLemmas.{HoldsBoth}
 use Rattle.tko_steps.proofs.FamilyLemmas.{InFamily, Stands}
 use Rattle.tko_steps.proofs.LegalLemmas.{open_call}
 use Rattle.tko_steps.proofs.LostLemmas.{HasLooked, IsTried, KnowsTries, Tries}
 use Rattle.tko_steps.proofs.OtherLemmas.{TriedCalls-run}
-use Rattle.tko_steps.proofs.OwnLemmas.{act_step}
+use Rattle.tko_steps.proofs.OwnLemmas.{act_step, enrol_step}
 use Rattle.tko_steps.proofs.TableLemmas.{eq-same_server}
 use Rattle.tko_steps.proofs.TryLemmas.{exchange-not_look}
 use Rattle.tko_steps.proofs.WiringLemmas.{keeps-step, stepped_from}
@@ -85,23 +86,23 @@ module _ (w : World) (thread : ℕ) (call : CallState) (steps : List OwnStep) (i
       × (finds_no_slot s (step phase) ≡ true → IsSlotOfOther w.core thread)
 
   -- a server that isn't as found was changed
-  changed-server : (found : ServerState) → HasLooked s w thread call.server call.lost steps found → (same_server now found ≡ true → ⊥)
+  changed-server : (held : Bool) (found : ServerState) → HasLooked s w thread call.server call.lost steps held found → (same_server now found ≡ true → ⊥)
       → IsChangedSince thread (place.Server call.server) w.past
-  changed-server found has differs =
+  changed-server held found has differs =
       ⊎_elim
       (λ (same : now ≡ found). absurd (differs (eq-same_server now found same)))
       (λ (changed : IsChangedSince thread (place.Server call.server) w.past). changed)
       has.since
 
-  lost-exchange : (phase : Phase) (found : ServerState) (mark : Mark) → HasLooked s w thread call.server call.lost steps found
+  lost-exchange : (phase : Phase) (found : ServerState) (mark : Mark) (held : Bool) → HasLooked s w thread call.server call.lost steps held found
       → (step phase).kind ≡ kind_of_exchange found.mark mark → (step phase).won ≡ same_server now found
       → (step phase).place ≡ place.Server call.server → IsLost phase
-  lost-exchange phase found mark has of_kind is_won on =
+  lost-exchange phase found mark held has of_kind is_won on =
       let no_look : is_look (step phase).kind ≡ false = ap is_look of_kind ∙ exchange-not_look found.mark mark in (
         λ e.
             let both : (not (step phase).won && is_some (last_look s (step phase).place steps)) ≡ true = sym (cond-false _ _ _ no_look) ∙ e in
             let lost : not (step phase).won ≡ true = (and_parts (not (step phase).won) (is_some (last_look s (step phase).place steps)) both).0 in
-            let changed = changed-server found has (λ won. not-true (step phase).won lost (is_won ∙ won)) in
+            let changed = changed-server held found has (λ won. not-true (step phase).won lost (is_won ∙ won)) in
             subst (λ at. IsChangedSince thread at w.past) (sym on) changed,
         λ e. let no : finds_no_slot s (step phase) ≡ false = and_left _ _ no_look in cc,
       )
@@ -130,7 +131,7 @@ module _ (w : World) (thread : ℕ) (call : CallState) (steps : List OwnStep) (i
     λ e. let none : finds_change (step Start) (last_look s (place.Server call.server) steps) ≡ false = ap (λ it. finds_change (step Start) it) knows.looked in cc,
     λ e. cc,
   )
-  lost-to (Read found mark answer) stands knows = lost-exchange (Read found mark answer) found mark knows.0 refl refl refl
+  lost-to (Read found mark answer) stands knows = lost-exchange (Read found mark answer) found mark false knows.0 refl refl refl
   lost-to (AtThreshold found) stands knows = lost-AtThreshold found stands
   lost-to (Limit found) stands knows = (
     λ e.
@@ -152,11 +153,11 @@ module _ (w : World) (thread : ℕ) (call : CallState) (steps : List OwnStep) (i
         knows.1.since,
     λ e. cc,
   )
-  lost-to (Holding found) stands knows = lost-exchange (Holding found) found (Soft call.number) knows refl refl refl
+  lost-to (Holding found) stands knows = lost-exchange (Holding found) found (Soft call.number) true knows refl refl refl
   lost-to Firming stands knows = (λ e. cc, λ e. cc)
   lost-to Losing stands knows = (λ e. cc, λ e. cc)
   lost-to (Loosening found mark answer) stands knows = (λ e. cc, λ e. cc)
-  lost-to (Loosened found mark answer) stands knows = lost-exchange (Loosened found mark answer) found mark knows.0 refl refl refl
+  lost-to (Loosened found mark answer) stands knows = lost-exchange (Loosened found mark answer) found mark true knows.0 refl refl refl
   lost-to (Emptied answer) stands knows = (λ e. cc, λ e. cc)
 
   pub lost-act : (phase : Phase) → thread_at w.core thread ≡ InCall call phase → latest thread (calls_of w.past) ≡ Some (open_call thread call steps)

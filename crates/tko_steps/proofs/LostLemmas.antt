@@ -18,14 +18,15 @@ use Rattle.tko_steps.specs.declared.step.Place.TheVariants as place
 use Rattle.tko_steps.specs.declared.step.Word.TheVariants as word
 use Rattle.tko_steps.specs.declared.table.Decision.{Decision}
 use Rattle.tko_steps.specs.declared.table.Decision.TheVariants.{Goes, Answers}
-use Rattle.tko_steps.specs.Core.{abstract_of, answer_of, follows, kind_of_exchange, thread_at}
+use Rattle.tko_steps.specs.Core.{abstract_of, follows, thread_at}
+use Rattle.tko_steps.specs.Steps.{answer_of, kind_of_exchange}
 use Rattle.tko_steps.specs.Invariant.{IsCore}
-use Rattle.tko_steps.specs.Lost.{ExpectsWhatItSaw, HasLostEachTry, IsChangedSince, is_exchange, is_look, is_look_of, last_look, loses_try, lost_tries, same_place, was_seen}
+use Rattle.tko_steps.specs.Lost.{ExpectsWhatItSaw, HasLostEachTry, IsChangedSince, holds_slot, is_exchange, is_give, is_look, is_look_of, last_look, loses_try, lost_tries, owes_slot, same_place, was_seen}
 use Rattle.tko_steps.specs.Runs.{Call, Moment, OwnStep, StepTaken, Took, World}
 use Rattle.tko_steps.specs.Table.{goes, lost_try, same_server, same_slots}
 use Rattle.tko_steps.proofs.FamilyLemmas.{Follows, act_own}
-use Rattle.tko_steps.proofs.FirstLookLemmas.{Leads, LeadsTo, Leads-from_start}
-use Rattle.tko_steps.proofs.TryLemmas.{exchange-is_exchange, exchange-not_look, last_look-elsewhere, last_look-here, last_look-lost, loses_try-change, lost_tries-kept, lost_tries-lost}
+use Rattle.tko_steps.proofs.FirstLookLemmas.{Leads, LeadsTo, Leads-from_start, leads-to}
+use Rattle.tko_steps.proofs.TryLemmas.{exchange-holds, exchange-is_exchange, exchange-no_give, exchange-not_look, last_look-elsewhere, last_look-here, last_look-lost, loses_try-change, lost_tries-given, lost_tries-held, lost_tries-kept, lost_tries-lost, owes_slot-held}
 use Rattle.tko_steps.proofs.WiringLemmas.{stepped_from}
 use Rattle.tko_steps.proofs.TrackerLemmas.{is_plain, plain≢}
 
@@ -34,11 +35,19 @@ use Rattle.tko_steps.proofs.TrackerLemmas.{is_plain, plain≢}
 -- no look of this try has found its server, which lost so many tries before it
 pub record HasNotLooked (s : Settings) (server lost : ℕ) (steps : List OwnStep) : Type 0 where
   pub count : lost_tries s steps ≡ lost
+  pub holds : holds_slot steps ≡ false
+  pub looked : last_look s (place.Server server) steps ≡ None
+
+-- the try is lost, and is counted once the slot is given back
+pub record HasLost (s : Settings) (server lost : ℕ) (steps : List OwnStep) : Type 0 where
+  pub count : lost_tries s steps ≡ lost
+  pub owes : owes_slot s steps ≡ true
   pub looked : last_look s (place.Server server) steps ≡ None
 
 -- this try's last look found its server like this, and it still is, or another thread changed it since
-pub record HasLooked (s : Settings) (w : World) (thread server lost : ℕ) (steps : List OwnStep) (found : ServerState) : Type 0 where
+pub record HasLooked (s : Settings) (w : World) (thread server lost : ℕ) (steps : List OwnStep) (held : Bool) (found : ServerState) : Type 0 where
   pub count : lost_tries s steps ≡ lost
+  pub holds : holds_slot steps ≡ held
   pub looked : last_look s (place.Server server) steps ≡ Some (word.Server found)
   pub since : (server_at (abstract_of w.core) server ≡ found) ⊎ IsChangedSince thread (place.Server server) w.past
 
@@ -50,18 +59,18 @@ pub record HasCounted (s : Settings) (w : World) (thread : ℕ) (steps : List Ow
 abbrev pub Tries : Settings → World → ℕ → CallState → List OwnStep → Phase → Type 0
 Tries s w thread call steps Start = HasNotLooked s call.server call.lost steps
 Tries s w thread call steps (Read found mark answer) =
-    HasLooked s w thread call.server call.lost steps found × (is_plain answer ≡ true)
-Tries s w thread call steps (AtThreshold found) = HasLooked s w thread call.server call.lost steps found
-Tries s w thread call steps (Limit found) = HasLooked s w thread call.server call.lost steps found
+    HasLooked s w thread call.server call.lost steps false found × (is_plain answer ≡ true)
+Tries s w thread call steps (AtThreshold found) = HasLooked s w thread call.server call.lost steps false found
+Tries s w thread call steps (Limit found) = HasLooked s w thread call.server call.lost steps false found
 Tries s w thread call steps (Reserving found slots) =
-    HasLooked s w thread call.server call.lost steps found × HasCounted s w thread steps slots
-Tries s w thread call steps (Holding found) = HasLooked s w thread call.server call.lost steps found
+    HasLooked s w thread call.server call.lost steps false found × HasCounted s w thread steps slots
+Tries s w thread call steps (Holding found) = HasLooked s w thread call.server call.lost steps true found
 Tries s w thread call steps Firming = Unit {0}
-Tries s w thread call steps Losing = HasNotLooked s call.server (call.lost + 1) steps
+Tries s w thread call steps Losing = HasLost s call.server call.lost steps
 Tries s w thread call steps (Loosening found mark answer) =
-    HasLooked s w thread call.server call.lost steps found × (is_plain answer ≡ true)
+    HasLooked s w thread call.server call.lost steps false found × (is_plain answer ≡ true)
 Tries s w thread call steps (Loosened found mark answer) =
-    HasLooked s w thread call.server call.lost steps found × (is_plain answer ≡ true)
+    HasLooked s w thread call.server call.lost steps true found × (is_plain answer ≡ true)
 Tries s w thread call steps (Emptied answer) = is_plain answer ≡ true
 
 abbrev pub KnowsTries : Settings → World → ℕ → CallState → List OwnStep → Phase → Type 0
@@ -120,29 +129,32 @@ module _ (w : World) (thread : ℕ) (call : CallState) (steps : List OwnStep) (i
 
   -- a step that loses the try
   lost-try : (phase : Phase) → follows w.core call phase ≡ lost_try s call
-      → lost_tries s (own phase ∷ steps) ≡ call.lost + 1 → last_look s at_server (own phase ∷ steps) ≡ None
+      → lost_tries s (own phase ∷ steps) ≡ call.lost + 1 → holds_slot (own phase ∷ steps) ≡ false → last_look s at_server (own phase ∷ steps) ≡ None
       → ExpectsWhatItSaw s (own phase ∷ steps) → Next phase (lost_try s call)
-  lost-try phase decided lost none expects =
+  lost-try phase decided lost free none expects =
       cond_both (eqb s.tries (call.lost + 1)) (Answers Contended) (Goes (call.lost + 1) Start) (Next phase)
       (λ last. (λ e. lost ∙ sym (eqb-true s.tries (call.lost + 1) last), expects))
-      (λ left. (expects, record { count = lost; looked = none }))
+      (λ left. (expects, record { count = lost; holds = free; looked = none }))
 
   -- a step that loses the try at once
-  loses-now : (phase : Phase) → follows w.core call phase ≡ lost_try s call → lost_tries s steps ≡ call.lost → loses phase ≡ true
+  loses-now : (phase : Phase) (found : ServerState) → follows w.core call phase ≡ lost_try s call
+      → HasLooked s w thread call.server call.lost steps false found → loses phase ≡ true
+      → is_give (own phase).step.kind ≡ false → holds_slot (own phase ∷ steps) ≡ false
       → ExpectsWhatItSaw s (own phase ∷ steps) → Next phase (lost_try s call)
-  loses-now phase decided lost loses expects =
+  loses-now phase found decided has loses no_give free expects =
       lost-try phase decided
-      (lost_tries-lost s (own phase) steps loses ∙ ap (λ n. n + 1) lost)
+      (lost_tries-lost s (own phase) steps loses no_give has.holds ∙ ap (λ n. n + 1) has.count) free
       (last_look-lost s (own phase) steps at_server loses) expects
 
   -- the try goes on after a step on the soft word
-  goes-on : (phase : Phase) (found : ServerState) → HasLooked s w thread call.server call.lost steps found
-      → loses phase ≡ false → (own phase).step.place ≡ place.Soft
+  goes-on : (phase : Phase) (found : ServerState) (held now_held : Bool) → HasLooked s w thread call.server call.lost steps held found
+      → loses phase ≡ false → is_give (own phase).step.kind ≡ false → holds_slot (own phase ∷ steps) ≡ now_held → (own phase).step.place ≡ place.Soft
       → ((server_at (abstract_of (after phase).core) call.server ≡ found) ⊎ IsChangedSince thread at_server (after phase).past)
-      → HasLooked s (after phase) thread call.server call.lost (own phase ∷ steps) found
-  goes-on phase found has goes_on soft since =
+      → HasLooked s (after phase) thread call.server call.lost (own phase ∷ steps) now_held found
+  goes-on phase found held now_held has goes_on no_give holds soft since =
       record {
-        count = lost_tries-kept s (own phase) steps goes_on ∙ has.count;
+        count = lost_tries-kept s (own phase) steps goes_on no_give ∙ has.count;
+        holds = holds;
         looked = last_look-elsewhere s (own phase) steps at_server goes_on
             (ap (λ at. is_look (own phase).step.kind && same_place at at_server) soft ∙ and_none (is_look (own phase).step.kind))
             ∙ has.looked;
@@ -157,34 +169,28 @@ module _ (w : World) (thread : ℕ) (call : CallState) (steps : List OwnStep) (i
       loses_not : loses Start ≡ false
       loses_not = ap (λ it. loses_try s (own Start).step it) knows.looked
 
-      looked : (found : ServerState) → found ≡ now → HasLooked s (after Start) thread call.server lost (own Start ∷ steps) found
+      looked : (found : ServerState) → found ≡ now → HasLooked s (after Start) thread call.server lost (own Start ∷ steps) false found
       looked found is_now =
           record {
-            count = lost_tries-kept s (own Start) steps loses_not ∙ knows.count ∙ sym same;
+            count = lost_tries-kept s (own Start) steps loses_not refl ∙ knows.count ∙ sym same;
+            holds = knows.holds;
             looked = last_look-here s (own Start) steps at_server loses_not here ∙ ap (λ it. Some (word.Server it)) (sym is_now);
             since = inl (sym is_now);
           }
 
       to-phase : (phase : Phase) → LeadsTo call.op call now phase → Next Start (Goes lost phase)
-      to-phase Start leads = absurd leads
-      to-phase (Read found mark answer) leads = ((refl, expects), (looked found leads.0, leads.1))
-      to-phase (AtThreshold found) leads = ((refl, expects), looked found leads.0)
-      to-phase (Limit found) leads = absurd leads
-      to-phase (Reserving found slots) leads = absurd leads
-      to-phase (Holding found) leads = absurd leads
-      to-phase Firming leads = absurd leads
-      to-phase Losing leads = absurd leads
-      to-phase (Loosening found mark answer) leads = ((refl, expects), (looked found leads.0, leads.1))
-      to-phase (Loosened found mark answer) leads = absurd leads
-      to-phase (Emptied answer) leads = absurd leads
+      to-phase = leads-to call.op call now (λ it. Next Start (Goes lost it))
+          (λ found mark answer leads. ((refl, expects), (looked found leads.0, leads.1)))
+          (λ found leads. ((refl, expects), looked found leads.0))
+          (λ found mark answer leads. ((refl, expects), (looked found leads.0, leads.1)))
   start-next (Answers answer) knows expects is_answer leads = answers Start answer is_answer leads.0 (refl, expects)
 
   -- an exchange of the server's word expects what the last look found
-  expects-exchange : (phase : Phase) (found : ServerState) (mark : Mark) → HasLooked s w thread call.server call.lost steps found
+  expects-exchange : (phase : Phase) (found : ServerState) (mark : Mark) (held : Bool) → HasLooked s w thread call.server call.lost steps held found
       → (own phase).step.kind ≡ kind_of_exchange found.mark mark → (own phase).step.place ≡ at_server
       → (own phase).step.found ≡ word.Server now → (own phase).step.won ≡ same_server now found
       → ExpectsWhatItSaw s steps → ExpectsWhatItSaw s (own phase ∷ steps)
-  expects-exchange phase found mark has of_kind on is_found won expects =
+  expects-exchange phase found mark held has of_kind on is_found won expects =
       let step = (own phase).step in
       let looked : last_look s step.place steps ≡ Some (word.Server found) = ap (λ at. last_look s at steps) on ∙ has.looked in
       let seen : was_seen (last_look s step.place steps) step.found ≡ same_server now found =
@@ -192,10 +198,10 @@ module _ (w : World) (thread : ℕ) (call : CallState) (steps : List OwnStep) (i
       let exchange : is_exchange step.kind ≡ true = ap is_exchange of_kind ∙ exchange-is_exchange found.mark mark in
       (won ∙ sym seen ∙ sym (cond-true _ _ _ exchange), expects)
 
-  exchange-loses : (phase : Phase) (found : ServerState) (mark : Mark) (won : Bool) → HasLooked s w thread call.server call.lost steps found
+  exchange-loses : (phase : Phase) (found : ServerState) (mark : Mark) (won held : Bool) → HasLooked s w thread call.server call.lost steps held found
       → (own phase).step.kind ≡ kind_of_exchange found.mark mark → (own phase).step.place ≡ at_server
       → (own phase).step.won ≡ won → loses phase ≡ not won
-  exchange-loses phase found mark won has of_kind on is_won =
+  exchange-loses phase found mark won held has of_kind on is_won =
       loses_try-change s (own phase).step (last_look s (own phase).step.place steps) (ap is_look of_kind ∙ exchange-not_look found.mark mark)
       (ap (λ at. is_some (last_look s at steps)) on ∙ ap is_some has.looked)
       ∙ ap not is_won
@@ -204,26 +210,29 @@ module _ (w : World) (thread : ℕ) (call : CallState) (steps : List OwnStep) (i
       → Next (Read found mark answer) (follows w.core call (Read found mark answer))
   act-Read found mark answer (expects, (has, plain)) =
       let phase : Phase = Read found mark answer in
-      let expected = expects-exchange phase found mark has refl refl refl refl expects in
+      let expected = expects-exchange phase found mark false has refl refl refl refl expects in
       cond_both (same_server now found) (Answers answer) (lost_try s call) (Next phase)
       (λ won.
       answers phase answer (ap (λ b. answer_of (cond b (Answers answer) (lost_try s call))) won) (plain≢ answer Contended plain refl) expected)
       (λ lost.
-      loses-now phase (cond-false _ _ _ lost) has.count (exchange-loses phase found mark false has refl refl lost) expected)
+      loses-now phase found (cond-false _ _ _ lost) has (exchange-loses phase found mark false false has refl refl lost)
+      (exchange-no_give found.mark mark) (exchange-holds found.mark mark (own phase).step.won (holds_slot steps) ∙ has.holds) expected)
 
   act-Holding : (found : ServerState) → KnowsTries s w thread call steps (Holding found)
       → Next (Holding found) (follows w.core call (Holding found))
   act-Holding found (expects, has) =
       let phase : Phase = Holding found in
       let mark : Mark = Soft call.number in
-      let expected = expects-exchange phase found mark has refl refl refl refl expects in
+      let expected = expects-exchange phase found mark true has refl refl refl refl expects in
       cond_both (same_server now found) (goes call Firming) (goes call Losing) (Next phase)
       (λ won. (expected, tt))
       (λ lost.
-      let loses = exchange-loses phase found mark false has refl refl lost in (
+      let loses = exchange-loses phase found mark false true has refl refl lost in
+      let no_give = exchange-no_give found.mark mark in (
         expected,
         record {
-          count = lost_tries-lost s (own phase) steps loses ∙ ap (λ n. n + 1) has.count;
+          count = lost_tries-held s (own phase) steps loses no_give has.holds ∙ has.count;
+          owes = owes_slot-held s (own phase) steps loses no_give has.holds;
           looked = last_look-lost s (own phase) steps at_server loses;
         },
       ))
@@ -238,18 +247,18 @@ module _ (w : World) (thread : ℕ) (call : CallState) (steps : List OwnStep) (i
       (λ full.
       let firm = eqb-true slots.firm s.limit full in
       let goes_on : loses phase ≡ false = and_left _ _ (le-ltb slots.firm s.limit (omega (arith, firm))) in
-      ((refl, expects), goes-on phase found has goes_on refl since))
+      ((refl, expects), goes-on phase found false false has goes_on refl has.holds refl since))
       (λ below.
       let apart = eqb-false slots.firm s.limit below in
       cond_both (eqb (slots.firm + slots.held) s.limit) (lost_try s call) (goes call (Reserving found slots)) (Next phase)
       (λ held.
       let loses : loses phase ≡ true = and_from _ _ (lt-ltb slots.firm s.limit (omega (arith, is.room))) held in
-      loses-now phase (cond-false _ _ _ below ∙ cond-true _ _ _ held) has.count loses (refl, expects))
+      loses-now phase found (cond-false _ _ _ below ∙ cond-true _ _ _ held) has loses refl has.holds (refl, expects))
       (λ left.
       let goes_on : loses phase ≡ false = and_right _ _ left in (
         (refl, expects),
         (
-          goes-on phase found has goes_on refl since,
+          goes-on phase found false false has goes_on refl has.holds refl since,
           record { looked = last_look-here s (own phase) steps place.Soft goes_on refl; since = inl refl },
         ),
       )))
@@ -263,7 +272,7 @@ module _ (w : World) (thread : ℕ) (call : CallState) (steps : List OwnStep) (i
       (λ same.
       answers phase Full (ap (λ b. answer_of (cond b (Answers Full) (lost_try s call))) same) (λ e. cc) (refl, expects))
       (λ other.
-      loses-now phase (cond-false _ _ _ other) has.count (looks ∙ ap (λ b. not b || false) other) (refl, expects))
+      loses-now phase found (cond-false _ _ _ other) has (looks ∙ ap (λ b. not b || false) other) refl has.holds (refl, expects))
 
   act-Reserving : (found : ServerState) (before : Slots) → KnowsTries s w thread call steps (Reserving found before)
       → Next (Reserving found before) (follows w.core call (Reserving found before))
@@ -275,8 +284,10 @@ module _ (w : World) (thread : ℕ) (call : CallState) (steps : List OwnStep) (i
       loses_try-change s (own phase).step (last_look s place.Soft steps) refl (ap is_some counted.looked) in
       let since = since-push thread at_server (own phase).step w.past refl has.since in
       cond_both (same_slots slots before) (goes call (Holding found)) (lost_try s call) (Next phase)
-      (λ won. ((sym seen, expects), goes-on phase found has (loses_not_won ∙ ap not won) refl since))
-      (λ lost. loses-now phase (cond-false _ _ _ lost) has.count (loses_not_won ∙ ap not lost) (sym seen, expects))
+      (λ won. ((sym seen, expects), goes-on phase found false true has (loses_not_won ∙ ap not won) refl (ap (λ b. b || holds_slot steps) won) refl since))
+      (λ lost.
+      loses-now phase found (cond-false _ _ _ lost) has (loses_not_won ∙ ap not lost) refl
+      (ap (λ b. b || holds_slot steps) lost ∙ has.holds) (sym seen, expects))
 
   pub tries-act : (phase : Phase) → thread_at w.core thread ≡ InCall call phase → KnowsTries s w thread call steps phase
       → Next phase (follows w.core call phase)
@@ -290,13 +301,13 @@ module _ (w : World) (thread : ℕ) (call : CallState) (steps : List OwnStep) (i
   tries-act Firming stands (expects, knows) = answers Firming TookSoft refl (λ e. cc) (refl, expects)
   tries-act Losing stands (expects, knows) =
       lost-try Losing refl
-      (lost_tries-kept s (own Losing) steps refl ∙ knows.count)
+      (lost_tries-given s (own Losing) steps refl knows.owes ∙ ap (λ n. n + 1) knows.count) refl
       (last_look-elsewhere s (own Losing) steps at_server refl refl ∙ knows.looked) (refl, expects)
   tries-act (Loosening found mark answer) stands (expects, (has, plain)) =
       let phase : Phase = Loosening found mark answer in
       let since = since-push thread at_server (own phase).step w.past refl has.since in
-      ((refl, expects), (goes-on phase found has refl refl since, plain))
+      ((refl, expects), (goes-on phase found false true has refl refl (ap not has.holds) refl since, plain))
   tries-act (Loosened found mark answer) stands (expects, (has, plain)) =
-      (expects-exchange (Loosened found mark answer) found mark has refl refl refl refl expects, plain)
+      (expects-exchange (Loosened found mark answer) found mark true has refl refl refl refl expects, plain)
   tries-act (Emptied answer) stands (expects, plain) =
       answers (Emptied answer) answer refl (plain≢ answer Contended plain refl) (refl, expects)

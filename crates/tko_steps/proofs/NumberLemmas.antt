@@ -1,5 +1,5 @@
 -- Each call is under the number that its thread drew, along a run.
-use Rattle.std.proofs.Common.{◌≡◌, ℕ, ◌<◌, List, [], ◌∷◌, length, get_or, set, All, Some, ⊎_elim, refl, sym, ap, ◌∙◌, subst, get_or-set_same, get_or-set_other}
+use Rattle.std.proofs.Common.{◌≡◌, ℕ, ◌<◌, List, ◌∷◌, length, get_or, set, All, Some, ⊎_elim, refl, sym, ap, ◌∙◌, subst, get_or-set_same, get_or-set_other}
 use Rattle.std.proofs.lemmas.Bool.{cases_eq}
 use Rattle.std.proofs.lemmas.List.Elements.{All-nil, All-cons, All-weaker}
 use Rattle.tko_model.specs.declared.mark.Op.{Op}
@@ -9,15 +9,15 @@ use Rattle.tko_steps.specs.declared.phase.Phase.{Phase}
 use Rattle.tko_steps.specs.declared.phase.Phase.TheVariants.{Start}
 use Rattle.tko_steps.specs.declared.phase.ThreadState.{ThreadState}
 use Rattle.tko_steps.specs.declared.phase.ThreadState.TheVariants.{NotEnrolled, Idle, InCall}
-use Rattle.tko_steps.specs.Runs.{Begin, Step, Turn, Call, InEveryRun, OwnStep, World, after_turns, and_step, begun_call, calls_of, happens, own_step, start, with_step}
-use Rattle.tko_steps.specs.Core.{begun_by, follows, number_of, state_after, thread_at}
+use Rattle.tko_steps.specs.Runs.{Call, InEveryRun, OwnStep, World, and_step, begun_call, calls_of, own_step, start, with_step}
+use Rattle.tko_steps.specs.Core.{follows, number_of, thread_at}
+use Rattle.tko_steps.specs.Steps.{begun_by, state_after}
 use Rattle.tko_steps.specs.Legal.{IsUnderNumber}
 use Rattle.tko_steps.proofs.CallLemmas.{All-with_step, with_step-none}
-use Rattle.tko_steps.proofs.EveryCallLemmas.{HoldsBoth, HoldsBoth-happens, HoldsCalls-start, enrol_step}
+use Rattle.tko_steps.proofs.EveryCallLemmas.{HoldsBoth, along}
 use Rattle.tko_steps.proofs.LegalLemmas.{open_call}
-use Rattle.tko_steps.proofs.OwnLemmas.{act_step, number-after-step}
-use Rattle.tko_steps.proofs.RunLemmas.{Holds-start}
-use Rattle.tko_steps.proofs.WiringLemmas.{begun, keeps-begin, keeps-step, stepped_from}
+use Rattle.tko_steps.proofs.OwnLemmas.{act_step, enrol_step, number-after-step}
+use Rattle.tko_steps.proofs.WiringLemmas.{begun, stepped_from}
 
 -- the same, of the threads alone
 abbrev Named : List ThreadState → Call → Type 0
@@ -84,25 +84,10 @@ Numbers-act s w thread call phase both inside stands numbers =
     (λ it found. let same : opened ≡ it = cc (found, mine.1) in
     subst P same (ap number_of (get_or-set_same threads thread new NotEnrolled inside) ∙ named))
 
-Numbers-stepped_from : (s : Settings) (w : World) (thread : ℕ) (state : ThreadState) → HoldsBoth s w → thread < length w.core.threads
-    → thread_at w.core thread ≡ state → Numbers w → Numbers (stepped_from w thread state)
-Numbers-stepped_from s w thread NotEnrolled both inside stands numbers = Numbers-enrolled s w thread both inside stands numbers
-Numbers-stepped_from s w thread (Idle number) both inside stands numbers = numbers
-Numbers-stepped_from s w thread (InCall call phase) both inside stands numbers = Numbers-act s w thread call phase both inside stands numbers
-
-Numbers-happens : (s : Settings) (w : World) (turn : Turn) → HoldsBoth s w → Numbers w → Numbers (happens w turn)
-Numbers-happens s w (Begin thread op server) both numbers =
-    keeps-begin Numbers w thread op server numbers
-    (λ number inside stands on_server. Numbers-begun w thread number op server inside stands numbers)
-Numbers-happens s w (Step thread) both numbers =
-    keeps-step Numbers w thread numbers
-    (λ inside. Numbers-stepped_from s w thread (thread_at w.core thread) both inside refl numbers)
-
-Numbers-after_turns : (s : Settings) (w : World) (turns : List Turn) → HoldsBoth s w → Numbers w → Numbers (after_turns w turns)
-Numbers-after_turns s w [] both numbers = numbers
-Numbers-after_turns s w (turn ∷ turns) both numbers =
-    Numbers-after_turns s (happens w turn) turns (HoldsBoth-happens s w turn both) (Numbers-happens s w turn both numbers)
-
 pub Numbers-run : InEveryRun (λ s w. All (IsUnderNumber w.core) (calls_of w.past))
-Numbers-run s ranges turns =
-    Numbers-after_turns s (start s) turns (Holds-start s ranges, HoldsCalls-start s) (All-nil (IsUnderNumber (start s).core))
+Numbers-run =
+    along (λ s w. Numbers w)
+    (λ s ranges. All-nil (IsUnderNumber (start s).core))
+    (λ s w thread number op server both inside stands on_server numbers. Numbers-begun w thread number op server inside stands numbers)
+    Numbers-enrolled
+    Numbers-act

@@ -1,5 +1,5 @@
 -- Another thread's step: what it leaves a call to know of its looks, and to whom a call loses a try.
-use Rattle.std.proofs.Common.{◌≡◌, ◌≢◌, ℕ, ◌+◌, ◌-◌, ◌<◌, ◌⊎◌, Bool, true, false, cond, List, ◌∷◌, length, set, inl, inr, ⊎_elim, refl, sym, ap, ◌∙◌, subst, arith, get_or-set_same, get_or-set_other}
+use Rattle.std.proofs.Common.{◌≡◌, ◌≢◌, ℕ, ◌+◌, ◌-◌, ◌<◌, ◌⊎◌, Bool, true, false, cond, List, ◌∷◌, length, set, inl, inr, ⊎_elim, refl, sym, ap, ◌∙◌, subst, arith, get_or-set_other}
 use Rattle.std.proofs.lemmas.Bool.{and_right, cases_eq, ne_eqb}
 use Rattle.tko_model.specs.declared.mark.Mark.{Mark}
 use Rattle.tko_model.specs.declared.mark.Mark.TheVariants.{Up, Soft}
@@ -25,11 +25,12 @@ use Rattle.tko_steps.specs.Invariant.{IsCore}
 use Rattle.tko_steps.specs.Lost.{IsChangedSince, is_look_of}
 use Rattle.tko_steps.specs.Table.{goes, lost_try, same_server, same_slots}
 use Rattle.tko_steps.proofs.CoreLemmas.{knows_at, one-le-held, written}
-use Rattle.tko_steps.proofs.EveryCallLemmas.{HoldsBoth, enrol_step}
-use Rattle.tko_steps.proofs.FamilyLemmas.{Follows, InFamily, InFamily-run, act_own}
+use Rattle.tko_steps.proofs.EveryCallLemmas.{HoldsBoth}
+use Rattle.tko_steps.proofs.EveryCallLemmas.{InFamily-run}
+use Rattle.tko_steps.proofs.FamilyLemmas.{Follows, InFamily, act_own}
 use Rattle.tko_steps.proofs.LegalLemmas.{open_call}
 use Rattle.tko_steps.proofs.LostLemmas.{HasLooked, IsTried, KnowsTries, Tries, since-push, tries-act}
-use Rattle.tko_steps.proofs.OwnLemmas.{act_step, exchange_step}
+use Rattle.tko_steps.proofs.OwnLemmas.{act_step, enrol_step, exchange_step}
 use Rattle.tko_steps.proofs.TableLemmas.{same_server-true}
 use Rattle.tko_steps.proofs.WiringLemmas.{begun, stepped_from}
 
@@ -92,13 +93,11 @@ module _ (w : World) (thread other : ℕ) (apart : thread ≡ other → ⊥) whe
         let new = written found mark in
         ⊎_elim
         (λ (here : server ≡ call.server).
-        let now : server_at (set servers call.server new) call.server ≡ new = get_or-set_same servers call.server new unread on_server in
         changed-by (place.Server server) step refl (ap place.Server (sym here))
         (λ e.
-        let stamps : (server_at (set servers call.server new) call.server).stamp ≡ (server_at servers call.server).stamp = ap stamp_in e in
-        let one : (server_at (set servers call.server new) call.server).stamp ≡ found.stamp + 1 = ap (λ (it : ServerState). it.stamp) now in
+        let stamps : found.stamp + 1 ≡ (server_at servers call.server).stamp = ap stamp_in e in
         let two : (server_at servers call.server).stamp ≡ found.stamp = ap (λ (it : ServerState). it.stamp) (was refl) in
-        omega (arith, stamps, one, two)))
+        omega (arith, stamps, two)))
         (λ (elsewhere : server ≡ call.server → ⊥).
         kept-by (place.Server server) step refl (inl (get_or-set_other servers call.server server new unread elsewhere ∙ same)))
         (cases_eq server call.server)
@@ -185,21 +184,22 @@ KeepsSince w new thread =
     → IsSince new.core.shared.slots seen thread place.Soft new.past)
 
 module _ (s : Settings) (w new : World) (thread : ℕ) (call : CallState) (steps : List OwnStep) (keeps : KeepsSince w new thread) where
-  looked-kept : (found : ServerState) → HasLooked s w thread call.server call.lost steps found → HasLooked s new thread call.server call.lost steps found
-  looked-kept found has = record { count = has.count; looked = has.looked; since = keeps.0 call.server found has.since }
+  looked-kept : (held : Bool) (found : ServerState) → HasLooked s w thread call.server call.lost steps held found
+      → HasLooked s new thread call.server call.lost steps held found
+  looked-kept held found has = record { count = has.count; holds = has.holds; looked = has.looked; since = keeps.0 call.server found has.since }
 
   tries-kept : (phase : Phase) → Tries s w thread call steps phase → Tries s new thread call steps phase
   tries-kept Start knows = knows
-  tries-kept (Read found mark answer) knows = (looked-kept found knows.0, knows.1)
-  tries-kept (AtThreshold found) knows = looked-kept found knows
-  tries-kept (Limit found) knows = looked-kept found knows
+  tries-kept (Read found mark answer) knows = (looked-kept false found knows.0, knows.1)
+  tries-kept (AtThreshold found) knows = looked-kept false found knows
+  tries-kept (Limit found) knows = looked-kept false found knows
   tries-kept (Reserving found slots) knows =
-      (looked-kept found knows.0, record { looked = knows.1.looked; since = keeps.1 slots knows.1.since })
-  tries-kept (Holding found) knows = looked-kept found knows
+      (looked-kept false found knows.0, record { looked = knows.1.looked; since = keeps.1 slots knows.1.since })
+  tries-kept (Holding found) knows = looked-kept true found knows
   tries-kept Firming knows = tt
   tries-kept Losing knows = knows
-  tries-kept (Loosening found mark answer) knows = (looked-kept found knows.0, knows.1)
-  tries-kept (Loosened found mark answer) knows = (looked-kept found knows.0, knows.1)
+  tries-kept (Loosening found mark answer) knows = (looked-kept false found knows.0, knows.1)
+  tries-kept (Loosened found mark answer) knows = (looked-kept true found knows.0, knows.1)
   tries-kept (Emptied answer) knows = knows
 
 KeepsSince-stepped : (w : World) (thread other : ℕ) (state : ThreadState) → IsCore w.core → other < length w.core.threads
@@ -225,7 +225,7 @@ pub TriedCalls-run : (s : Settings) → IsWithinRanges s → (turns : List Turn)
     → HoldsBoth s (run s turns) × InFamily s (KnowsTries s) (IsTried s) (run s turns)
 TriedCalls-run s ranges turns =
     InFamily-run s (KnowsTries s) (IsTried s)
-    (λ w thread number op server both stands. (tt, record { count = refl; looked = refl }))
+    (λ w thread number op server both stands. (tt, record { count = refl; holds = refl; looked = refl }))
     (tried-open s)
     (λ w thread call steps phase both inside stands found knows.
     let P : Settings → Type 0 = λ it. KnowsTries it w thread call steps phase in

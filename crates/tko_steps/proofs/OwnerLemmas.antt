@@ -17,17 +17,20 @@ use Rattle.tko_steps.specs.declared.phase.ThreadState.TheVariants.{NotEnrolled, 
 use Rattle.tko_steps.specs.declared.step.Kind.TheVariants as kind
 use Rattle.tko_steps.specs.declared.table.Decision.{Decision}
 use Rattle.tko_steps.specs.declared.table.Decision.TheVariants.{Goes, Answers}
-use Rattle.tko_steps.specs.Core.{IsOwner, owner_of, abstract_of, answer_of, follows, kind_of_exchange, number_of, thread_at}
+use Rattle.tko_steps.specs.Core.{IsOwner, owner_of, abstract_of, follows, names, number_of, thread_at}
+use Rattle.tko_steps.specs.Steps.{answer_of, kind_of_exchange}
 use Rattle.tko_steps.specs.Invariant.{IsCore, IsFoundBy}
 use Rattle.tko_steps.specs.Legal.{IsOwnersAnswer}
-use Rattle.tko_steps.specs.Runs.{InEveryRun, Moment, OwnStep, StepTaken, Took, World, calls_of, is_server, owns, owns_after}
+use Rattle.tko_steps.specs.Runs.{InEveryRun, Moment, OwnStep, StepTaken, Took, World, calls_of, owns}
+use Rattle.tko_steps.specs.Steps.{is_server, owns_after}
 use Rattle.tko_steps.specs.Table.{goes, lost_try, same_server, same_slots}
 use Rattle.tko_steps.proofs.CoreLemmas.{knows_at}
-use Rattle.tko_steps.proofs.EveryCallLemmas.{enrol_step}
-use Rattle.tko_steps.proofs.FamilyLemmas.{Follows, InFamily-run, act_own}
-use Rattle.tko_steps.proofs.FirstLookLemmas.{Leads, LeadsTo, Leads-from_start}
+use Rattle.tko_steps.proofs.EveryCallLemmas.{InFamily-run}
+use Rattle.tko_steps.proofs.FamilyLemmas.{Follows, act_own}
+use Rattle.tko_steps.proofs.FirstLookLemmas.{Leads, LeadsTo, Leads-from_start, leads-to}
 use Rattle.tko_steps.proofs.LegalLemmas.{open_call}
-use Rattle.tko_steps.proofs.OwnLemmas.{AreOwned, act_step, cond_same, names, owns_after-lost, true-names}
+use Rattle.tko_steps.proofs.OwnLemmas.{AreOwned, act_step, enrol_step}
+use Rattle.tko_steps.proofs.OwnedLemmas.{cond_same, owns_after-lost, true-names}
 use Rattle.tko_steps.proofs.TableLemmas.{eq-same_server}
 use Rattle.tko_steps.proofs.WiringLemmas.{begun, stepped_from}
 use Rattle.tko_steps.proofs.TrackerLemmas.{is_plain, plain≢}
@@ -160,18 +163,10 @@ module _ (w : World) (thread : ℕ) (call : CallState) (steps : List OwnStep) (i
   start-next (Goes lost phase) stands none is_answer (same, leads) = to-phase phase leads
     where
       to-phase : (phase : Phase) → LeadsTo call.op call now phase → Next Start (Goes lost phase)
-      to-phase Start leads = absurd leads
-      to-phase (Read found mark answer) leads =
-          (leads.1, λ unmarked. unowned-first stands none (ap (λ (it : ServerState). owner_of it.mark) (sym leads.0) ∙ unmarked))
-      to-phase (AtThreshold found) leads = unowned-first stands none leads.2
-      to-phase (Limit found) leads = absurd leads
-      to-phase (Reserving found slots) leads = absurd leads
-      to-phase (Holding found) leads = absurd leads
-      to-phase Firming leads = absurd leads
-      to-phase Losing leads = absurd leads
-      to-phase (Loosening found mark answer) leads = leads.1
-      to-phase (Loosened found mark answer) leads = absurd leads
-      to-phase (Emptied answer) leads = absurd leads
+      to-phase = leads-to call.op call now (λ it. Next Start (Goes lost it))
+          (λ found mark answer leads. (leads.1, λ unmarked. unowned-first stands none (ap (λ (it : ServerState). owner_of it.mark) (sym leads.0) ∙ unmarked)))
+          (λ found leads. unowned-first stands none leads.2)
+          (λ found mark answer leads. leads.1)
   start-next (Answers answer) stands none is_answer leads =
       All-cons
       (λ (it : OwnStep). IsOwner it.step.before call.number call.server →

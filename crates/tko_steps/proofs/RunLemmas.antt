@@ -1,5 +1,5 @@
 -- The law of every run: what holds of the world is kept by each turn.
-use Rattle.std.proofs.Common.{◌≡◌, ℕ, ◌<◌, ◌≤◌, List, [], ◌∷◌, length, get_or, Some, None, refl, sym, ap, ◌∙◌, arith}
+use Rattle.std.proofs.Common.{◌≡◌, ℕ, ◌<◌, ◌≤◌, length, get_or, Some, None, refl, sym, ap, ◌∙◌, arith}
 use Rattle.std.proofs.lemmas.List.Sums.{sum_by-le-sum_by}
 use Rattle.tko_model.specs.declared.mark.Op.{Op}
 use Rattle.tko_model.specs.declared.settings.Settings.{Settings}
@@ -9,15 +9,18 @@ use Rattle.tko_steps.specs.declared.phase.Phase.{Phase}
 use Rattle.tko_steps.specs.declared.phase.Phase.TheVariants.{Start, Read, AtThreshold, Limit, Reserving, Holding, Firming, Losing, Loosening, Loosened, Emptied}
 use Rattle.tko_steps.specs.declared.phase.ThreadState.{ThreadState}
 use Rattle.tko_steps.specs.declared.phase.ThreadState.TheVariants.{NotEnrolled, Idle, InCall}
-use Rattle.tko_steps.specs.Runs.{Begin, Step, Turn, InEveryRun, World, after_turns, happens, start}
-use Rattle.tko_steps.specs.Core.{CoreState, abstract_of, begun_by, number_of, opened_core, thread_at}
+use Rattle.tko_steps.specs.Runs.{Turn, InEveryRun, World, happens, start}
+use Rattle.tko_steps.specs.Core.{CoreState, abstract_of, names, number_of, opened_core, thread_at}
+use Rattle.tko_steps.specs.Steps.{begun_by}
 use Rattle.tko_steps.specs.Invariant.{IsCore, holds, holds_at, is_loose, is_loose_at}
 use Rattle.tko_steps.specs.Safe.{CountsSlots, HasOneResponsible, OwnsItsMarks}
 use Rattle.tko_steps.proofs.CountLemmas.{get_or-replicate_same, bit}
 use Rattle.tko_steps.proofs.CoreLemmas.{IsCore-after_act, IsCore-after_begin, IsCore-after_enrol, IsCore-opened_core}
-use Rattle.tko_steps.proofs.OwnLemmas.{AreOwned, AreOwned-act, AreOwned-begun, AreOwned-enrolled, names, names-none, names-true, true-names}
+use Rattle.tko_steps.proofs.OwnLemmas.{AreOwned, AreOwned-act, AreOwned-begun, AreOwned-enrolled}
+use Rattle.tko_steps.proofs.OwnedLemmas.{names-none, names-true, true-names}
 use Rattle.tko_steps.proofs.ThreadLemmas.{number-inside, number-once}
-use Rattle.tko_steps.proofs.WiringLemmas.{begun, keeps-begin, keeps-step, stepped_from}
+use Rattle.tko_steps.proofs.AlongLemmas.{along-turn, along-turns}
+use Rattle.tko_steps.proofs.WiringLemmas.{begun}
 
 -- what holds of the world in each run
 pub record Holds (s : Settings) (w : World) : Type 0 where
@@ -47,36 +50,24 @@ Holds-begun s w thread number op server holds inside stands on_server =
       owned = AreOwned-begun w.core w.past thread number new inside stands refl holds.owned;
     })
 
-pub Holds-stepped_from : (s : Settings) (w : World) (thread : ℕ) (state : ThreadState) → Holds s w → thread < length w.core.threads
-    → thread_at w.core thread ≡ state → Holds s (stepped_from w thread state)
-Holds-stepped_from s w thread NotEnrolled holds inside stands =
-    record {
-      core = IsCore-after_enrol w.core thread holds.core inside stands;
-      settings = holds.settings;
-      owned = AreOwned-enrolled w.core w.past thread holds.core inside stands holds.owned;
-    }
-Holds-stepped_from s w thread (Idle number) holds inside stands = holds
-Holds-stepped_from s w thread (InCall call phase) holds inside stands =
-    record {
-      core = IsCore-after_act w.core thread call holds.core inside phase stands;
-      settings = holds.settings;
-      owned = AreOwned-act w.core w.past thread call holds.core inside holds.owned phase stands;
-    }
-
-Holds-happens : (s : Settings) (w : World) (turn : Turn) → Holds s w → Holds s (happens w turn)
-Holds-happens s w (Begin thread op server) holds =
-    keeps-begin (Holds s) w thread op server holds
-    (λ number inside stands on_server. Holds-begun s w thread number op server holds inside stands on_server)
-Holds-happens s w (Step thread) holds =
-    keeps-step (Holds s) w thread holds
-    (λ inside. Holds-stepped_from s w thread (thread_at w.core thread) holds inside refl)
-
-Holds-after_turns : (s : Settings) (w : World) (turns : List Turn) → Holds s w → Holds s (after_turns w turns)
-Holds-after_turns s w [] holds = holds
-Holds-after_turns s w (turn ∷ turns) holds = Holds-after_turns s (happens w turn) turns (Holds-happens s w turn holds)
+pub Holds-turn : (s : Settings) (w : World) (turn : Turn) → Holds s w → Holds s (happens w turn)
+Holds-turn s w turn holds =
+    along-turn (λ it at. Unit {0}) Holds
+    (λ it at thread number op server none inside stands on_server all. Holds-begun it at thread number op server all inside stands on_server)
+    (λ it at thread none inside stands all. record {
+      core = IsCore-after_enrol at.core thread all.core inside stands;
+      settings = all.settings;
+      owned = AreOwned-enrolled at.core at.past thread all.core inside stands all.owned;
+    })
+    (λ it at thread call phase none inside stands all. record {
+      core = IsCore-after_act at.core thread call all.core inside phase stands;
+      settings = all.settings;
+      owned = AreOwned-act at.core at.past thread call all.core inside all.owned phase stands;
+    })
+    s w turn tt holds
 
 pub Holds-run : InEveryRun Holds
-Holds-run s ranges turns = Holds-after_turns s (start s) turns (Holds-start s ranges)
+Holds-run s ranges turns = along-turns Holds Holds-turn s (start s) turns (Holds-start s ranges)
 
 -- a loose mark holds a slot
 loose_at-le-holds : (phase : Phase) → bit (is_loose_at phase) ≤ bit (holds_at phase)

@@ -1,5 +1,5 @@
 -- One thread alone, its runs: it finds each word as it last saw it, so it loses no try, and its calls are those of the sequential tracker.
-use Rattle.std.proofs.Common.{◌≡◌, ◌≢◌, ℕ, ◌+◌, ◌<◌, ◌≤◌, true, false, cond, eqb, List, [], ◌∷◌, length, get_or, set, All, Some, None, inl, inr, ⊎_elim, refl, sym, ap, ◌∙◌, subst, arith, get_or-set_same, get_or-set_other}
+use Rattle.std.proofs.Common.{◌≡◌, ◌≢◌, ℕ, ◌+◌, ◌<◌, ◌≤◌, true, false, cond, eqb, List, ◌∷◌, length, get_or, set, All, Some, None, inl, inr, ⊎_elim, refl, sym, ap, ◌∙◌, subst, arith, get_or-set_same, get_or-set_other}
 use Rattle.std.proofs.lemmas.Bool.{cases_eq, cond_both, eqb-false, eqb-true}
 use Rattle.std.proofs.lemmas.List.Elements.{All-nil, All-cons, All-head, All-tail}
 use Rattle.tko_model.specs.declared.mark.Mark.{Mark}
@@ -17,23 +17,23 @@ use Rattle.tko_steps.specs.declared.phase.ThreadState.{ThreadState}
 use Rattle.tko_steps.specs.declared.phase.ThreadState.TheVariants.{NotEnrolled, Idle, InCall}
 use Rattle.tko_steps.specs.declared.table.Decision.{Decision}
 use Rattle.tko_steps.specs.declared.table.Decision.TheVariants.{Goes, Answers}
-use Rattle.tko_steps.specs.Runs.{Begin, Step, Turn, Call, Moment, OwnStep, Took, World, after_turns, and_step, began, begun_call, calls_of, happens, own_step, run, start, with_step}
+use Rattle.tko_steps.specs.Runs.{InEveryRun, Call, Moment, OwnStep, Took, World, and_step, began, begun_call, calls_of, own_step, run, start, with_step}
 use Rattle.tko_steps.specs.Alone.{InEveryRunAlone, IsIdleUnlessOf, IsStepOf, Replays}
-use Rattle.tko_steps.specs.Core.{CoreState, abstract_of, after_act, answer_of, begun_by, follows, is_call_step, kind_of, kind_of_exchange, state_after, thread_at}
+use Rattle.tko_steps.specs.Core.{CoreState, abstract_of, after_act, follows, is_call_step, thread_at}
+use Rattle.tko_steps.specs.Steps.{answer_of, begun_by, kind_of, kind_of_exchange, state_after}
 use Rattle.tko_steps.specs.Invariant.{IsCore, holds, holds_at}
 use Rattle.tko_steps.specs.Legal.{tracker_in}
 use Rattle.tko_steps.specs.Table.{action_of, goes, lost_try, same_server, same_slots}
 use Rattle.tko_steps.proofs.CountLemmas.{get_or-replicate_same}
 use Rattle.tko_steps.proofs.AloneLemmas.{IsNotContended, Plays, Plays-with_step, Replays-plays}
 use Rattle.tko_steps.proofs.CallLemmas.{All-with_step, latest, with_step-none}
-use Rattle.tko_steps.proofs.EveryCallLemmas.{HoldsBoth, HoldsBoth-happens, HoldsCalls-start, enrol_step}
-use Rattle.tko_steps.proofs.FirstLookLemmas.{Leads, LeadsTo, Leads-from_start}
+use Rattle.tko_steps.proofs.EveryCallLemmas.{HoldsBoth, HoldsBoth-run, along}
+use Rattle.tko_steps.proofs.FirstLookLemmas.{Leads, LeadsTo, Leads-from_start, leads-to}
 use Rattle.tko_steps.proofs.LegalLemmas.{IsSoundCall, open_call}
 use Rattle.tko_steps.proofs.LoserLemmas.{eq-same_slots, passes-count_by}
-use Rattle.tko_steps.proofs.OwnLemmas.{act_step}
-use Rattle.tko_steps.proofs.RunLemmas.{Holds-start}
+use Rattle.tko_steps.proofs.OwnLemmas.{act_step, enrol_step}
 use Rattle.tko_steps.proofs.TableLemmas.{eq-same_server}
-use Rattle.tko_steps.proofs.WiringLemmas.{begun, keeps-begin, keeps-step, stepped_from}
+use Rattle.tko_steps.proofs.WiringLemmas.{begun, stepped_from}
 use Rattle.tko_steps.proofs.TrackerLemmas.{is_plain, plain≢}
 
 -- ---- what the thread saw still is there
@@ -108,17 +108,10 @@ module _ (core : CoreState) (thread : ℕ) (call : CallState) (is : IsCore core)
   start-next (Goes lost phase) (same, leads) = to-phase phase leads
     where
       to-phase : (phase : Phase) → LeadsTo call.op call now phase → SteadyAt now slots phase
-      to-phase Start leads = absurd leads
-      to-phase (Read found mark answer) leads = (sym leads.0, leads.1)
-      to-phase (AtThreshold found) leads = sym leads.0
-      to-phase (Limit found) leads = absurd leads
-      to-phase (Reserving found before) leads = absurd leads
-      to-phase (Holding found) leads = absurd leads
-      to-phase Firming leads = absurd leads
-      to-phase Losing leads = absurd leads
-      to-phase (Loosening found mark answer) leads = leads.1
-      to-phase (Loosened found mark answer) leads = absurd leads
-      to-phase (Emptied answer) leads = absurd leads
+      to-phase = leads-to call.op call now (λ it. SteadyAt now slots it)
+          (λ found mark answer leads. (sym leads.0, leads.1))
+          (λ found leads. sym leads.0)
+          (λ found mark answer leads. leads.1)
   start-next (Answers answer) leads = leads.0
 
   steady-act : (phase : Phase) → thread_at core thread ≡ InCall call phase → SteadyAt now slots phase → Next phase (follows core call phase)
@@ -243,7 +236,7 @@ HoldsAlone-begun s w thread own number op server both kept inside stands =
     let plays : Plays s first thread (call ∷ calls) servers =
     ⊎_elim
     (λ (mine : own ≡ thread).
-    let sound : All (IsSoundCall s) calls = let P : Settings → Type 0 = λ it. All (IsSoundCall it) calls in subst P both.0.settings both.1.calls in
+    let sound : All (IsSoundCall s) calls = both.1.calls in
     inr (record {
       mine = mine;
       entry = servers;
@@ -308,17 +301,12 @@ HoldsAlone-act s w thread call phase both kept inside stands =
     }
 
 -- the same, where no other thread took a step of a call up to now
-abbrev IsAlone : Settings → ℕ → World → Type 0
-IsAlone s thread w = HoldsBoth s w × (All (IsStepOf thread) w.past → HoldsAlone s thread w)
+abbrev Alone : ℕ → Settings → World → Type 0
+Alone thread s w = All (IsStepOf thread) w.past → HoldsAlone s thread w
 
-HoldsAlone-stepped_from : (s : Settings) (w : World) (thread own : ℕ) (state : ThreadState) → IsAlone s thread w → own < length w.core.threads
-    → thread_at w.core own ≡ state → All (IsStepOf thread) (stepped_from w own state).past
-    → HoldsAlone s thread (stepped_from w own state)
-HoldsAlone-stepped_from s w thread own NotEnrolled (both, alone) inside stands all =
-    let moment : Moment = Took (enrol_step w.core own) in
-    HoldsAlone-enrolled s w thread own both (alone (All-tail (IsStepOf thread) moment w.past all)) inside stands
-HoldsAlone-stepped_from s w thread own (Idle number) (both, alone) inside stands all = alone all
-HoldsAlone-stepped_from s w thread own (InCall call phase) (both, alone) inside stands all =
+alone-act : (thread : ℕ) (s : Settings) (w : World) (own : ℕ) (call : CallState) (phase : Phase) → HoldsBoth s w → own < length w.core.threads
+    → thread_at w.core own ≡ InCall call phase → Alone thread s w → Alone thread s (stepped_from w own (InCall call phase))
+alone-act thread s w own call phase both inside stands alone all =
     let moment : Moment = Took (act_step w.core own call phase) in
     let same : own ≡ thread = All-head (IsStepOf thread) moment w.past all (act-is_call_step call.number phase) in
     let P : ℕ → Type 0 = λ it. HoldsAlone s it (stepped_from w own (InCall call phase)) in
@@ -326,34 +314,21 @@ HoldsAlone-stepped_from s w thread own (InCall call phase) (both, alone) inside 
     let holds = alone (All-tail (IsStepOf thread) moment w.past all) in
     subst P same (HoldsAlone-act s w own call phase both (subst Q (sym same) holds) inside stands)
 
-IsAlone-happens : (s : Settings) (w : World) (thread : ℕ) (turn : Turn) → IsAlone s thread w → IsAlone s thread (happens w turn)
-IsAlone-happens s w thread (Begin own op server) alone =
-    let P : World → Type 0 = λ new. All (IsStepOf thread) new.past → HoldsAlone s thread new in (
-      HoldsBoth-happens s w (Begin own op server) alone.0,
-      keeps-begin P w own op server alone.1
-          (λ number inside stands on_server all.
-          HoldsAlone-begun s w thread own number op server alone.0 (alone.1 (All-tail (IsStepOf thread) (began w.core own op server) w.past all)) inside stands),
-    )
-IsAlone-happens s w thread (Step own) alone =
-    let P : World → Type 0 = λ new. All (IsStepOf thread) new.past → HoldsAlone s thread new in (
-      HoldsBoth-happens s w (Step own) alone.0,
-      keeps-step P w own alone.1 (λ inside all. HoldsAlone-stepped_from s w thread own (thread_at w.core own) alone inside refl all),
-    )
-
-IsAlone-after_turns : (s : Settings) (w : World) (thread : ℕ) (turns : List Turn) → IsAlone s thread w
-    → IsAlone s thread (after_turns w turns)
-IsAlone-after_turns s w thread [] alone = alone
-IsAlone-after_turns s w thread (turn ∷ turns) alone =
-    IsAlone-after_turns s (happens w turn) thread turns (IsAlone-happens s w thread turn alone)
+Alone-run : (thread : ℕ) → InEveryRun (Alone thread)
+Alone-run thread =
+    along (Alone thread)
+    (λ s ranges none. HoldsAlone-start s thread)
+    (λ s w own number op server both inside stands on_server alone all.
+    HoldsAlone-begun s w thread own number op server both (alone (All-tail (IsStepOf thread) (began w.core own op server) w.past all)) inside stands)
+    (λ s w own both inside stands alone all.
+    HoldsAlone-enrolled s w thread own both (alone (All-tail (IsStepOf thread) (Took (enrol_step w.core own)) w.past all)) inside stands)
+    (alone-act thread)
 
 pub HoldsAlone-run : InEveryRunAlone (λ s thread w. HoldsBoth s w × HoldsAlone s thread w)
-HoldsAlone-run s ranges thread turns all =
-    let alone = IsAlone-after_turns s (start s) thread turns ((Holds-start s ranges, HoldsCalls-start s), λ none. HoldsAlone-start s thread) in
-    (alone.0, alone.1 all)
+HoldsAlone-run s ranges thread turns all = (HoldsBoth-run s ranges turns, Alone-run thread s ranges turns all)
 
 pub Replays-run : InEveryRunAlone (λ s thread w. Replays (opened s) (calls_of w.past) (tracker_in s (abstract_of w.core)))
 Replays-run s ranges thread turns all =
     let w = run s turns in
     let both = HoldsAlone-run s ranges thread turns all in
-    let P : Settings → Type 0 = λ it. All (IsSoundCall it) (calls_of w.past) in
-    Replays-plays s (opened s).servers thread (calls_of w.past) (abstract_of w.core) (subst P both.0.0.settings both.0.1.calls) both.1.plain both.1.plays
+    Replays-plays s (opened s).servers thread (calls_of w.past) (abstract_of w.core) both.0.1.calls both.1.plain both.1.plays

@@ -16,7 +16,8 @@ use Rattle.tko_steps.specs.declared.phase.Phase.TheVariants.{Start, Read, AtThre
 use Rattle.tko_steps.specs.declared.phase.Slots.{Slots}
 use Rattle.tko_steps.specs.declared.table.Decision.{Decision}
 use Rattle.tko_steps.specs.declared.table.Decision.TheVariants.{Goes, Answers}
-use Rattle.tko_steps.specs.Core.{owner_of, state_after}
+use Rattle.tko_steps.specs.Core.{owner_of}
+use Rattle.tko_steps.specs.Steps.{state_after}
 use Rattle.tko_steps.specs.Invariant.{IsFoundBy, IsPhase, IsWrite, holds, is_loose}
 use Rattle.tko_steps.specs.Table.{at_limit, at_threshold, from_mark, from_start, from_up_by, goes, lost_try, on_others, on_own_hard_by, on_own_soft_by, same_mark, same_server, same_slots, unless_worn}
 

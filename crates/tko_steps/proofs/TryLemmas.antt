@@ -6,8 +6,8 @@ use Rattle.tko_model.specs.declared.mark.Mark.TheVariants.{Up, Soft, Hard}
 use Rattle.tko_model.specs.declared.settings.Settings.{Settings}
 use Rattle.tko_steps.specs.declared.step.Place.{Place}
 use Rattle.tko_steps.specs.declared.step.Word.{Word}
-use Rattle.tko_steps.specs.Core.{kind_of_exchange}
-use Rattle.tko_steps.specs.Lost.{is_exchange, is_look, last_look, loses_try, lost_tries, same_place}
+use Rattle.tko_steps.specs.Steps.{kind_of_exchange}
+use Rattle.tko_steps.specs.Lost.{holds_after, holds_slot, is_exchange, is_give, is_look, last_look, loses_try, lost_tries, owes_slot, same_place}
 use Rattle.tko_steps.specs.Runs.{OwnStep, StepTaken}
 
 pub exchange-not_look : (old new : Mark) → is_look (kind_of_exchange old new) ≡ false
@@ -23,6 +23,21 @@ exchange-is_exchange (Up a) (Soft b) = refl
 exchange-is_exchange (Up a) (Hard b) = refl
 exchange-is_exchange (Soft a) new = refl
 exchange-is_exchange (Hard a) new = refl
+
+pub exchange-no_give : (old new : Mark) → is_give (kind_of_exchange old new) ≡ false
+exchange-no_give (Up a) (Up b) = refl
+exchange-no_give (Up a) (Soft b) = refl
+exchange-no_give (Up a) (Hard b) = refl
+exchange-no_give (Soft a) new = refl
+exchange-no_give (Hard a) new = refl
+
+-- an exchange of a server's word leaves what the call holds
+pub exchange-holds : (old new : Mark) (won held : Bool) → holds_after (kind_of_exchange old new) won held ≡ held
+exchange-holds (Up a) (Up b) won held = refl
+exchange-holds (Up a) (Soft b) won held = refl
+exchange-holds (Up a) (Hard b) won held = refl
+exchange-holds (Soft a) new won held = refl
+exchange-holds (Hard a) new won held = refl
 
 or_false : (b : Bool) → (b || false) ≡ b
 or_false true = refl
@@ -53,12 +68,22 @@ module _ (s : Settings) (own : OwnStep) (older : List OwnStep) where
   last_look-elsewhere at goes_on there =
       cond-false _ _ _ goes_on ∙ cond-false _ _ _ there
 
-  pub lost_tries-kept : loses ≡ false → lost_tries s (own ∷ older) ≡ lost_tries s older
-  lost_tries-kept goes_on = rw goes_on (omega arith)
+  pub lost_tries-kept : loses ≡ false → is_give own.step.kind ≡ false → lost_tries s (own ∷ older) ≡ lost_tries s older
+  lost_tries-kept goes_on no_give = rw (no_give, goes_on) (omega arith)
 
   -- a step that loses the try
   pub last_look-lost : (at : Place) → loses ≡ true → last_look s at (own ∷ older) ≡ None
   last_look-lost at lost = cond-true _ _ _ lost
 
-  pub lost_tries-lost : loses ≡ true → lost_tries s (own ∷ older) ≡ lost_tries s older + 1
-  lost_tries-lost lost = rw lost refl
+  pub lost_tries-lost : loses ≡ true → is_give own.step.kind ≡ false → holds_slot older ≡ false → lost_tries s (own ∷ older) ≡ lost_tries s older + 1
+  lost_tries-lost lost no_give none = rw (no_give, lost, none) refl
+
+  -- a step that loses the try while the call holds a slot: the try is counted once that is given back
+  pub lost_tries-held : loses ≡ true → is_give own.step.kind ≡ false → holds_slot older ≡ true → lost_tries s (own ∷ older) ≡ lost_tries s older
+  lost_tries-held lost no_give held = rw (no_give, lost, held) (omega arith)
+
+  pub owes_slot-held : loses ≡ true → is_give own.step.kind ≡ false → holds_slot older ≡ true → owes_slot s (own ∷ older) ≡ true
+  owes_slot-held lost no_give held = rw (no_give, lost, held) refl
+
+  pub lost_tries-given : is_give own.step.kind ≡ true → owes_slot s older ≡ true → lost_tries s (own ∷ older) ≡ lost_tries s older + 1
+  lost_tries-given give owes = rw (give, owes) refl

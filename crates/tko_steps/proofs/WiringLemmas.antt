@@ -8,7 +8,8 @@ use Rattle.tko_steps.specs.declared.step.BeginFault.TheVariants as fault
 use Rattle.tko_steps.specs.declared.step.Stepped.TheVariants as stepped
 use Rattle.tko_steps.specs.declared.phase.ThreadState.{ThreadState}
 use Rattle.tko_steps.specs.declared.phase.ThreadState.TheVariants.{NotEnrolled, Idle, InCall}
-use Rattle.tko_steps.specs.Core.{CoreState, abstract_of, after_step_from, begin_fault, fault_at, in_call, thread_at, told_from, unless_fault, with_thread}
+use Rattle.tko_steps.specs.Core.{CoreState, abstract_of, after_step_from, begin_fault, fault_at, thread_at, told_from, unless_fault, with_thread}
+use Rattle.tko_steps.specs.Steps.{in_call}
 use Rattle.tko_steps.specs.Runs.{Begin, Step, Turn, World, after_turns, began, happens, run, start, with_told}
 
 -- the world once a call of an idle thread began

@@ -1,10 +1,9 @@
 -- The core: the words that the threads share and the state of each thread; and the core after a
 -- begin and after a step.
-use Rattle.std.specs.Prelude.{◌≡◌, ℕ, ◌+◌, ◌-◌, ◌<◌, ◌^◌, ◌==◌, Bool, true, false, nat_lt, if◌then◌else◌, List, length, slice_index_or, slice_set, replicate, Option, Some, None}
+use Rattle.std.specs.Prelude.{◌≡◌, ℕ, ◌+◌, ◌<◌, ◌^◌, ◌==◌, Bool, true, false, nat_lt, if◌then◌else◌, List, length, slice_index_or, slice_set, replicate, Option, Some, None}
 use Rattle.tko_model.specs.declared.mark.Mark.{Mark}
 use Rattle.tko_model.specs.declared.mark.Mark.TheVariants as mark
 use Rattle.tko_model.specs.declared.mark.Op.{Op}
-use Rattle.tko_model.specs.declared.mark.Reply.{Reply}
 use Rattle.tko_model.specs.declared.settings.Settings.{Settings}
 use Rattle.tko_model.specs.declared.state.ServerState.{ServerState}
 use Rattle.tko_model.specs.Tracker.{opened, server_at}
@@ -14,12 +13,9 @@ use Rattle.tko_steps.specs.declared.step.BeginFault.TheVariants as fault
 use Rattle.tko_steps.specs.declared.table.Action.{Action}
 use Rattle.tko_steps.specs.declared.table.Action.TheVariants.{LookAtServer, LookAtSlots, Exchange, Reserve, Settle, Loosen, Give}
 use Rattle.tko_steps.specs.declared.table.Decision.{Decision}
-use Rattle.tko_steps.specs.declared.table.Decision.TheVariants.{Goes, Answers}
 use Rattle.tko_steps.specs.declared.table.Seen.{Seen}
-use Rattle.tko_steps.specs.declared.table.Seen.TheVariants as seen
 use Rattle.tko_steps.specs.declared.phase.Call.{Call}
 use Rattle.tko_steps.specs.declared.phase.Phase.{Phase}
-use Rattle.tko_steps.specs.declared.phase.Phase.TheVariants.{Start}
 use Rattle.tko_steps.specs.declared.phase.Slots.{Slots}
 use Rattle.tko_steps.specs.declared.phase.ThreadState.{ThreadState}
 use Rattle.tko_steps.specs.declared.phase.ThreadState.TheVariants.{NotEnrolled, Idle, InCall}
@@ -31,7 +27,8 @@ use Rattle.tko_steps.specs.declared.step.Stepped.{Stepped}
 use Rattle.tko_steps.specs.declared.step.Stepped.TheVariants as stepped
 use Rattle.tko_steps.specs.declared.step.Word.{Word}
 use Rattle.tko_steps.specs.declared.step.Word.TheVariants as word
-use Rattle.tko_steps.specs.Table.{action_of, next_of, same_server, same_slots}
+use Rattle.tko_steps.specs.Steps.{decided_by, in_call, place_of, seen_in, server_written, slots_after, state_after, told_by, word_after, writes}
+use Rattle.tko_steps.specs.Table.{action_of}
 
 -- what the words hold: each server's mark and stamp, the counts of the soft word, and how many
 -- threads are enrolled
@@ -99,16 +96,6 @@ abbrev pub unless_fault : {A : Type 0} → Option BeginFault → A → A → A
 unless_fault None new old = new
 unless_fault (Some fault) new old = old
 
--- a call that begins: no try is lost yet
-abbrev pub begun_by : ℕ → Op → ℕ → Call
-begun_by number op server = record { number = number; op = op; server = server; lost = 0 }
-
--- the state of an idle thread once its call began
-abbrev pub in_call : ThreadState → Op → ℕ → ThreadState
-in_call NotEnrolled op server = NotEnrolled
-in_call (Idle number) op server = InCall (begun_by number op server) Start
-in_call (InCall call phase) op server = InCall call phase
-
 -- the core after a begin; one that is refused changes nothing
 abbrev pub after_begin : CoreState → ℕ → Op → ℕ → CoreState
 after_begin core thread op server =
@@ -117,48 +104,47 @@ after_begin core thread op server =
     (with_thread core thread (in_call (thread_at core thread) op server))
     core
 
--- whether a step on this server writes: an exchange that finds another word does not
-abbrev pub wins : Shared → ℕ → Action → Bool
-wins shared server (Exchange found mark) = same_server (server_at shared.servers server) found
-wins shared server (Reserve slots) = same_slots shared.slots slots
-wins shared server action = true
+-- what the word of this place holds
+abbrev pub word_at : Shared → Place → Word
+word_at shared (place.Server server) = word.Server (server_at shared.servers server)
+word_at shared place.Soft = word.Soft shared.slots
+word_at shared place.Enrolment = word.Enrolled shared.enrolled
 
--- the servers after a step
-abbrev pub servers_after : Shared → ℕ → Action → List ServerState
-servers_after shared server (Exchange found mark) =
-    if same_server (server_at shared.servers server) found
-    then slice_set shared.servers server (record { mark = mark; stamp = found.stamp + 1 })
-    else shared.servers
-servers_after shared server action = shared.servers
+-- the words with this one in that place
+abbrev pub with_word : Shared → Place → Word → Shared
+with_word shared (place.Server server) (word.Server now) =
+    record shared { servers = slice_set shared.servers server now }
+with_word shared place.Soft (word.Soft slots) = record shared { slots = slots }
+with_word shared place.Enrolment (word.Enrolled count) = record shared { enrolled = count }
+with_word shared at other = shared
 
--- the counts of the soft word after a step
-abbrev pub slots_after : Slots → Action → Slots
-slots_after old (Reserve slots) =
-    if same_slots old slots then record { firm = old.firm; held = old.held + 1 } else old
-slots_after old Settle = record { firm = old.firm + 1; held = old.held - 1 }
-slots_after old Loosen = record { firm = old.firm - 1; held = old.held + 1 }
-slots_after old Give = record { firm = old.firm; held = old.held - 1 }
-slots_after old action = old
+-- the servers after a step on this one, which changes where the step writes its word
+abbrev pub servers_after : List ServerState → ℕ → Action → List ServerState
+servers_after servers server action =
+    let now = server_at servers server in
+    if writes action (word.Server now)
+    then slice_set servers server (server_written action now)
+    else servers
 
+-- the words after a step: the one that it is on is what the step leaves there (`IsOnOneWord`), and
+-- the others are as they were
 abbrev pub shared_after : Shared → ℕ → Action → Shared
 shared_after shared server action =
     record {
-      servers = servers_after shared server action;
-      slots = slots_after shared.slots action;
+      servers = servers_after shared.servers server action;
+      slots = slots_after action shared.slots;
       enrolled = shared.enrolled;
     }
 
 -- what a step reads
 abbrev pub seen_by : Shared → ℕ → Action → Seen
-seen_by shared server LookAtServer = seen.Server (server_at shared.servers server)
-seen_by shared server LookAtSlots = seen.Slots shared.slots
-seen_by shared server action = seen.Done (wins shared server action)
+seen_by shared server action = seen_in action (word_at shared (place_of server action))
 
--- whether a step that read this did what it meant to; a look always does
-abbrev pub is_done : Seen → Bool
-is_done (seen.Server found) = true
-is_done (seen.Slots slots) = true
-is_done (seen.Done won) = won
+-- a step changes the word that it is on alone, to what that word alone decides
+abbrev pub IsOnOneWord : Shared → ℕ → Action → Type 0
+IsOnOneWord shared server action =
+    let at = place_of server action in
+    shared_after shared server action ≡ with_word shared at (word_after action (word_at shared at))
 
 -- what a step on the words needs: no count goes below 0, and nothing wraps
 abbrev pub CanAct : Shared → ℕ → Action → Type 0
@@ -171,55 +157,19 @@ CanAct shared server Settle = (0 < shared.slots.held) × (shared.slots.firm + 1 
 CanAct shared server Loosen = (0 < shared.slots.firm) × (shared.slots.held + 1 < 2 ^ 32)
 CanAct shared server Give = 0 < shared.slots.held
 
--- the kind of an exchange of a health word
-abbrev pub kind_of_exchange : Mark → Mark → Kind
-kind_of_exchange (mark.Up count) (mark.Up other) = kind.Count
-kind_of_exchange (mark.Up count) new = kind.Mark
-kind_of_exchange old new = kind.Own
-
-abbrev pub kind_of : Action → Kind
-kind_of LookAtServer = kind.Look
-kind_of LookAtSlots = kind.Look
-kind_of (Exchange found new) = kind_of_exchange found.mark new
-kind_of (Reserve slots) = kind.Reserve
-kind_of Settle = kind.Shift
-kind_of Loosen = kind.Shift
-kind_of Give = kind.Give
-
--- the word that a step is on
-abbrev pub place_of : ℕ → Action → Place
-place_of server LookAtServer = place.Server server
-place_of server (Exchange found mark) = place.Server server
-place_of server action = place.Soft
-
 -- the word of this place is there, and a number of threads fits what is told of it
 abbrev pub IsPlace : Shared → Place → Type 0
 IsPlace shared (place.Server server) = server < length shared.servers
 IsPlace shared place.Soft = Unit {0}
 IsPlace shared place.Enrolment = shared.enrolled < 2 ^ 32
 
-abbrev pub word_at : Shared → Place → Word
-word_at shared (place.Server server) = word.Server (server_at shared.servers server)
-word_at shared place.Soft = word.Soft shared.slots
-word_at shared place.Enrolment = word.Enrolled shared.enrolled
+-- the word that the step of a call at this phase finds
+abbrev pub found_by : CoreState → Call → Phase → Word
+found_by core call phase = word_at core.shared (place_of call.server (action_of call.number phase))
 
--- the state of the thread once its step was decided
-abbrev pub state_after : Call → Decision → ThreadState
-state_after call (Goes lost phase) = InCall (record call { lost = lost }) phase
-state_after call (Answers reply) = Idle call.number
-
-abbrev pub answer_of : Decision → Option Reply
-answer_of (Goes lost phase) = None
-answer_of (Answers reply) = Some reply
-
--- what follows the step of a call at this phase
+-- what follows that step
 abbrev pub follows : CoreState → Call → Phase → Decision
-follows core call phase =
-    next_of
-    core.settings
-    call
-    phase
-    (seen_by core.shared call.server (action_of call.number phase))
+follows core call phase = decided_by core.settings call phase (found_by core call phase)
 
 -- a step of the call of the thread at this place
 abbrev pub after_act : CoreState → ℕ → Call → Phase → CoreState
@@ -230,17 +180,9 @@ after_act core thread call phase =
       threads = slice_set core.threads thread (state_after call (follows core call phase));
     }
 
+-- what that step reports
 abbrev pub told_by_act : CoreState → Call → Phase → Stepped
-told_by_act core call phase =
-    let act = action_of call.number phase in
-    let place = place_of call.server act in
-    stepped.Did
-    (kind_of act)
-    place
-    (word_at core.shared place)
-    (word_at (shared_after core.shared call.server act) place)
-    (is_done (seen_by core.shared call.server act))
-    (answer_of (follows core call phase))
+told_by_act core call phase = told_by core.settings call phase (found_by core call phase)
 
 -- an enrolment: the thread draws how many were enrolled before it
 abbrev pub after_enrol : CoreState → ℕ → CoreState
@@ -312,3 +254,16 @@ owner_of (mark.Hard thread) = Some thread
 -- the server's mark names this number
 abbrev pub IsOwner : List ServerState → ℕ → ℕ → Type 0
 IsOwner servers number server = owner_of (server_at servers server).mark ≡ Some number
+
+-- whether a mark names the number of this thread
+abbrev pub names : Mark → Option ℕ → Bool
+names (mark.Up count) number = false
+names (mark.Soft owner) None = false
+names (mark.Soft owner) (Some number) = owner == number
+names (mark.Hard owner) None = false
+names (mark.Hard owner) (Some number) = owner == number
+
+-- a thread of this number, which owns these servers, owns those whose marks name it
+abbrev pub IsOwnedBy : List ServerState → Option ℕ → (ℕ → Bool) → Type 0
+IsOwnedBy servers number owned =
+    (server : ℕ) → owned server ≡ names (server_at servers server).mark number

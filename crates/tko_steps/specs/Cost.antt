@@ -1,5 +1,5 @@
 -- How many steps a call takes at most.
-use Rattle.std.specs.Prelude.{ℕ, ◌+◌, ◌*◌, ◌≤◌, length}
+use Rattle.std.specs.Prelude.{◌≡◌, ℕ, ◌+◌, ◌*◌, ◌<◌, ◌≤◌, length, None}
 use Rattle.tko_model.specs.declared.mark.Op.{Op}
 use Rattle.tko_model.specs.declared.mark.Op.TheVariants.{LookUp, SoftFailure, HardFailure, Success, Release}
 use Rattle.tko_model.specs.declared.settings.Settings.{Settings}
@@ -14,6 +14,8 @@ most_steps s HardFailure = 2 * s.tries + 2
 most_steps s Success = 2 * s.tries + 2
 most_steps s Release = 4
 
--- a call, answered or open, took no more
+-- a call took no more, and an open call took fewer
 abbrev pub IsShort : Settings → Call → Type 0
-IsShort s call = length call.steps ≤ most_steps s call.op
+IsShort s call =
+    (length call.steps ≤ most_steps s call.op)
+    × (call.answer ≡ None → length call.steps < most_steps s call.op)

@@ -2,8 +2,10 @@ pub mod Alone
 pub mod Core
 pub mod Cost
 pub mod Invariant
+pub mod Kinds
 pub mod Legal
 pub mod Lost
 pub mod Runs
 pub mod Safe
+pub mod Steps
 pub mod Table

@@ -1,5 +1,5 @@
--- Lost tries: the steps at which a call loses a try, how many it lost, and what another thread did
--- before each of them.
+-- Lost tries: the steps at which a call loses a try and at which the lost try is counted, how many
+-- it lost, and what another thread did before each of them.
 use Rattle.std.specs.Prelude.{◌≡◌, ◌≢◌, ℕ, ◌+◌, Bool, true, false, not, ◌==◌, ◌&&◌, ◌||◌, nat_lt, if◌then◌else◌, List, [], ◌∷◌, ◌⊎◌, Option, Some, None, is_some}
 use Rattle.tko_model.specs.declared.mark.Reply.TheVariants.{Contended}
 use Rattle.tko_model.specs.declared.settings.Settings.{Settings}
@@ -85,12 +85,45 @@ last_look s at (own ∷ older) =
     then Some own.step.found
     else last_look s at older)
 
--- how many tries these own steps lost
+-- whether a call that did or didn't hold a slot holds one after a step of this kind: a reservation
+-- that is won takes one, a shift turns it into a settled mark or back, and a give returns it
+abbrev pub holds_after : Kind → Bool → Bool → Bool
+holds_after kind.Reserve won held = won || held
+holds_after kind.Shift won held = not held
+holds_after kind.Give won held = false
+holds_after other won held = held
+
+-- whether a call holds a slot after these own steps, the newest first
+abbrev pub holds_slot : List OwnStep → Bool
+holds_slot [] = false
+holds_slot (own ∷ older) = holds_after own.step.kind own.step.won (holds_slot older)
+
+abbrev pub is_give : Kind → Bool
+is_give kind.Give = true
+is_give other = false
+
+-- whether these own steps lost a try while the call held a slot, which it still holds
+abbrev pub owes_slot : Settings → List OwnStep → Bool
+owes_slot s [] = false
+owes_slot s (own ∷ older) =
+    if is_give own.step.kind
+    then false
+    else (if loses_try s own.step (last_look s own.step.place older)
+    then holds_slot older
+    else owes_slot s older)
+
+-- whether a lost try is counted at this step: where the try is lost, or, where the call then holds
+-- a slot, as after a lost mark, at the step that gives the slot back
+abbrev pub counts_try : Settings → OwnStep → List OwnStep → Bool
+counts_try s own older =
+    if is_give own.step.kind
+    then owes_slot s older
+    else loses_try s own.step (last_look s own.step.place older) && not (holds_slot older)
+
+-- how many lost tries these own steps count
 abbrev pub lost_tries : Settings → List OwnStep → ℕ
 lost_tries s [] = 0
-lost_tries s (own ∷ older) =
-    lost_tries s older
-    + (if loses_try s own.step (last_look s own.step.place older) then 1 else 0)
+lost_tries s (own ∷ older) = lost_tries s older + (if counts_try s own older then 1 else 0)
 
 -- a call that is answered Contended lost exactly so many tries as the settings allow
 abbrev pub HasLostEachTry : Settings → Call → Type 0

@@ -1,22 +1,18 @@
 -- Runs: turns of threads, one after another, from the opened core; what happened
 -- at each; and the calls of a run, each with its own steps.
-use Rattle.std.specs.Prelude.{ℕ, ◌+◌, Bool, true, false, ◌==◌, ◌&&◌, if◌then◌else◌, List, [], ◌∷◌, Option, None, unwrap_or}
-use Rattle.tko_model.specs.declared.mark.Mark.{Mark}
-use Rattle.tko_model.specs.declared.mark.Mark.TheVariants as mark
+use Rattle.std.specs.Prelude.{ℕ, ◌+◌, Bool, false, ◌==◌, ◌&&◌, if◌then◌else◌, List, [], ◌∷◌, Option, None, unwrap_or}
 use Rattle.tko_model.specs.declared.mark.Op.{Op}
 use Rattle.tko_model.specs.declared.mark.Reply.{Reply}
 use Rattle.tko_model.specs.declared.settings.Settings.{Settings}
 use Rattle.tko_model.specs.declared.state.ServerState.{ServerState}
 use Rattle.tko_model.specs.Ranges.{IsWithinRanges}
 use Rattle.tko_steps.specs.declared.step.Kind.{Kind}
-use Rattle.tko_steps.specs.declared.step.Kind.TheVariants as kind
 use Rattle.tko_steps.specs.declared.step.Place.{Place}
-use Rattle.tko_steps.specs.declared.step.Place.TheVariants as place
 use Rattle.tko_steps.specs.declared.step.Stepped.{Stepped}
 use Rattle.tko_steps.specs.declared.step.Stepped.TheVariants.{NoThread, Idle, Did}
 use Rattle.tko_steps.specs.declared.step.Word.{Word}
-use Rattle.tko_steps.specs.declared.step.Word.TheVariants as word
 use Rattle.tko_steps.specs.Core.{CoreState, abstract_of, after_begin, after_step, begin_fault, is_call_step, number_of, opened_core, thread_at, told_by_step, unless_fault}
+use Rattle.tko_steps.specs.Steps.{is_server, owns_after}
 
 -- a turn: a begin of any thread, of any operation on any server, or a step of any thread
 pub data Turn : Type 0 where
@@ -100,27 +96,6 @@ run s turns = after_turns (start s) turns
 -- what holds after every list of turns, under all settings in range
 abbrev pub InEveryRun : (Settings → World → Type 0) → Type 0
 InEveryRun P = (s : Settings) → IsWithinRanges s → (turns : List Turn) → P s (run s turns)
-
--- whether a word is that of a marked server
-abbrev pub is_marked_state : Mark → Bool
-is_marked_state (mark.Up count) = false
-is_marked_state (mark.Soft owner) = true
-is_marked_state (mark.Hard owner) = true
-
-abbrev pub is_marked : Word → Bool
-is_marked (word.Server server) = is_marked_state server.mark
-is_marked word = false
-
-abbrev pub is_server : ℕ → Place → Bool
-is_server server (place.Server at) = at == server
-is_server server place = false
-
--- whether a thread that did or didn't own a server owns it after a step of its own on that server's
--- word: a mark that it won adds it, and an own step takes it away unless it leaves a mark
-abbrev pub owns_after : Kind → Bool → Word → Bool → Bool
-owns_after kind.Mark won left owned = if won then true else owned
-owns_after kind.Own won left owned = if won then is_marked left else owned
-owns_after kind won left owned = owned
 
 -- whether the thread at this place owns the server after this past
 abbrev pub owns : List Moment → ℕ → ℕ → Bool

@@ -1,16 +1,23 @@
-//! The law of every run, and that of a thread alone.
-ghost use Rattle.std.specs.Prelude.{◌≡◌, ◌≢◌, ◌≤◌, Some, All};
+//! The laws of a step, of every run, and of a thread alone.
+ghost use Rattle.std.specs.Prelude.{◌≡◌, ◌≢◌, ◌≤◌, ℕ, Some, All};
 ghost use Rattle.tko_model.specs.Tracker.{opened, softs};
 ghost use Rattle.tko_steps.specs.Alone.{InEveryRunAlone, IsIdleUnlessOf, Replays};
-ghost use Rattle.tko_steps.specs.Core.{abstract_of, settings_of};
+ghost use Rattle.tko_steps.specs.Core.{IsOnOneWord, Shared, abstract_of, settings_of};
 ghost use Rattle.tko_steps.specs.Cost.{IsShort};
 ghost use Rattle.tko_steps.specs.Invariant.{IsCore};
+ghost use Rattle.tko_steps.specs.Kinds.{HaveKinds, NoneIsLost};
 ghost use Rattle.tko_steps.specs.Legal.{ChangesAreOwn, ChangesAtMostOnce, IsChain, IsFullAtLimit, IsLegal, IsOwnersAnswer, IsUnderNumber, tracker_in};
 ghost use Rattle.tko_steps.specs.Lost.{ExpectsWhatItSaw, HasLostEachTry, LosesToOthers};
 ghost use Rattle.tko_steps.specs.Runs.{InEveryRun, calls_of};
+ghost use Rattle.tko_steps.specs.declared.table.Action.{Action};
 ghost use Rattle.tko_steps.specs.Safe.{CountsSlots, HasDistinctNumbers, HasOneResponsible, OwnsItsMarks};
 
 use tko_model::Reply;
+
+/// A step changes the word that it is on alone, and leaves there what that word alone decides.
+pub fn one_word_a_step()
+    ensures { (shared : Shared) (server : ℕ) (action : Action) → IsOnOneWord shared server action }
+{}
 
 /// Over every list of turns, from the core as it opens under settings in range: each answered call
 /// has the sequential tracker's reply and change at one of its own steps, or lost every try to
@@ -25,6 +32,10 @@ pub fn every_run()
     ensures owners { InEveryRun (λ s w. All IsOwnersAnswer (calls_of w.past)) }
     ensures numbers { InEveryRun (λ s w. All (IsUnderNumber w.core) (calls_of w.past)) }
     ensures steps { InEveryRun (λ s w. All (IsShort s) (calls_of w.past)) }
+
+    // the kinds of step
+    ensures kinds { InEveryRun (λ s w. HaveKinds w.core) }
+    ensures sure { InEveryRun (λ s w. NoneIsLost w.past) }
 
     // the tries of a call
     ensures lost { InEveryRun (λ s w. All (HasLostEachTry s) (calls_of w.past)) }

@@ -41,7 +41,7 @@ pub enum Decision {
 }
 
 impl Action {
-    ghost use Rattle.tko_steps.specs.Core.{kind_of, kind_of_exchange, place_of};
+    ghost use Rattle.tko_steps.specs.Steps.{kind_of, kind_of_exchange, place_of};
 
     /// What the step does, by name.
     pub fn kind(&self) -> Kind
@@ -82,7 +82,7 @@ impl Action {
 }
 
 impl Seen {
-    ghost use Rattle.tko_steps.specs.Core.{is_done};
+    ghost use Rattle.tko_steps.specs.Steps.{is_done};
 
     /// Whether the step did what it meant to; a look always does.
     pub fn is_done(&self) -> bool
@@ -96,7 +96,7 @@ impl Seen {
 }
 
 impl Decision {
-    ghost use Rattle.tko_steps.specs.Core.{answer_of, state_after};
+    ghost use Rattle.tko_steps.specs.Steps.{answer_of, state_after};
 
     /// The state of the thread of this call then.
     pub fn state(&self, call: &Call) -> ThreadState

@@ -176,8 +176,8 @@ same_decision p q x y i j a b (by_line v m vl vp vc) (by_line w n wl wq wc) e =
     (sym (append_assoc v (line_feed ∷ m) x) ∙ ap (λ z. z ++ x) (sym vp) ∙ e
     ∙ ap (λ z. z ++ y) wq ∙ append_assoc w (line_feed ∷ n) y) in
     let here : Completes (parsed (content w)) m i a = subst (λ z. Completes (parsed (content z)) m i a) lines.0 vc in
-    let behind = same_completion (parsed (content w)) m n x y i j a b here wc lines.1 in
-    (vp ∙ ap (λ z. z ++ line_feed ∷ m) lines.0 ∙ ap (λ z. w ++ line_feed ∷ z) behind.0 ∙ sym wq, behind.1, behind.2)
+    let following = same_completion (parsed (content w)) m n x y i j a b here wc lines.1 in
+    (vp ∙ ap (λ z. z ++ line_feed ∷ m) lines.0 ∙ ap (λ z. w ++ line_feed ∷ z) following.0 ∙ sym wq, following.1, following.2)
 same_decision p q x y i j a b (by_line v m vl vp vc) (by_length long wi wa) e =
     absurd (line_is_short v q (m ++ x) y vl long
     (sym (append_assoc v (line_feed ∷ m) x) ∙ ap (λ z. z ++ x) (sym vp) ∙ e))

@@ -92,23 +92,23 @@ module _ (before rest : List ℕ) (size : ℕ) (asked : List ℕ → Request) (l
   too_few end left value n len parts size_is =
       omega (arith, ap length parts, length-append (value ++ end) left, length-append value end, len, size_is)
 
-  undecided : (behind left : List ℕ) (emitted : Item) (after : After) → IsOpenData rest size → rest ≡ behind ++ left
-      → Completes (AwaitsData size asked) behind emitted after → ⊥
-  undecided behind left (item.Request r) after open_data parts (value, len, same, r_is, a_is) =
+  undecided : (following left : List ℕ) (emitted : Item) (after : After) → IsOpenData rest size → rest ≡ following ++ left
+      → Completes (AwaitsData size asked) following emitted after → ⊥
+  undecided following left (item.Request r) after open_data parts (value, len, same, r_is, a_is) =
       let many = too_few crlf left value 2 len (parts ∙ ap (λ xs. xs ++ left) same) refl in
       elim open_data [ inl short ↦ omega (arith, short, many) | inr cr ↦ omega (arith, cr.0, many) ]
-  undecided behind left (item.Fault f) after open_data parts (value, [], len, same, wrong, f_is) = wrong
-  undecided behind left (item.Fault f) after open_data parts (value, b ∷ [], len, same, wrong, f_is) =
+  undecided following left (item.Fault f) after open_data parts (value, [], len, same, wrong, f_is) = wrong
+  undecided following left (item.Fault f) after open_data parts (value, b ∷ [], len, same, wrong, f_is) =
       let all = parts ∙ ap (λ xs. xs ++ left) same in
       let many = too_few (b ∷ []) left value 1 len all refl in
       elim open_data [
         | inl short ↦ omega (arith, short, many)
         | inr cr ↦ wrong.0 (sym (ap (λ xs. get_or xs size 0) (all ∙ append_assoc value (b ∷ []) left) ∙ get_or_at value b left 0 size len) ∙ cr.1)
       ]
-  undecided behind left (item.Fault f) after open_data parts (value, b ∷ c ∷ [], len, same, wrong, f_is) =
+  undecided following left (item.Fault f) after open_data parts (value, b ∷ c ∷ [], len, same, wrong, f_is) =
       let many = too_few (b ∷ c ∷ []) left value 2 len (parts ∙ ap (λ xs. xs ++ left) same) refl in
       elim open_data [ inl short ↦ omega (arith, short, many) | inr cr ↦ omega (arith, cr.0, many) ]
-  undecided behind left (item.Fault f) after open_data parts (value, b ∷ c ∷ d ∷ more, len, same, wrong, f_is) = wrong
+  undecided following left (item.Fault f) after open_data parts (value, b ∷ c ∷ d ∷ more, len, same, wrong, f_is) = wrong
 
   undecided_text : (text left : List ℕ) (emitted : Item) (after : After) → IsOpenData rest size
       → before ++ line_feed ∷ rest ≡ text ++ left → Decides text emitted after → ⊥

@@ -20,7 +20,7 @@ use Rattle.tko_text.specs.declared.request.Request.{Request}
 use Rattle.tko_text.specs.declared.request.Request.TheVariants.{Get, Gets, Store, Cas, Delete, Incr, Decr, Touch, Version, Quit, StatsTko}
 use Rattle.tko_text.specs.declared.request.Verb.{Verb}
 use Rattle.tko_text.specs.declared.request.Verb.TheVariants.{Set, Add, Replace, Append, Prepend}
-use Rattle.tko_text.specs.Commands.{ParsedLine, Asks, AwaitsData, announced, announced_by, asked_of, bad_line, compared, entry_with, noreply, with_data, parsed_compared, parsed_counted, parsed_stored, form_of, parsed, parsed_known, parsed_words}
+use Rattle.tko_text.specs.Commands.{ParsedLine, Asks, AwaitsData, announced, announced_by, asked_of, bad_line, cas_words, entry_with, noreply, with_data, parsed_cas, parsed_counter, parsed_storage, form_of, parsed, parsed_known, parsed_words}
 use Rattle.tko_text.specs.Keys.{IsKey, is_key}
 use Rattle.tko_text.specs.Limits.{data_limit, expiry_limit, flags_limit, negative_expiry_limit, number_limit}
 use Rattle.tko_text.specs.Numbers.{expiry_of}
@@ -80,7 +80,7 @@ announced-words entry rest is =
       number_of-decimal number_limit (length entry.value) (omega (arith, is.value)) (omega (arith, is.value)),
     ) refl
 
-compared-words : (unique : ℕ) (quiet : Bool) → unique ≤ number_limit → compared (decimal unique ∷ noreply_words quiet) ≡ Some (unique, quiet)
+compared-words : (unique : ℕ) (quiet : Bool) → unique ≤ number_limit → cas_words (decimal unique ∷ noreply_words quiet) ≡ Some (unique, quiet)
 compared-words unique quiet few =
     rw (number_of-decimal number_limit unique (omega (arith, few)) few, noreply-words quiet) refl
 
@@ -89,17 +89,17 @@ awaits-data : (entry : Entry) (asked : List ℕ → Request) → IsEntry entry
 awaits-data entry asked is = rw (is_key-true entry.key is.key, le-leb (length entry.value) data_limit is.value) refl
 
 stored_line : (verb : Verb) (entry : Entry) (quiet : Bool) → IsEntry entry
-    → unwrap_or (parsed_stored verb (entry_words entry ++ noreply_words quiet)) bad_line ≡ meant (Store verb entry quiet)
+    → unwrap_or (parsed_storage verb (entry_words entry ++ noreply_words quiet)) bad_line ≡ meant (Store verb entry quiet)
 stored_line verb entry quiet is =
     rw (announced-words entry (noreply_words quiet) is, noreply-words quiet) (awaits-data entry _ is)
 
 compared_line : (entry : Entry) (unique : ℕ) (quiet : Bool) → IsEntry entry → unique ≤ number_limit
-    → unwrap_or (parsed_compared (entry_words entry ++ decimal unique ∷ noreply_words quiet)) bad_line ≡ meant (Cas entry unique quiet)
+    → unwrap_or (parsed_cas (entry_words entry ++ decimal unique ∷ noreply_words quiet)) bad_line ≡ meant (Cas entry unique quiet)
 compared_line entry unique quiet is few =
     rw (announced-words entry (decimal unique ∷ noreply_words quiet) is, compared-words unique quiet few) (awaits-data entry _ is)
 
 counted_line : (asked : List ℕ → ℕ → Bool → Request) (key : List ℕ) (amount : ℕ) (quiet : Bool) → IsKey key → amount ≤ number_limit
-    → unwrap_or (parsed_counted asked (key ∷ decimal amount ∷ noreply_words quiet)) bad_line ≡ Asks (asked key amount quiet)
+    → unwrap_or (parsed_counter asked (key ∷ decimal amount ∷ noreply_words quiet)) bad_line ≡ Asks (asked key amount quiet)
 counted_line asked key amount quiet is few =
     rw (number_of-decimal number_limit amount (omega (arith, few)) few, noreply-words quiet, is_key-true key is) refl
 

@@ -46,21 +46,21 @@ Emits-beyond bytes long = (
 )
 
 -- the LF of a line in a longer text
-get_or-line : (before behind left : List ℕ)
-    → get_or ((before ++ line_feed ∷ behind) ++ left) (length before) 0 ≡ line_feed
-get_or-line before behind left =
-    ap (λ xs. get_or xs (length before) 0) (append_assoc before (line_feed ∷ behind) left)
-    ∙ get_or_at before line_feed (behind ++ left) 0 (length before) refl
+get_or-line : (before following left : List ℕ)
+    → get_or ((before ++ line_feed ∷ following) ++ left) (length before) 0 ≡ line_feed
+get_or-line before following left =
+    ap (λ xs. get_or xs (length before) 0) (append_assoc before (line_feed ∷ following) left)
+    ∙ get_or_at before line_feed (following ++ left) 0 (length before) refl
 
 -- nothing is decided by fewer bytes than are too many, without an LF
 undecided : (bytes text left : List ℕ) (emitted : Item) (after : After) → bytes ≡ text ++ left
     → IsFirstByte (is_byte line_feed) bytes None → length bytes ≤ line_limit
     → Decides text emitted after → ⊥
-undecided bytes text left emitted after parts none few (by_line before behind line is completes) =
-    let whole : bytes ≡ (before ++ line_feed ∷ behind) ++ left = parts ∙ ap (λ xs. xs ++ left) is in
+undecided bytes text left emitted after parts none few (by_line before following line is completes) =
+    let whole : bytes ≡ (before ++ line_feed ∷ following) ++ left = parts ∙ ap (λ xs. xs ++ left) is in
     none (length before) (omega arith)
-    (omega (arith, ap length whole, length-append (before ++ line_feed ∷ behind) left, length-append before (line_feed ∷ behind)))
-    (eq-eqb _ line_feed (ap (λ xs. get_or xs (length before) 0) whole ∙ get_or-line before behind left))
+    (omega (arith, ap length whole, length-append (before ++ line_feed ∷ following) left, length-append before (line_feed ∷ following)))
+    (eq-eqb _ line_feed (ap (λ xs. get_or xs (length before) 0) whole ∙ get_or-line before following left))
 undecided bytes text left emitted after parts none few (by_length long emitted_is after_is) =
     absurd (omega (arith, ap length parts, length-append text left, long.beyond))
 

@@ -49,10 +49,10 @@ word_says line r alone =
     (at (codes "ERROR") response.Error _ (λ w. (w, alone))
     (number_says line (number_of number_limit line.word) r alone refl))))))))
 
-alone_says : (line : Split) (behind : List (List ℕ)) (r : Response) → words line.rest ≡ behind
-    → alone_response line.word behind ≡ Some r → Says line r
+alone_says : (line : Split) (following : List (List ℕ)) (r : Response) → words line.rest ≡ following
+    → alone_response line.word following ≡ Some r → Says line r
 alone_says line [] r is e = word_says line r is e
-alone_says line (word ∷ behind) r is e = absurd (cc)
+alone_says line (word ∷ following) r is e = absurd (cc)
 
 version_says : (line : Split) (r : Response) → line.word ≡ codes "VERSION"
     → version_response (drop 1 line.rest) ≡ Some r → Says line r
@@ -128,10 +128,10 @@ says_response line (response.ServerError text) says = rw (says.0, says.1) refl
 pub says_is_one : (line : Split) (r s : Response) → Says line r → Says line s → r ≡ s
 says_is_one line r s a b = some_is_one r s (sym (says_response line r a) ∙ says_response line s b)
 
-alone_value : (behind : List (List ℕ)) → alone_response (codes "VALUE") behind ≡ None
+alone_value : (following : List (List ℕ)) → alone_response (codes "VALUE") following ≡ None
 unfolding number_of
 alone_value [] = refl
-alone_value (word ∷ behind) = refl
+alone_value (word ∷ following) = refl
 
 -- the first line of a value is no response by itself
 pub value_says_nothing : (rest : List ℕ) (r : Response) → Says (value_line rest) r → ⊥

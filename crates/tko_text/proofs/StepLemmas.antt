@@ -105,9 +105,9 @@ module _ (bytes : List ℕ) (len size : ℕ) (asked : List ℕ → Request) (end
 pub reading_line : (now : State) (left : List ℕ) → now ≡ state.Line → at left ≡ reading_of now left
 reading_line now left awaits = ap (λ s. reading_of s left) (sym awaits)
 
--- what is left behind a line and more
-pub left_behind : (bytes : List ℕ) (len more n : ℕ) → n ≡ len + 1 + more → drop n bytes ≡ drop more (drop (len + 1) bytes)
-left_behind bytes len more n is =
+-- what is left after a line and more
+pub left_after : (bytes : List ℕ) (len more n : ℕ) → n ≡ len + 1 + more → drop n bytes ≡ drop more (drop (len + 1) bytes)
+left_after bytes len more n is =
     let sum : n ≡ (len + 1) + more = omega arith in ap (λ k. drop k bytes) sum ∙ sym (drop-drop more (len + 1) bytes)
 
 -- the bytes of a pending request

@@ -18,7 +18,7 @@ use Rattle.tko_text.specs.Keys.{is_key}
 use Rattle.tko_text.specs.Limits.{data_limit, flags_limit, number_limit}
 use Rattle.tko_text.specs.Numbers.{expiry_of}
 
--- what is skipped after a text before the next one begins: nothing, so many bytes, or all up to the
+-- what is skipped after a text before the next one begins: nothing, n bytes, or all up to the
 -- first LF; or no further text is read
 pub data After : Type 0 where
   Next : After
@@ -26,7 +26,7 @@ pub data After : Type 0 where
   PassLine : After
   Never : After
 
--- what a line is by itself: a whole request; a request that so many bytes of data complete; or a
+-- what a line is by itself: a whole request; a request that n bytes of data complete; or a
 -- fault, and what is skipped after the line
 pub data ParsedLine : Type 0 where
   Asks : Request → ParsedLine
@@ -69,7 +69,7 @@ bad_line = Refused BadLine Next
 abbrev pub with_key : List ℕ → Request → ParsedLine
 with_key key asked = if is_key key then Asks asked else Refused BadKey Next
 
--- so many bytes of data follow, where the key is one and they aren't too many; else they and their
+-- `size` bytes of data follow, where the key is one and they aren't too many; else they and their
 -- CR LF are skipped
 abbrev pub with_data : List ℕ → ℕ → (List ℕ → Request) → ParsedLine
 with_data key size asked =
@@ -128,54 +128,54 @@ announced (key ∷ flags ∷ until ∷ bytes ∷ rest) = do
 announced _ = None
 
 -- <cas> [noreply]
-abbrev pub compared : List (List ℕ) → Option (ℕ × Bool)
-compared [] = None
-compared (cas ∷ rest) = do
+abbrev pub cas_words : List (List ℕ) → Option (ℕ × Bool)
+cas_words [] = None
+cas_words (cas ∷ rest) = do
   unique ← number_of number_limit cas
   quiet ← noreply rest
   Some (unique, quiet)
 
 -- <key> <flags> <expiry> <bytes> [noreply], and the data
-abbrev pub parsed_stored : Verb → List (List ℕ) → Option ParsedLine
-parsed_stored verb arguments = do
+abbrev pub parsed_storage : Verb → List (List ℕ) → Option ParsedLine
+parsed_storage verb arguments = do
   a ← announced arguments
   quiet ← noreply a.1
   Some (with_data a.0.key a.0.size (λ value. request.Store verb (entry_with a.0 value) quiet))
 
 -- <key> <flags> <expiry> <bytes> <cas> [noreply], and the data
-abbrev pub parsed_compared : List (List ℕ) → Option ParsedLine
-parsed_compared arguments = do
+abbrev pub parsed_cas : List (List ℕ) → Option ParsedLine
+parsed_cas arguments = do
   a ← announced arguments
-  c ← compared a.1
+  c ← cas_words a.1
   Some (with_data a.0.key a.0.size (λ value. request.Cas (entry_with a.0 value) c.0 c.1))
 
 -- <key> [noreply]
-abbrev pub parsed_deleted : List (List ℕ) → Option ParsedLine
-parsed_deleted [] = None
-parsed_deleted (key ∷ rest) = do
+abbrev pub parsed_delete : List (List ℕ) → Option ParsedLine
+parsed_delete [] = None
+parsed_delete (key ∷ rest) = do
   quiet ← noreply rest
   Some (with_key key (request.Delete key quiet))
 
 -- <key> <amount> [noreply]
-abbrev pub parsed_counted : (List ℕ → ℕ → Bool → Request) → List (List ℕ) → Option ParsedLine
-parsed_counted asked (key ∷ amount ∷ rest) = do
+abbrev pub parsed_counter : (List ℕ → ℕ → Bool → Request) → List (List ℕ) → Option ParsedLine
+parsed_counter asked (key ∷ amount ∷ rest) = do
   n ← number_of number_limit amount
   quiet ← noreply rest
   Some (with_key key (asked key n quiet))
-parsed_counted asked _ = None
+parsed_counter asked _ = None
 
 -- <key> <expiry> [noreply]
-abbrev pub parsed_touched : List (List ℕ) → Option ParsedLine
-parsed_touched (key ∷ until ∷ rest) = do
+abbrev pub parsed_touch : List (List ℕ) → Option ParsedLine
+parsed_touch (key ∷ until ∷ rest) = do
   e ← expiry_of until
   quiet ← noreply rest
   Some (with_key key (request.Touch key e quiet))
-parsed_touched _ = None
+parsed_touch _ = None
 
 -- no further word
-abbrev pub parsed_alone : Request → List (List ℕ) → ParsedLine
-parsed_alone asked [] = Asks asked
-parsed_alone asked (word ∷ words) = bad_line
+abbrev pub parsed_bare : Request → List (List ℕ) → ParsedLine
+parsed_bare asked [] = Asks asked
+parsed_bare asked (word ∷ words) = bad_line
 
 -- the word `tko`; with other words, or none, `stats` is no command
 abbrev pub parsed_stats : List (List ℕ) → ParsedLine
@@ -187,14 +187,14 @@ parsed_stats _ = Refused UnknownCommand Next
 abbrev pub parsed_form : Form → List (List ℕ) → ParsedLine
 parsed_form form.Get arguments = parsed_keys request.Get arguments
 parsed_form form.Gets arguments = parsed_keys request.Gets arguments
-parsed_form (form.Store verb) arguments = unwrap_or (parsed_stored verb arguments) bad_line
-parsed_form form.Cas arguments = unwrap_or (parsed_compared arguments) bad_line
-parsed_form form.Delete arguments = unwrap_or (parsed_deleted arguments) bad_line
-parsed_form form.Incr arguments = unwrap_or (parsed_counted request.Incr arguments) bad_line
-parsed_form form.Decr arguments = unwrap_or (parsed_counted request.Decr arguments) bad_line
-parsed_form form.Touch arguments = unwrap_or (parsed_touched arguments) bad_line
-parsed_form form.Version arguments = parsed_alone request.Version arguments
-parsed_form form.Quit arguments = parsed_alone request.Quit arguments
+parsed_form (form.Store verb) arguments = unwrap_or (parsed_storage verb arguments) bad_line
+parsed_form form.Cas arguments = unwrap_or (parsed_cas arguments) bad_line
+parsed_form form.Delete arguments = unwrap_or (parsed_delete arguments) bad_line
+parsed_form form.Incr arguments = unwrap_or (parsed_counter request.Incr arguments) bad_line
+parsed_form form.Decr arguments = unwrap_or (parsed_counter request.Decr arguments) bad_line
+parsed_form form.Touch arguments = unwrap_or (parsed_touch arguments) bad_line
+parsed_form form.Version arguments = parsed_bare request.Version arguments
+parsed_form form.Quit arguments = parsed_bare request.Quit arguments
 parsed_form form.Stats arguments = parsed_stats arguments
 
 -- the same, where the command word has a form

@@ -4,7 +4,7 @@ use Rattle.std.specs.List.{list_all}
 use Rattle.tko_bytes.specs.Words.{space}
 use Rattle.tko_text.specs.Limits.{key_limit}
 
--- the control character behind the printable ones
+-- the control character after the printable ones
 abbrev pub delete : ℕ
 delete = 127
 

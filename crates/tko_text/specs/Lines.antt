@@ -8,7 +8,7 @@ pub record IsLine (before : List ℕ) : Type 0 where
   pub unended : HasNoEnd before
   pub within : length before ≤ line_limit
 
--- these bytes begin with a line of so many bytes before its LF
+-- these bytes begin with a line of `len` bytes before its LF
 pub record IsEndedAt (bytes : List ℕ) (len : ℕ) : Type 0 where
   pub line : IsLine (take len bytes)
   pub fits : len < length bytes

@@ -1,6 +1,10 @@
 -- What the code's parsed line means.
 use Rattle.std.specs.Prelude.{ℕ, ◌+◌, ◌≤◌, ◌≢◌, Bool, List, Option, Some, None}
 use Rattle.tko_text.specs.declared.fault.TextFault.TheVariants.{LineTooLong}
+use Rattle.tko_text.specs.declared.form.Form.{Form}
+use Rattle.tko_text.specs.declared.form.Form.TheVariants as form
+use Rattle.tko_text.specs.declared.line.Direction.{Direction}
+use Rattle.tko_text.specs.declared.line.Direction.TheVariants as direction
 use Rattle.tko_text.specs.declared.line.Header.{Header}
 use Rattle.tko_text.specs.declared.line.ParsedLine.{ParsedLine}
 use Rattle.tko_text.specs.declared.line.ParsedLine.TheVariants as line
@@ -24,6 +28,11 @@ request_with header value =
     stored_by header.word
     (record { key = header.key; flags = header.flags; expiry = header.expiry; value = value })
     header.noreply
+
+-- the form of the command that moves a counter this way
+abbrev pub counter_form : Direction → Form
+counter_form direction.Up = form.Incr
+counter_form direction.Down = form.Decr
 
 -- what is skipped after a line that such data follow
 abbrev pub after_data : Option ℕ → After

@@ -21,23 +21,23 @@ IsWrongEnd _ after = ⊥
 
 -- a line parsed so and these bytes that follow its LF are this item
 abbrev pub Completes : ParsedLine → List ℕ → Item → After → Type 0
-Completes (Asks command) behind (item.Request request) after =
-    (behind ≡ []) × (request ≡ command) × (after ≡ Next)
-Completes (Asks command) behind (item.Fault why) after = ⊥
-Completes (Refused why onward) behind (item.Fault it) after =
-    (behind ≡ []) × (it ≡ why) × (after ≡ onward)
-Completes (Refused why onward) behind (item.Request request) after = ⊥
-Completes (AwaitsData size command) behind (item.Request request) after =
-    (value : List ℕ) × (length value ≡ size) × (behind ≡ value ++ crlf)
+Completes (Asks command) following (item.Request request) after =
+    (following ≡ []) × (request ≡ command) × (after ≡ Next)
+Completes (Asks command) following (item.Fault why) after = ⊥
+Completes (Refused why onward) following (item.Fault it) after =
+    (following ≡ []) × (it ≡ why) × (after ≡ onward)
+Completes (Refused why onward) following (item.Request request) after = ⊥
+Completes (AwaitsData size command) following (item.Request request) after =
+    (value : List ℕ) × (length value ≡ size) × (following ≡ value ++ crlf)
     × (request ≡ command value) × (after ≡ Next)
-Completes (AwaitsData size command) behind (item.Fault it) after =
-    (value end : List ℕ) × (length value ≡ size) × (behind ≡ value ++ end)
+Completes (AwaitsData size command) following (item.Fault it) after =
+    (value end : List ℕ) × (length value ≡ size) × (following ≡ value ++ end)
     × IsWrongEnd end after × (it ≡ fault.BadChunk)
 
 -- a text is an item: a line and what completes it, or one byte more than a line may have
 pub data Decides (text : List ℕ) (emitted : Item) (after : After) : Type 0 where
-  by_line : (before behind : List ℕ) → IsLine before → text ≡ before ++ line_feed ∷ behind
-      → Completes (parsed (content before)) behind emitted after → Decides text emitted after
+  by_line : (before following : List ℕ) → IsLine before → text ≡ before ++ line_feed ∷ following
+      → Completes (parsed (content before)) following emitted after → Decides text emitted after
   by_length : IsTooLong text → emitted ≡ item.Fault fault.LineTooLong → after ≡ Never
       → Decides text emitted after
 

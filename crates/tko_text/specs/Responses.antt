@@ -101,7 +101,7 @@ abbrev pub IsCas : List (List ℕ) → Option ℕ → Type 0
 IsCas found None = found ≡ []
 IsCas found (Some n) = (word : List ℕ) × (found ≡ word ∷ []) × IsNumber number_limit word n
 
--- the first line of a value of so many bytes
+-- the first line of a value of `size` bytes
 pub record IsHead (line : Split) (key : List ℕ) (flags size : ℕ) (cas : Option ℕ) : Type 0 where
   pub flags_word : List ℕ
   pub size_word : List ℕ
@@ -137,13 +137,13 @@ abbrev pub Spells : List ℕ → Response → Type 0
 Spells bytes (Values (Some found)) = IsValue bytes found
 Spells bytes answer = IsAnswerLine bytes answer
 
--- not all of so many bytes of data, or not yet the CR LF that follows them
+-- not all of `size` bytes of data, or not yet the CR LF that follows them
 abbrev pub IsCutData : ℕ → List ℕ → Type 0
 IsCutData size bytes =
     (length bytes ≤ size)
     ⊎ ((found : List ℕ) × (length found ≡ size) × (bytes ≡ found ++ codes "\r"))
 
--- so many bytes of data, their CR LF, and not all of the line that follows
+-- `size` bytes of data, their CR LF, and not all of the line that follows
 abbrev pub IsCutEnd : ℕ → List ℕ → Type 0
 IsCutEnd size bytes =
     (found last : List ℕ) × (length found ≡ size) × (bytes ≡ block found ++ last) × IsOpenLine last
@@ -198,9 +198,9 @@ ReadsResponse request bytes (Err fault.Memory) = Unit {0}
 -- at most one front of the bytes is a response to a request, and it is one response
 abbrev pub OneResponse : Type 0
 OneResponse =
-    (request : Request) (first second behind_first behind_second : List ℕ) (r s : Response)
+    (request : Request) (first second after_first after_second : List ℕ) (r s : Response)
     → IsResponse request first r → IsResponse request second s
-    → first ++ behind_first ≡ second ++ behind_second → (first ≡ second) × (r ≡ s)
+    → first ++ after_first ≡ second ++ after_second → (first ≡ second) × (r ≡ s)
 
 -- where bytes may be the beginning of a response, no front of them is one
 abbrev pub BeginningHasNone : Type 0

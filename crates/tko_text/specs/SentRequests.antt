@@ -24,7 +24,7 @@ without_noreply (Decr key amount noreply) = Decr key amount false
 without_noreply (Touch key expiry noreply) = Touch key expiry false
 without_noreply request = request
 
--- an expiry, where an entry has to expire after so many seconds at the latest; 0 is no such limit.
+-- an expiry, where an entry has to expire after n seconds at the latest; n = 0 is no such limit.
 -- The expiry 0 means never, and one below 0 means at once.
 abbrev pub replaced_expiry : ℕ → ℤ → ℤ
 replaced_expiry zero expiry = expiry

@@ -77,7 +77,7 @@ impl Buffer {
         }
     }
 
-    /// The first so many bytes.
+    /// The first `len` bytes.
     pub(crate) fn front(&self, len: usize) -> &[u8]
         requires { len ≤ length self.now }
         ensures { result.now ≡ take len self.now }
@@ -85,15 +85,15 @@ impl Buffer {
         &self.bytes[self.start..self.start + len]
     }
 
-    /// What follows the first so many bytes.
-    pub(crate) fn behind(&self, len: usize) -> &[u8]
+    /// What follows the first `len` bytes.
+    pub(crate) fn after(&self, len: usize) -> &[u8]
         requires { len ≤ length self.now }
         ensures { result.now ≡ drop len self.now }
     {
         &self.bytes[self.start + len..]
     }
 
-    /// Removes the first so many bytes.
+    /// Removes the first `len` bytes.
     pub(crate) fn consume(&mut self, len: usize)
         requires { len ≤ length self.old }
         ensures { self.new ≡ drop len self.old }

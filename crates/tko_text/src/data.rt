@@ -10,13 +10,15 @@ pub(crate) enum DataEnd {
     Open,
     /// CR LF.
     Whole,
-    /// The data and so many bytes show that no CR LF follows, and the last of them is an LF.
+    /// No CR LF follows: this number of bytes, those of the data included, shows it, and the last
+    /// of them is an LF.
     WrongLine(usize),
-    /// The data and so many bytes show that no CR LF follows, and no LF is among the latter.
+    /// No CR LF follows: this number of bytes, those of the data included, shows it, and no LF is
+    /// among those that follow the data.
     Wrong(usize),
 }
 
-/// The end of so many bytes of data.
+/// The end of `size` bytes of data.
 pub(crate) fn data_end(bytes: &[u8], size: usize) -> DataEnd
     requires { size ≤ data_limit }
     ensures { EndsData bytes.now size result }

@@ -1,7 +1,7 @@
 //! Request lines, parsed word by word.
-ghost use Rattle.std.specs.Prelude.{◌≡◌, ◌≢◌, Some, None, IfOk, MatchOption, if◌then◌else◌};
-ghost use Rattle.tko_text.specs.Commands.{Announced, announced, announced_by, entry_with, keys_of, noreply, parsed, parsed_alone, parsed_form, parsed_stats, with_data};
-ghost use Rattle.tko_text.specs.Parsed.{IsWithinLimits, meaning, stored_by};
+ghost use Rattle.std.specs.Prelude.{◌≡◌, ◌≢◌, Some, None, IfOk, MatchOption};
+ghost use Rattle.tko_text.specs.Commands.{Announced, announced, announced_by, entry_with, keys_of, noreply, parsed, parsed_bare, parsed_form, parsed_stats, with_data};
+ghost use Rattle.tko_text.specs.Parsed.{IsWithinLimits, counter_form, meaning, stored_by};
 
 use crate::expiry::expiry_of;
 use crate::form::{Form, form_of};
@@ -57,6 +57,13 @@ struct EntryWords<'a> {
     size: u64,
 }
 
+/// Which way a counter moves.
+#[derive(Clone, Copy)]
+pub(crate) enum Direction {
+    Up,
+    Down,
+}
+
 /// A fault after which the next line follows.
 fn refused(fault: TextFault) -> ParsedLine
     ensures { result ≡ ParsedLine.Refused fault None }
@@ -93,19 +100,19 @@ fn read_form(alloc: Global, form: Form, words: Words) -> Result<ParsedLine, NoMe
             Ok(keys) => Ok(ParsedLine::Asks(Request::Gets { keys })),
             Err(fault) => Ok(refused(fault)),
         },
-        Form::Store(verb) => stored(alloc, verb, words),
-        Form::Cas => compared(alloc, words),
-        Form::Delete => deleted(alloc, words),
-        Form::Incr => counted(alloc, false, words),
-        Form::Decr => counted(alloc, true, words),
-        Form::Touch => touched(alloc, words),
-        Form::Version => Ok(alone(Request::Version, words)),
-        Form::Quit => Ok(alone(Request::Quit, words)),
-        Form::Stats => Ok(stats(words)),
+        Form::Store(verb) => storage_line(alloc, verb, words),
+        Form::Cas => cas_line(alloc, words),
+        Form::Delete => delete_line(alloc, words),
+        Form::Incr => counter_line(alloc, Direction::Up, words),
+        Form::Decr => counter_line(alloc, Direction::Down, words),
+        Form::Touch => touch_line(alloc, words),
+        Form::Version => Ok(bare_line(Request::Version, words)),
+        Form::Quit => Ok(bare_line(Request::Quit, words)),
+        Form::Stats => Ok(stats_line(words)),
     }
 }
 
-/// The keys that these words are: one key or more.
+/// The keys that these words are: one or more.
 fn read_keys(alloc: Global, mut words: Words) -> Result<Result<Keys, TextFault>, NoMemory>
     ensures is { IfOk result (λ found. keys_of words.entry ≡ found) }
     ensures fault { IfOk result (λ found. found ≢ Err TextFault.LineTooLong) }
@@ -124,7 +131,7 @@ fn read_keys(alloc: Global, mut words: Words) -> Result<Result<Keys, TextFault>,
 }
 
 /// `<key> <flags> <expiry> <bytes> [noreply]`
-fn stored(alloc: Global, verb: Verb, mut words: Words) -> Result<ParsedLine, NoMemory>
+fn storage_line(alloc: Global, verb: Verb, mut words: Words) -> Result<ParsedLine, NoMemory>
     ensures is { IfOk result (λ found. parsed_form (Form.Store verb) words.entry ≡ meaning found) }
     ensures fault { IfOk result IsWithinLimits }
 {
@@ -138,7 +145,7 @@ fn stored(alloc: Global, verb: Verb, mut words: Words) -> Result<ParsedLine, NoM
 }
 
 /// `<key> <flags> <expiry> <bytes> <cas> [noreply]`
-fn compared(alloc: Global, mut words: Words) -> Result<ParsedLine, NoMemory>
+fn cas_line(alloc: Global, mut words: Words) -> Result<ParsedLine, NoMemory>
     ensures is { IfOk result (λ found. parsed_form Form.Cas words.entry ≡ meaning found) }
     ensures fault { IfOk result IsWithinLimits }
 {
@@ -207,7 +214,7 @@ fn with_data(
 }
 
 /// `<key> [noreply]`
-fn deleted(alloc: Global, mut words: Words) -> Result<ParsedLine, NoMemory>
+fn delete_line(alloc: Global, mut words: Words) -> Result<ParsedLine, NoMemory>
     ensures is { IfOk result (λ found. parsed_form Form.Delete words.entry ≡ meaning found) }
     ensures fault { IfOk result IsWithinLimits }
 {
@@ -223,10 +230,14 @@ fn deleted(alloc: Global, mut words: Words) -> Result<ParsedLine, NoMemory>
     }
 }
 
-/// `<key> <amount> [noreply]`, to count down or up.
-fn counted(alloc: Global, down: bool, mut words: Words) -> Result<ParsedLine, NoMemory>
+/// `<key> <amount> [noreply]`
+fn counter_line(
+    alloc: Global,
+    direction: Direction,
+    mut words: Words,
+) -> Result<ParsedLine, NoMemory>
     ensures is { IfOk result (λ found.
-        parsed_form (if down then Form.Decr else Form.Incr) words.entry ≡ meaning found) }
+        parsed_form (counter_form direction) words.entry ≡ meaning found) }
     ensures fault { IfOk result IsWithinLimits }
 {
     let Some(key) = words.next() else {
@@ -244,23 +255,22 @@ fn counted(alloc: Global, down: bool, mut words: Words) -> Result<ParsedLine, No
     let Some(key) = Key::of(alloc, key)? else {
         return Ok(refused(TextFault::BadKey));
     };
-    if down {
-        Ok(ParsedLine::Asks(Request::Decr {
+    Ok(ParsedLine::Asks(match direction {
+        Direction::Up => Request::Incr {
             key,
             amount,
             noreply,
-        }))
-    } else {
-        Ok(ParsedLine::Asks(Request::Incr {
+        },
+        Direction::Down => Request::Decr {
             key,
             amount,
             noreply,
-        }))
-    }
+        },
+    }))
 }
 
 /// `<key> <expiry> [noreply]`
-fn touched(alloc: Global, mut words: Words) -> Result<ParsedLine, NoMemory>
+fn touch_line(alloc: Global, mut words: Words) -> Result<ParsedLine, NoMemory>
     ensures is { IfOk result (λ found. parsed_form Form.Touch words.entry ≡ meaning found) }
     ensures fault { IfOk result IsWithinLimits }
 {
@@ -286,9 +296,9 @@ fn touched(alloc: Global, mut words: Words) -> Result<ParsedLine, NoMemory>
     }
 }
 
-/// A request that no word follows.
-fn alone(request: Request, words: Words) -> ParsedLine
-    ensures is { parsed_alone request words.entry ≡ meaning result }
+/// A request whose command word no other word follows.
+fn bare_line(request: Request, words: Words) -> ParsedLine
+    ensures is { parsed_bare request words.entry ≡ meaning result }
     ensures fault { IsWithinLimits result }
 {
     if words.is_done() {
@@ -299,7 +309,7 @@ fn alone(request: Request, words: Words) -> ParsedLine
 }
 
 /// The word `tko`.
-fn stats(mut words: Words) -> ParsedLine
+fn stats_line(mut words: Words) -> ParsedLine
     ensures is { parsed_stats words.entry ≡ meaning result }
     ensures fault { IsWithinLimits result }
 {

@@ -46,7 +46,7 @@ impl Response {
 
     /// How long the answer to the request has to be at least, if it begins with these bytes. It is
     /// 0 until they announce a value. So bytes that come in small pieces need not be read anew
-    /// before so many have come.
+    /// before they are this long.
     pub fn least_len(request: &Request, bytes: &[u8]) -> usize
         ensures { IsLeastLength request.now bytes.now result }
     {
@@ -84,6 +84,3 @@ pub(crate) use body::DATA_LIMIT;
 pub use body::{Data, Text, Value};
 pub use fault::ReadFault;
 pub use laws::one_response;
-
-#[cfg(test)]
-mod tests;

@@ -15,7 +15,7 @@ pub(crate) enum State {
     Line,
     /// The data of a request.
     Data(Pending),
-    /// So many bytes, which are skipped.
+    /// This number of bytes is skipped.
     Skip(u128),
     /// All bytes up to the first LF, which are skipped.
     SkipLine,
@@ -23,7 +23,7 @@ pub(crate) enum State {
     Never,
 }
 
-/// The state once so many bytes of the input are skipped, of which a piece has come.
+/// The state once `count` bytes of the input are skipped, of which a piece has come.
 pub(crate) fn feed_skipped(
     buffer: &mut Buffer,
     count: u128,
@@ -59,7 +59,7 @@ pub(crate) fn feed_skipped_line(buffer: &mut Buffer, piece: &[u8]) -> Result<Sta
     }
 }
 
-/// The state once so many bytes are skipped, of which some may be unread.
+/// The state once `count` bytes are skipped, of which some may be unread.
 pub(crate) fn skip(buffer: &mut Buffer, count: u128) -> State
     requires { 0 < count }
     ensures is { IsState result buffer.new }

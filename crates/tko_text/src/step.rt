@@ -40,7 +40,7 @@ pub(crate) fn next_line(
     }
 }
 
-/// The item of the line of so many bytes.
+/// The item of the line that has `len` bytes before its LF.
 fn read(
     alloc: Global,
     state: &mut State,
@@ -72,7 +72,7 @@ fn read(
     }
 }
 
-/// The item of a header, whose line has so many bytes before its LF, and its data.
+/// The item of a header, whose line has `len` bytes before its LF, and its data.
 fn read_data(
     alloc: Global,
     state: &mut State,
@@ -90,7 +90,7 @@ fn read_data(
         Steps (at buffer.old) found (reading_of state.new buffer.new)) }
     ensures err { OnErr result ((state.new ≡ state.old) × (buffer.new ≡ buffer.old)) }
 {
-    let bytes = buffer.behind(len + 1);
+    let bytes = buffer.after(len + 1);
     match data_end(bytes, header.size) {
         DataEnd::Open => {
             *state = State::Data(pending_of(alloc, buffer, len + 1, header)?);
@@ -113,8 +113,8 @@ fn read_data(
     }
 }
 
-/// A header with its line, which has so many bytes, and all that follows the line. The data get
-/// room for all of them at once, so that no later piece moves them.
+/// A header with its line, which has `len` bytes, and all that follows the line. The data get room
+/// for all of them at once, so that no later piece moves them.
 fn pending_of(
     alloc: Global,
     buffer: &mut Buffer,
@@ -131,7 +131,7 @@ fn pending_of(
 {
     let line = Vec::from_slice(alloc, buffer.front(len))?;
     let mut data = Vec::with_capacity(alloc, header.size + 2)?;
-    data.extend_from_slice(buffer.behind(len))?;
+    data.extend_from_slice(buffer.after(len))?;
     let all = buffer.len();
     buffer.consume(all);
     buffer.compact();

@@ -1,1 +1,2 @@
+pub mod SoftLemmas
 pub mod WordLemmas

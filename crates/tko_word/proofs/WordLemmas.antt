@@ -1,6 +1,6 @@
 -- A health word and what it holds: each is had from the other.
-use Rattle.std.proofs.Common.{◌≡◌, ℕ, ◌+◌, ◌-◌, ◌*◌, ◌/◌, ◌%◌, ◌^◌, ◌<◌, ◌≤◌, Bool, true, false, cond, ltb, eqb, refl, sym, ap, ◌∙◌, subst, inl, inr, arith, bit_and}
-use Rattle.std.proofs.lemmas.Bool.{lt-ltb, le-ltb, eq-eqb, ne_eqb, cond-true, cond-false, ltb-true, ltb-false, eqb-true, eqb-false, cases_Bool, cases_lt}
+use Rattle.std.proofs.Common.{◌≡◌, ℕ, ◌+◌, ◌-◌, ◌*◌, ◌/◌, ◌%◌, ◌^◌, ◌<◌, cond, ltb, eqb, sym, ap, ◌∙◌, subst, inl, inr, arith, bit_and}
+use Rattle.std.proofs.lemmas.Bool.{lt-ltb, le-ltb, eq-eqb, ne_eqb, cond-true, cond-false, ltb-false, eqb-true, eqb-false, cases_Bool}
 use Rattle.std.proofs.lemmas.Nat.{and_mask, div-add-mod', div-mul-add, mod-mul-add, shr_below}
 use Rattle.tko_model.specs.declared.mark.Mark.{Mark}
 use Rattle.tko_model.specs.declared.mark.Mark.TheVariants.{Up, Soft, Hard}
@@ -96,3 +96,12 @@ body-IsWordOf s word ranges is =
     let holds = server_in_is word is.mark is.stamp (IsMark-of s is.mark ranges is.allowed) is.is in
     let same : mark_in (word % 8192) ≡ is.mark = ap (λ (server : ServerState). server.mark) holds in
     subst (IsMarkOf s) (sym same) is.allowed
+
+-- words are one exactly where they hold one mark and one stamp
+pub server_in_same : (one other : ℕ) → IsWord one → IsWord other → server_in one ≡ server_in other → one ≡ other
+server_in_same one other is are e =
+    let held : record { mark = is.mark; stamp = is.stamp } ≡ server_in other =
+    sym (server_in_is one is.mark is.stamp is.allowed is.is) ∙ e in
+    let both : ServerState = record { mark = is.mark; stamp = is.stamp } in
+    let same : both ≡ record { mark = are.mark; stamp = are.stamp } = held ∙ server_in_is other are.mark are.stamp are.allowed are.is in
+    is.is ∙ ap (λ (it : ServerState). health_word it.mark it.stamp) same ∙ sym are.is

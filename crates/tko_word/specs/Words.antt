@@ -35,9 +35,25 @@ body_of (Hard thread) = marked + 2 * thread + 1
 abbrev pub health_word : Mark → ℕ → ℕ
 health_word mark stamp = stamp * body_size + body_of mark
 
--- the soft word: so many soft marks are settled, and so many calls hold a slot for one
+-- the soft word: `firm` soft marks are settled, and `held` calls hold a slot for one
 abbrev pub soft_word : ℕ → ℕ → ℕ
 soft_word firm held = firm + 2 ^ 32 * held
+
+-- one held slot, as the soft word counts it: taking it from the word gives a slot back
+abbrev pub one_slot : ℕ
+one_slot = 2 ^ 32
+
+-- what a settled mark lacks of a held slot, as the soft word counts them: adding it loosens a mark,
+-- taking it from the word settles one
+abbrev pub slot_over_mark : ℕ
+slot_over_mark = 2 ^ 32 - 1
+
+-- a word of 64 bits after this was added to it, or taken from it; both wrap
+abbrev pub word_plus : ℕ → ℕ → ℕ
+word_plus word amount = (word + amount) % 2 ^ 64
+
+abbrev pub word_minus : ℕ → ℕ → ℕ
+word_minus word amount = (word + (2 ^ 64 - amount)) % 2 ^ 64
 
 -- the counts that a soft word holds
 unfoldable pub firm_in : ℕ → ℕ

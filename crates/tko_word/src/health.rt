@@ -13,6 +13,9 @@ ghost use Rattle.tko_word.specs.Words.{IsMark, IsMarkOf, IsWord, IsWordOf, body_
 
 use tko_model::{Mark, Settings};
 
+/// Every stamp of a word is below this.
+pub const STAMP_END: u64 = 1 << 51;
+
 const BODY_BITS: u32 = 13;
 
 const BODY_MASK: u64 = (1 << BODY_BITS) - 1;

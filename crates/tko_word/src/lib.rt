@@ -3,16 +3,17 @@
 //! - The *health word* of a server holds its mark and its stamp: `pack`, `unpack`, `is_word`.
 //! - The *soft word* holds the two counts of soft marks: `pack_soft`, `unpack_soft`.
 //!
-//! `one_reading` is the law that a word has one reading.
+//! `one_reading` is the law that a word has one reading, `changed_counts` what the steps on the soft
+//! word add to it and take from it.
 #![tactic(auto)]
 
 mod health;
 mod law;
 mod soft;
 
-pub use health::{is_word, pack, unpack};
-pub use law::one_reading;
-pub use soft::{pack_soft, unpack_soft};
+pub use health::{STAMP_END, is_word, pack, unpack};
+pub use law::{changed_counts, one_reading};
+pub use soft::{ONE_SLOT, SLOT_OVER_MARK, pack_soft, unpack_soft};
 
 #[cfg(test)]
 mod tests;

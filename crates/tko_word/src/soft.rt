@@ -11,6 +11,12 @@ const HELD_SHIFT: u32 = 32;
 
 const FIRM_MASK: u64 = (1 << HELD_SHIFT) - 1;
 
+/// One held slot, as the soft word counts it.
+pub const ONE_SLOT: u64 = 1 << HELD_SHIFT;
+
+/// What a held slot counts more than a settled mark.
+pub const SLOT_OVER_MARK: u64 = ONE_SLOT - 1;
+
 /// The soft word of these two counts.
 #[tactic(auto, unfolding(crate::specs::Words::firm_in, crate::specs::Words::held_in))]
 pub fn pack_soft(firm: u32, held: u32) -> u64

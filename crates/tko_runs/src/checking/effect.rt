@@ -2,7 +2,7 @@
 ghost use Rattle.std.specs.Prelude.{◌≡◌, ◌+◌, ◌<◌, ◌^◌, ◌↔◌, true, length, slice_set};
 ghost use Rattle.tko_model.specs.Ranges.{IsWithinRanges};
 ghost use Rattle.tko_model.specs.Tracker.{changed, server_at};
-ghost use Rattle.tko_runs.specs.CheckStates.{AllFit, Shows, transition_of, with_change};
+ghost use Rattle.tko_runs.specs.CheckStates.{AllValid, Shows, transition_of, with_change};
 ghost use Rattle.tko_runs.specs.States.{IsPlace, written};
 
 use crate::checking::point::CheckedCall;
@@ -31,7 +31,7 @@ pub(crate) fn effect_of(
     left: Word,
 ) -> Effect
     requires settings { IsWithinRanges settings.now }
-    requires fit { AllFit settings.now servers.now }
+    requires valid { AllValid settings.now servers.now }
     requires call { call.now.server < length servers.now }
     requires place { IsPlace servers.now place }
     ensures at { result.at ≡ at }
@@ -50,7 +50,7 @@ pub(crate) fn effect_of(
 /// Of a step that changes no server.
 fn quiet_effect(settings: &Settings, servers: &[ServerState], call: &CheckedCall, at: u64) -> Effect
     requires settings { IsWithinRanges settings.now }
-    requires fit { AllFit settings.now servers.now }
+    requires valid { AllValid settings.now servers.now }
     requires call { call.now.server < length servers.now }
     ensures at { result.at ≡ at }
     ensures shows { Shows settings.now servers.now call.now servers.now result }
@@ -75,7 +75,7 @@ fn effect_on(
     left: ServerState,
 ) -> Effect
     requires settings { IsWithinRanges settings.now }
-    requires fit { AllFit settings.now servers.now }
+    requires valid { AllValid settings.now servers.now }
     requires call { call.now.server < length servers.now }
     requires server { server < length servers.now }
     ensures at { result.at ≡ at }
@@ -98,7 +98,7 @@ fn effect_on(
 /// What the sequential tracker answers and changes for the call, in the state of these servers.
 fn own_transition(settings: &Settings, servers: &[ServerState], call: &CheckedCall) -> Transition
     requires settings { IsWithinRanges settings.now }
-    requires fit { AllFit settings.now servers.now }
+    requires valid { AllValid settings.now servers.now }
     requires call { call.now.server < length servers.now }
     ensures value { result ≡ transition_of settings.now servers.now call.now }
     ensures stamp { (server_at servers.now call.now.server).stamp + 1 < 2 ^ 64 }

@@ -3,7 +3,7 @@
 use crate::{Event, Run, RunFault, Schedule, check, play};
 use std::alloc::Global;
 use std::test::Fail;
-use tko_model::{Mark, Reply, ServerState};
+use tko_model::{Mark, Op, Reply, ServerState, Settings, WORN_STAMP};
 use tko_steps::{Kind, Place, Slots, Word};
 
 /// Two soft failures, of which the second finds no room for a mark.
@@ -130,5 +130,82 @@ fn slots_follow(rt: HostRuntime) -> Result<(), Fail> {
         let changed = fault_with(rt.alloc(), SLOTS, on_slots(kind, firm, held))?;
         assert_eq!(rt; changed, fault);
     }
+    Ok(())
+}
+
+/// A step of the only thread on the only server.
+fn alone(kind: Kind, found: ServerState, left: ServerState, answer: Option<Reply>) -> Event {
+    Event::Step {
+        thread: 0,
+        kind,
+        place: Place::Server(0),
+        found: Word::Server(found),
+        left: Word::Server(left),
+        answer,
+    }
+}
+
+/// The fault of a hard failure that looks at the server and takes these steps, where the server
+/// opens at this stamp.
+fn fault_at(alloc: Global, opened: ServerState, steps: &[Event]) -> Result<Option<RunFault>, Fail> {
+    let settings = Settings {
+        servers: 1,
+        threads: 1,
+        failures: 2,
+        limit: 1,
+        tries: 1,
+        opening_stamp: opened.stamp,
+    };
+    let mut events = Vec::new(alloc);
+    events.push(Event::Step {
+        thread: 0,
+        kind: Kind::Enrol,
+        place: Place::Enrolment,
+        found: Word::Enrolled(0),
+        left: Word::Enrolled(1),
+        answer: None,
+    })?;
+    events.push(Event::Begin {
+        thread: 0,
+        op: Op::HardFailure,
+        server: 0,
+    })?;
+    events.push(alone(Kind::Look, opened, opened, None))?;
+    events.extend_from_slice(steps)?;
+    let run = Run::of(alloc, settings, events)?;
+    Ok(check(alloc, &run).err())
+}
+
+#[test]
+fn worn_stamps_are_for_the_call_to_answer(rt: HostRuntime) -> Result<(), Fail> {
+    let took = Some(Reply::TookHard);
+    let (below, worn) = (
+        state(Mark::Up(0), WORN_STAMP - 1),
+        state(Mark::Up(0), WORN_STAMP),
+    );
+    let above = state(Mark::Up(1), WORN_STAMP + 1);
+    let marks = alone(Kind::Mark, below, state(Mark::Hard(0), WORN_STAMP), took);
+    assert_eq!(rt; fault_at(rt.alloc(), below, &[marks])?, None);
+    let marks = alone(Kind::Mark, worn, state(Mark::Hard(0), WORN_STAMP + 1), took);
+    assert_eq!(rt;
+        fault_at(rt.alloc(), worn, &[marks])?,
+        Some(RunFault::Call(1))
+    );
+    let counts = alone(Kind::Count, worn, above, None);
+    let marks = alone(
+        Kind::Mark,
+        above,
+        state(Mark::Hard(0), WORN_STAMP + 2),
+        took,
+    );
+    assert_eq!(rt;
+        fault_at(rt.alloc(), worn, &[counts, marks])?,
+        Some(RunFault::Call(1))
+    );
+    let skips = alone(Kind::Mark, worn, state(Mark::Hard(0), WORN_STAMP + 2), took);
+    assert_eq!(rt;
+        fault_at(rt.alloc(), worn, &[skips])?,
+        Some(RunFault::Step(2))
+    );
     Ok(())
 }

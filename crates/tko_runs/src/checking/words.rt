@@ -1,10 +1,11 @@
 //! What a step of each kind can leave of the word that it finds, whoever takes it.
 ghost use Rattle.std.specs.Prelude.{◌≡◌, ◌↔◌, true};
-ghost use Rattle.tko_model.specs.Tracker.{IsFit};
-ghost use Rattle.tko_runs.specs.Words.{CanLeave, CanLeaveServer, CanLeaveSlots, CanMark, IsExchange, IsGiven, IsReserved, IsSettled};
+ghost use Rattle.tko_runs.specs.Words.{CanLeave, CanLeaveServer, CanLeaveSlots, CanMark, IsExchange, IsGiven, IsReserved, IsSettled, IsValid};
+ghost use Rattle.tko_word.specs.Words.{IsMarkOf};
 
-use tko_model::{Mark, ServerState, Settings, WORN_STAMP};
+use tko_model::{Mark, ServerState, Settings};
 use tko_steps::{Kind, Slots, Word};
+use tko_word::STAMP_END;
 
 /// Whether a step of this kind can leave this of what it finds, while so many slots are held.
 pub(crate) fn can_leave(settings: &Settings, held: u32, kind: Kind, found: Word, left: Word) -> bool
@@ -57,7 +58,7 @@ fn is_exchange(
 {
     can_mark(settings, held, kind, found.mark, left.mark)
         && found.stamp.checked_add(1) == Some(left.stamp)
-        && is_fit(settings, left)
+        && is_valid(settings, left)
 }
 
 /// Whether an exchange of this kind can leave this mark in place of that one.
@@ -82,14 +83,21 @@ fn can_mark(settings: &Settings, held: u32, kind: Kind, old: Mark, new: Mark) ->
     }
 }
 
-/// Whether a server can have this mark with this stamp.
-fn is_fit(settings: &Settings, server: ServerState) -> bool
-    ensures { (result ≡ true) ↔ IsFit settings.now server.mark server.stamp }
+/// Whether there is a word of this mark and stamp.
+fn is_valid(settings: &Settings, server: ServerState) -> bool
+    ensures { (result ≡ true) ↔ IsValid settings.now server }
 {
-    match server.mark {
-        Mark::Up(count) => count < settings.failures && server.stamp <= WORN_STAMP + 2,
-        Mark::Soft(_) => server.stamp <= WORN_STAMP,
-        Mark::Hard(_) => server.stamp <= WORN_STAMP + 1,
+    is_mark_of(settings, server.mark) && server.stamp < STAMP_END
+}
+
+/// Whether the settings allow this mark.
+fn is_mark_of(settings: &Settings, mark: Mark) -> bool
+    ensures { (result ≡ true) ↔ IsMarkOf settings.now mark }
+{
+    match mark {
+        Mark::Up(count) => count < settings.failures,
+        Mark::Soft(thread) => thread < settings.threads,
+        Mark::Hard(thread) => thread < settings.threads,
     }
 }
 

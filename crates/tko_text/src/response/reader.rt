@@ -201,7 +201,7 @@ fn cas_number(mut words: Words, unique: bool) -> Option<Option<u64>>
     Some(cas)
 }
 
-/// So many bytes of data, and what follows their CR LF.
+/// The first `size` bytes, which are data, and what follows their CR LF.
 fn split_data(bytes: &[u8], size: usize) -> Result<(&[u8], &[u8]), ReadFault>
     ensures { MatchResult result
         (λ split. (length split.0.now ≡ size) × (bytes.now ≡ block split.0.now ++ split.1.now))

@@ -5,6 +5,7 @@ use Rattle.tko_steps.specs.Lost.{ExpectsWhatItSaw, HasLostEachTry}
 use Rattle.tko_steps.specs.Runs.{Call, calls_of, run}
 use Rattle.tko_steps.proofs.ChainLemmas.{ChangesAreOwn-run, IsChain-run}
 use Rattle.tko_steps.proofs.EveryCallLemmas.{SoundCalls-run, softs-le}
+use Rattle.tko_steps.proofs.KindLemmas.{HaveKinds-core, NoneIsLost-run}
 use Rattle.tko_steps.proofs.LegalLemmas.{IsSoundCall}
 use Rattle.tko_steps.proofs.LoserLemmas.{LosesToOthers-run}
 use Rattle.tko_steps.proofs.LostLemmas.{IsTried}
@@ -80,3 +81,9 @@ returns-clause-limit c = λ s ranges turns.
     let holds = Holds-run s ranges turns in
     let P : Settings → Type 0 = λ settings. softs (abstract_of (run s turns).core) ≤ settings.limit in
     subst P holds.settings (softs-le (run s turns).core holds.core)
+
+pub returns-clause-kinds : goal.returns-clause-kinds
+returns-clause-kinds c = λ s ranges turns. HaveKinds-core (run s turns).core (Holds-run s ranges turns).core
+
+pub returns-clause-sure : goal.returns-clause-sure
+returns-clause-sure c = NoneIsLost-run

@@ -1,6 +1,5 @@
 use Rattle.std.proofs.Common.{arith}
 use Rattle.std.proofs.lemmas.Grind.{common_steps}
-use Rattle.tko_word.specs.Words.{IsWord}
 use Rattle.tko_word.proofs.WordLemmas.{server_in_is}
 use Rattle.tko_word.proofs.health.pack.Goals as goal
 
