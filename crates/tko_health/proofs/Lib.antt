@@ -1,0 +1,3 @@
+mod HealthLemmas
+mod SeatingLemmas
+mod SharedLemmas

@@ -1,0 +1,254 @@
+-- The rule is kept by an enrolment, and a seat that has all passes knows which number it draws.
+use Rattle.std.proofs.Common.{◌≡◌, ℕ, zero, suc, ◌+◌, ◌%◌, ◌^◌, ◌<◌, ◌≤◌, false, List, [], ◌∷◌, ◌++◌, length, get_or, set, All, Some, count_by, refl, sym, ap, ◌∙◌, subst, inl, inr, arith}
+use Rattle.std.proofs.lemmas.Bool.{cases_Bool, cond-false, cond-true, ne_eqb}
+use Rattle.std.proofs.lemmas.List.{get_or-map, length-append, length-map, map-set}
+use Rattle.std.proofs.lemmas.List.Elements.{All-cons, All-head, All-nil, All-set, All-tail}
+use Rattle.std.proofs.lemmas.List.Sums.{sum_by-cons}
+use mathlib.Core.Option.{some, some-injective, some-ne-none}
+use lib.ListN.{get_elem?}
+use Rattle.atomic_table.specs.Table.{Allows, keeps}
+use Rattle.tko_model.specs.declared.mark.Mark.{Mark}
+use Rattle.tko_model.specs.declared.mark.Mark.TheVariants.{Up, Soft, Hard}
+use Rattle.tko_model.specs.declared.settings.Settings.{Settings}
+use Rattle.tko_model.specs.Tracker.{server_at}
+use Rattle.tko_word.specs.Words.{IsWord}
+use Rattle.tko_steps.specs.declared.phase.ThreadState.{ThreadState}
+use Rattle.tko_steps.specs.declared.phase.ThreadState.TheVariants.{NotEnrolled, Idle, InCall}
+use Rattle.tko_steps.specs.Core.{CoreState, Shared, after_enrol, is_enrolled, number_of, owner_of, thread_at}
+use Rattle.tko_steps.specs.Invariant.{IsCore}
+use Rattle.tko_steps.proofs.CoreLemmas.{IsCore-after_enrol, enrolled-le}
+use Rattle.tko_steps.proofs.CountLemmas.{bit}
+use Rattle.tko_steps.proofs.ThreadLemmas.{enrolled-lt}
+use Rattle.tko_table.specs.declared.pass.Change.{Change}
+use Rattle.tko_table.specs.declared.pass.Pass.{Pass}
+use Rattle.tko_table.specs.History.{Begins, Replays}
+use Rattle.tko_table.specs.Passes.{OwnsItsMarks, count_enrolled, enrol_first, enrolled_pass, is_marked_by}
+use Rattle.tko_table.specs.Rule.{IsKept, IsPlanned, core_in, enrolment_place, joined, shared_in, states_of}
+use Rattle.tko_table.specs.Steps.{Enrolled}
+use Rattle.tko_table.proofs.AllowsLemmas.{Rule, Seat}
+use Rattle.tko_table.proofs.HistoryLemmas.{Begins-all}
+use Rattle.tko_table.proofs.JoinedLemmas.{IsOneOf, one-joined}
+use Rattle.tko_table.proofs.SharedLemmas.{health-enrolled, shared-enrolled}
+use Rattle.tko_table.proofs.StepLemmas.{servers-some}
+
+-- ---- the first pass that isn't enrolled
+
+pub record IsFirst (passes : List Pass) : Type 0 where
+  pub earlier : List Pass
+  pub pass : Pass
+  pub later : List Pass
+  pub was : passes ≡ earlier ++ pass ∷ later
+  pub waits : pass.state ≡ NotEnrolled
+  pub enrols : (number : ℕ) (history : List Change) → enrol_first passes number history ≡ earlier ++ enrolled_pass pass number history ∷ later
+
+not_enrolled : (state : ThreadState) → is_enrolled state ≡ false → state ≡ NotEnrolled
+not_enrolled NotEnrolled e = refl
+not_enrolled (Idle number) e = cc
+not_enrolled (InCall call phase) e = cc
+
+first-open : (passes : List Pass) → count_enrolled passes < length passes → IsFirst passes
+first-open [] less = absurd (omega arith)
+first-open (pass ∷ passes) less =
+    elim (cases_Bool (is_enrolled pass.state)) [
+      | inl enrolled ↦
+          let count : count_enrolled (pass ∷ passes) ≡ count_enrolled passes + 1 = cond-true _ _ _ enrolled in
+          let rest = first-open passes (omega (arith, less, count)) in
+          record {
+            earlier = pass ∷ rest.earlier;
+            pass = rest.pass;
+            later = rest.later;
+            was = ap (λ it. pass ∷ it) rest.was;
+            waits = rest.waits;
+            enrols = λ number history.
+                cond-true (is_enrolled pass.state) (pass ∷ enrol_first passes number history) (enrolled_pass pass number history ∷ passes) enrolled
+                ∙ ap (λ it. pass ∷ it) (rest.enrols number history);
+          }
+      | inr waits ↦ record {
+        earlier = [];
+        pass = pass;
+        later = passes;
+        was = refl;
+        waits = not_enrolled pass.state waits;
+        enrols = λ number history.
+            cond-false (is_enrolled pass.state) (pass ∷ enrol_first passes number history) (enrolled_pass pass number history ∷ passes) waits;
+      }
+    ]
+
+-- ---- how many are enrolled
+
+enrolled-states : (passes : List Pass) → count_by is_enrolled (states_of passes) ≡ count_enrolled passes
+enrolled-states [] = refl
+enrolled-states (pass ∷ passes) =
+    let step = sum_by-cons (λ it. bit (is_enrolled it)) pass.state (states_of passes) in
+    let rest = enrolled-states passes in
+    elim (cases_Bool (is_enrolled pass.state)) [
+      | inl enrolled ↦
+          let count : count_enrolled (pass ∷ passes) ≡ count_enrolled passes + 1 = cond-true _ _ _ enrolled in
+          omega (arith, step, rest, count, ap bit enrolled)
+      | inr waits ↦
+          let count : count_enrolled (pass ∷ passes) ≡ count_enrolled passes = cond-false _ _ _ waits in
+          omega (arith, step, rest, count, ap bit waits)
+    ]
+
+enrolled-append : (one other : List Pass) → count_enrolled (one ++ other) ≡ count_enrolled one + count_enrolled other
+enrolled-append [] other = omega arith
+enrolled-append (pass ∷ one) other =
+    let rest = enrolled-append one other in
+    elim (cases_Bool (is_enrolled pass.state)) [
+      | inl enrolled ↦
+          let count : count_enrolled (pass ∷ one) ≡ count_enrolled one + 1 = cond-true _ _ _ enrolled in
+          let both : count_enrolled (pass ∷ one ++ other) ≡ count_enrolled (one ++ other) + 1 = cond-true _ _ _ enrolled in
+          omega (arith, rest, count, both)
+      | inr waits ↦
+          let count : count_enrolled (pass ∷ one) ≡ count_enrolled one = cond-false _ _ _ waits in
+          let both : count_enrolled (pass ∷ one ++ other) ≡ count_enrolled (one ++ other) = cond-false _ _ _ waits in
+          omega (arith, rest, count, both)
+    ]
+
+-- the passes of the other seats
+others : (views : List (List Pass)) (id : ℕ) (view : List Pass) → get_elem? views id ≡ some view
+    → (rest : List Pass) × (length (joined views) ≡ length view + length rest)
+    × (count_enrolled (joined views) ≡ count_enrolled view + count_enrolled rest)
+others [] id view e = absurd (some-ne-none view (sym e))
+others (first ∷ views) zero view e =
+    let same : first ≡ view = some-injective first view e in (
+      joined views,
+      length-append first (joined views) ∙ ap (λ it. length it + length (joined views)) same,
+      enrolled-append first (joined views) ∙ ap (λ it. count_enrolled it + count_enrolled (joined views)) same,
+    )
+others (first ∷ views) (suc id) view e =
+    let found = others views id view e in (
+      first ++ found.0,
+      omega (arith, length-append first (joined views), length-append first found.0, found.1),
+      omega (arith, enrolled-append first (joined views), enrolled-append first found.0, found.2),
+    )
+
+none-enrolled : (passes : List Pass) → length passes ≡ 0 → count_enrolled passes ≡ 0
+none-enrolled [] e = refl
+none-enrolled (pass ∷ passes) e = absurd (omega arith)
+
+-- a seat that has all passes knows how many are enrolled
+pub drawn-alone : (s : Settings) (words : List ℕ) (views : List (List Pass)) (id : ℕ) (view : List Pass) → IsKept s words views
+    → get_elem? views id ≡ some view → length view ≡ s.threads → (shared_in words).enrolled ≡ count_enrolled view
+drawn-alone s words views id view kept there all =
+    let rest = others views id view there in
+    let core = kept.core.core in
+    let long = length-map (joined views) (λ (at : Pass). at.state) in
+    let nobody = none-enrolled rest.0 (omega (arith, all, core.threads, long, rest.1)) in
+    omega (arith, core.enrolled, enrolled-states (joined views), rest.2, nobody)
+
+-- ---- the rule
+
+-- a mark names a number that was drawn
+undrawn : (enrolled : ℕ) (mark : Mark) → ((number : ℕ) → owner_of mark ≡ Some number → number < enrolled) → is_marked_by (Some enrolled) mark ≡ false
+undrawn enrolled (Up count) drawn = refl
+undrawn enrolled (Soft owner) drawn = ne_eqb owner enrolled (λ e. let low = drawn owner refl in omega arith)
+undrawn enrolled (Hard owner) drawn = ne_eqb owner enrolled (λ e. let low = drawn owner refl in omega arith)
+
+module _ (s : Settings) (words : List ℕ) (views : List (List Pass)) (id : ℕ) (before rest : List Pass) (pass : Pass)
+    (kept : IsKept s words views) (there : get_elem? views id ≡ some (before ++ pass ∷ rest)) (waits : pass.state ≡ NotEnrolled) where
+  one : IsOneOf (joined views) pass (λ new. joined (set views id (before ++ new ∷ rest)))
+  one = one-joined views id before rest pass there
+
+  pub few : (shared_in words).enrolled ≤ 64
+  few = omega (arith, enrolled-le (core_in s words (joined views)) kept.core.core, kept.core.core.settings.threads.1)
+
+  -- there is a number left for this pass
+  pub fewer : (shared_in words).enrolled < 64
+  fewer =
+      let passes = joined views in
+      let core = kept.core.core in
+      let inside : one.place < length (states_of passes) = omega (arith, one.inside, length-map passes (λ (at : Pass). at.state)) in
+      let stands_in : thread_at (core_in s words passes) one.place ≡ NotEnrolled =
+      get_or-map (λ (at : Pass). at.state) passes one.place pass NotEnrolled one.inside ∙ ap (λ (at : Pass). at.state) (one.at pass) ∙ waits in
+      omega (arith, enrolled-lt (states_of passes) one.place inside stands_in, core.enrolled, core.threads, core.settings.threads.1)
+
+  pub enrol-kept : (new_word : ℕ) → new_word ≡ (shared_in words).enrolled + 1
+      → IsKept s (set words enrolment_place new_word) (set views id (before ++ enrolled_pass pass (shared_in words).enrolled kept.history ∷ rest))
+  enrol-kept new_word is_new =
+      let number = (shared_in words).enrolled in
+      let passes = joined views in
+      let new : Pass = enrolled_pass pass number kept.history in
+      let new_words = set words enrolment_place new_word in
+      let has_one = servers-some s words views kept in
+      let servers = (shared_in words).servers in
+      let core : CoreState = core_in s words passes in
+      let inside : one.place < length (states_of passes) = omega (arith, one.inside, length-map passes (λ (at : Pass). at.state)) in
+      let stands_in : thread_at core one.place ≡ NotEnrolled =
+      get_or-map (λ (at : Pass). at.state) passes one.place pass NotEnrolled one.inside ∙ ap (λ (at : Pass). at.state) (one.at pass) ∙ waits in
+      let threads : states_of (joined (set views id (before ++ new ∷ rest))) ≡ set (states_of passes) one.place (Idle number) =
+      ap states_of (one.sets new) ∙ map-set (λ (at : Pass). at.state) passes one.place new in
+      let shared : shared_in new_words ≡ record { servers = servers; slots = (shared_in words).slots; enrolled = number + 1 } =
+      shared-enrolled words new_word has_one ∙ (λ i. record { servers = servers; slots = (shared_in words).slots; enrolled = is_new i }) in
+      let core_is : core_in s new_words (joined (set views id (before ++ new ∷ rest))) ≡ after_enrol core one.place =
+      λ i. record { settings = s; shared = shared i; threads = threads i } in
+      let same_servers : servers ≡ (shared_in new_words).servers = sym (ap (λ (it : Shared). it.servers) shared) in
+      let owned : OwnsItsMarks servers pass =
+      subst (OwnsItsMarks servers) (one.at pass) (kept.core.owned one.place pass one.inside) in
+      let owned_now : OwnsItsMarks servers new = λ at.
+      owned at ∙ ap (λ state. is_marked_by (number_of state) (server_at servers at).mark) waits
+      ∙ sym (undrawn number (server_at servers at).mark (λ other mine. kept.core.core.owners at other mine)) in
+      record {
+        core = record {
+          valid = subst (All IsWord) (sym (health-enrolled words new_word has_one)) kept.core.valid;
+          core = subst IsCore (sym core_is) (IsCore-after_enrol core one.place kept.core.core inside stands_in);
+          owned = subst (λ it. All (OwnsItsMarks it) (joined (set views id (before ++ new ∷ rest)))) same_servers
+              (subst (All (OwnsItsMarks servers)) (sym (one.sets new)) (All-set (OwnsItsMarks servers) passes one.place new owned_now kept.core.owned));
+          settings = subst (All (λ (at : Pass). at.settings ≡ s)) (sym (one.sets new))
+              (All-set (λ (at : Pass). at.settings ≡ s) passes one.place new
+              (subst (λ (at : Pass). at.settings ≡ s) (one.at pass) (kept.core.settings one.place pass one.inside)) kept.core.settings);
+        };
+        history = kept.history;
+        told = record {
+          replays = subst (λ it. Replays s kept.history it) same_servers kept.told.replays;
+          seen = subst (All (λ (at : Pass). Begins at.seen kept.history)) (sym (one.sets new))
+              (All-set (λ (at : Pass). Begins at.seen kept.history) passes one.place new (Begins-all kept.history) kept.told.seen);
+          planned = subst (All (λ (at : Pass). IsPlanned s at.state)) (sym (one.sets new))
+              (All-set (λ (at : Pass). IsPlanned s at.state) passes one.place new tt kept.told.planned);
+        };
+      }
+
+pub All-left : (P : Pass → Type 0) (one other : List Pass) → All P (one ++ other) → All P one
+All-left P [] other all = All-nil P
+All-left P (pass ∷ one) other all =
+    All-cons P pass one (All-head P pass (one ++ other) all) (All-left P one other (All-tail P pass (one ++ other) all))
+
+pub All-right : (P : Pass → Type 0) (one other : List Pass) → All P (one ++ other) → All P other
+All-right P [] other all = all
+All-right P (pass ∷ one) other all = All-right P one other (All-tail P pass (one ++ other) all)
+
+-- the passes of one seat have seen beginnings of the history
+pub seen-view : (P : Pass → Type 0) (views : List (List Pass)) (id : ℕ) (view : List Pass) → get_elem? views id ≡ some view → All P (joined views) → All P view
+seen-view P [] id view e all = absurd (some-ne-none view (sym e))
+seen-view P (first ∷ views) zero view e all =
+    subst (All P) (some-injective first view e) (All-left P first (joined views) all)
+seen-view P (first ∷ views) (suc id) view e all = seen-view P views id view e (All-right P first (joined views) all)
+
+-- an enrolment
+pub allows-enrol : (s : Settings) (slots id : ℕ) (me : Seat) → count_enrolled me.0 < length me.0
+    → Allows (Rule s) slots id me enrolment_place (λ n. (n + 1) % 2 ^ 64) (λ found new. Enrolled me found new × (new.1 ≡ me.1))
+allows-enrol s slots id me some_wait state kept homes at fits =
+    let first = first-open me.0 some_wait in
+    let there : get_elem? state.views id ≡ some (first.earlier ++ first.pass ∷ first.later) = at ∙ ap some first.was in
+    let number = get_or state.words enrolment_place 0 in
+    let few_drawn = few s state.words state.views id first.earlier first.later first.pass kept there first.waits in
+    let next : (number + 1) % 2 ^ 64 ≡ number + 1 = omega (arith, few_drawn) in
+    let same_settings = λ (pass : Pass) (rest : List Pass) (is : me.0 ≡ pass ∷ rest).
+    All-head (λ (at : Pass). at.settings ≡ s) pass rest
+    (subst (All (λ (at : Pass). at.settings ≡ s)) is (seen-view (λ (at : Pass). at.settings ≡ s) state.views id me.0 at kept.core.settings)) in (
+      first.earlier ++ enrolled_pass first.pass number kept.history ∷ first.later,
+      keeps,
+      tt,
+      enrol-kept s state.words state.views id first.earlier first.later first.pass kept there first.waits ((number + 1) % 2 ^ 64) next,
+      (
+        record {
+          history = kept.history;
+          few = fewer s state.words state.views id first.earlier first.later first.pass kept there first.waits;
+          begins = seen-view (λ (at : Pass). Begins at.seen kept.history) state.views id me.0 at kept.told.seen;
+          drew = sym (first.enrols number kept.history);
+          all = λ pass rest is long.
+              drawn-alone s state.words state.views id me.0 kept at (long ∙ ap (λ (it : Settings). it.threads) (same_settings pass rest is));
+        },
+        refl,
+      ),
+    )

@@ -1,0 +1,241 @@
+-- The rule is kept by the step of a call.
+use Rattle.std.proofs.Common.{count_by, ltb, ◌≡◌, ℕ, ◌+◌, ◌<◌, cond, List, ◌∷◌, ◌++◌, length, get_or, set, All, Some, refl, sym, ap, ◌∙◌, subst, ⊎_elim, arith, length-set, get_or-set_same, get_or-set_other}
+use Rattle.std.proofs.lemmas.Bool.{cases_eq}
+use Rattle.std.proofs.lemmas.List.{append-nil, get_or-map, length-map, map-set}
+use Rattle.std.proofs.lemmas.List.Elements.{All-from_get_or, All-set, All-weaker}
+use mathlib.Core.Option.{some}
+use lib.ListN.{get_elem?}
+use Rattle.tko_model.specs.declared.settings.Settings.{Settings}
+use Rattle.tko_model.specs.declared.state.ServerState.{ServerState}
+use Rattle.tko_model.specs.Tracker.{server_at}
+use Rattle.tko_word.specs.Words.{IsWord}
+use Rattle.tko_steps.specs.declared.phase.Call.{Call}
+use Rattle.tko_steps.specs.declared.phase.Phase.{Phase}
+use Rattle.tko_steps.specs.declared.phase.ThreadState.TheVariants.{NotEnrolled, InCall}
+use Rattle.tko_steps.specs.declared.table.Decision.{Decision}
+use Rattle.tko_steps.specs.declared.table.Decision.TheVariants.{Goes, Answers}
+use Rattle.tko_steps.specs.declared.table.Seen.{Seen}
+use Rattle.tko_model.specs.declared.mark.Mark.{Mark}
+use Rattle.tko_model.specs.declared.mark.Mark.TheVariants.{Up, Soft, Hard}
+use Rattle.tko_steps.specs.Core.{Shared, after_act, has_number, number_of, seen_by, shared_after, thread_at, names, word_at}
+use Rattle.tko_steps.specs.Steps.{owned_after as owned_after_core, place_of}
+use Rattle.tko_steps.proofs.OwnedLemmas.{own-step}
+use Rattle.tko_steps.specs.Steps.{is_done, state_after}
+use Rattle.tko_steps.specs.Invariant.{IsCore}
+use Rattle.tko_steps.specs.Table.{action_of, next_of}
+use Rattle.tko_steps.proofs.CoreLemmas.{IsCore-after_act, knows_at}
+use Rattle.tko_steps.proofs.ThreadLemmas.{number-once}
+use Rattle.tko_table.specs.declared.pass.Change.{Change}
+use Rattle.tko_table.specs.declared.pass.Pass.{Pass}
+use Rattle.tko_table.specs.History.{Begins, Replays, change_by}
+use Rattle.tko_table.specs.Passes.{OwnsItsMarks, after_step, changes_by, is_marked_by, owns}
+use Rattle.tko_table.specs.Rule.{IsKept, IsPlanned, IsPlannedAt, core_in, health_in, joined, shared_in, states_of}
+use Rattle.tko_table.specs.Steps.{Takes}
+use Rattle.tko_table.proofs.EffectLemmas.{Effect, IsQuiet, IsWritten, effect-of}
+use Rattle.tko_table.proofs.HistoryLemmas.{Begins-all, Begins-more, Replays-push}
+use Rattle.tko_table.proofs.JoinedLemmas.{IsOneOf, one-joined}
+use Rattle.tko_table.proofs.OwnedLemmas.{owned-other, owned-own}
+use Rattle.tko_table.proofs.PlanLemmas.{plans-next}
+
+-- ---- each half, once one pass of a list has changed
+
+number-state_after : (call : Call) (decision : Decision) → number_of (state_after call decision) ≡ Some call.number
+number-state_after call (Goes lost phase) = refl
+number-state_after call (Answers answer) = refl
+
+-- a fact of each pass, where one pass has changed, and those of the others may rest on their numbers
+pub each-set : (P Q : Pass → Type 0) (passes : List Pass) (place number enrolled : ℕ) (old new : Pass) → place < length passes
+    → ((d : Pass) → get_or passes place d ≡ old) → number_of old.state ≡ Some number
+    → ((at : ℕ) → count_by (has_number at) (states_of passes) ≡ cond (ltb at enrolled) 1 0)
+    → Q new → ((pass : Pass) → (number_of pass.state ≡ Some number → ⊥) → P pass → Q pass)
+    → All P passes → All Q (set passes place new)
+each-set P Q passes place number enrolled old new inside stands named each mine others all =
+    let threads = states_of passes in
+    let same_length : length threads ≡ length passes = length-map passes (λ pass. pass.state) in
+    let state_at : (i : ℕ) → i < length passes → get_or threads i NotEnrolled ≡ (get_or passes i old).state =
+    λ i it. get_or-map (λ pass. pass.state) passes i old NotEnrolled it in
+    let mine_at : number_of (get_or threads place NotEnrolled) ≡ Some number =
+    ap number_of (state_at place inside) ∙ ap (λ (pass : Pass). number_of pass.state) (stands old) ∙ named in
+    All-from_get_or Q (set passes place new) old (λ i at.
+    let was : i < length passes = rw length-set at at in
+    ⊎_elim
+    (λ (same : i ≡ place). rw (same, get_or-set_same passes place new old inside) mine)
+    (λ (apart : i ≡ place → ⊥).
+    rw (get_or-set_other passes place i new old apart)
+    (others (get_or passes i old)
+    (λ theirs. apart (number-once threads enrolled place i number each (omega (arith, same_length, inside)) (omega (arith, same_length, was)) mine_at
+    (ap number_of (state_at i was) ∙ theirs)))
+    (all i old was)))
+    (cases_eq i place))
+
+names-is : (number : ℕ) (mark : Mark) → is_marked_by (Some number) mark ≡ names mark (Some number)
+names-is number (Up count) = refl
+names-is number (Soft owner) = refl
+names-is number (Hard owner) = refl
+
+-- ---- the step of a call
+
+module _ (s : Settings) (words new_words : List ℕ) (views : List (List Pass)) (id : ℕ) (before rest : List Pass) (pass : Pass) (call : Call)
+    (phase : Phase) (kept : IsKept s words views) (there : get_elem? views id ≡ some (before ++ pass ∷ rest))
+    (stands : pass.state ≡ InCall call phase)
+    (left : shared_in new_words ≡ shared_after (shared_in words) call.server (action_of call.number phase))
+    (valid : All IsWord (health_in new_words)) where
+  abbrev it : Seen
+  it = seen_by (shared_in words) call.server (action_of call.number phase)
+
+  abbrev pub history_after : List Change
+  history_after = kept.history ++ changes_by call phase (is_done it)
+
+  abbrev pub pass_after : Pass
+  pass_after = after_step pass call phase it history_after
+
+  one : IsOneOf (joined views) pass (λ new. joined (set views id (before ++ new ∷ rest)))
+  one = one-joined views id before rest pass there
+
+  same_settings : pass.settings ≡ s
+  same_settings = subst (λ (at : Pass). at.settings ≡ s) (one.at pass) (kept.core.settings one.place pass one.inside)
+
+  planned : IsPlannedAt s call phase
+  planned =
+      let mine = subst (λ (at : Pass). IsPlanned s at.state) (one.at pass) (kept.told.planned one.place pass one.inside) in
+      subst (IsPlanned s) stands mine
+
+  inside : one.place < length (states_of (joined views))
+  inside = omega (arith, one.inside, length-map (joined views) (λ (at : Pass). at.state))
+
+  stands_in : thread_at (core_in s words (joined views)) one.place ≡ InCall call phase
+  stands_in = get_or-map (λ (at : Pass). at.state) (joined views) one.place pass NotEnrolled one.inside ∙ ap (λ (at : Pass). at.state) (one.at pass) ∙ stands
+
+  state_is : pass_after.state ≡ state_after call (next_of s call phase it)
+  state_is = ap (λ (with_settings : Settings). state_after call (next_of with_settings call phase it)) same_settings
+
+  threads_are : states_of (joined (set views id (before ++ pass_after ∷ rest)))
+      ≡ set (states_of (joined views)) one.place (state_after call (next_of s call phase it))
+  threads_are =
+      ap states_of (one.sets pass_after) ∙ map-set (λ (at : Pass). at.state) (joined views) one.place pass_after
+      ∙ ap (set (states_of (joined views)) one.place) state_is
+
+  core_is : core_in s new_words (joined (set views id (before ++ pass_after ∷ rest)))
+      ≡ after_act (core_in s words (joined views)) one.place call phase
+  core_is = λ i. record { settings = s; shared = left i; threads = threads_are i }
+
+  core_after : IsCore (core_in s new_words (joined (set views id (before ++ pass_after ∷ rest))))
+  core_after =
+      subst IsCore (sym core_is) (IsCore-after_act (core_in s words (joined views)) one.place call kept.core.core inside phase stands_in)
+
+  effect : Effect s call (shared_in words).servers (shared_in new_words).servers pass.owned pass_after.owned (changes_by call phase (is_done it))
+  effect =
+      subst (λ (shared : Shared). Effect s call (shared_in words).servers shared.servers pass.owned pass_after.owned (changes_by call phase (is_done it)))
+      (sym left) (effect-of (core_in s words (joined views)) one.place call kept.core.core inside pass.owned phase stands_in planned)
+
+  named : number_of pass.state ≡ Some call.number
+  named = ap number_of stands
+
+  named_after : number_of pass_after.state ≡ Some call.number
+  named_after = number-state_after call (next_of pass.settings call phase it)
+
+  owned_before : OwnsItsMarks (shared_in words).servers pass
+  owned_before = subst (OwnsItsMarks (shared_in words).servers) (one.at pass) (kept.core.owned one.place pass one.inside)
+
+  -- the owned servers of each pass, by what the step did
+  owned_by : Effect s call (shared_in words).servers (shared_in new_words).servers pass.owned pass_after.owned (changes_by call phase (is_done it))
+      → All (OwnsItsMarks (shared_in new_words).servers) (set (joined views) one.place pass_after)
+  owned_by =
+      ⊎_elim
+      (λ (quiet : IsQuiet (shared_in words).servers (shared_in new_words).servers pass.owned pass_after.owned (changes_by call phase (is_done it))).
+      subst (λ servers. All (OwnsItsMarks servers) (set (joined views) one.place pass_after)) (sym quiet.same)
+      (All-set (OwnsItsMarks (shared_in words).servers) (joined views) one.place pass_after
+      (λ server. ap (λ owned. owns owned server) quiet.kept ∙ owned_before server
+      ∙ ap (λ number. is_marked_by number (server_at (shared_in words).servers server).mark) (named ∙ sym named_after))
+      kept.core.owned))
+      (λ (write : IsWritten s call (shared_in words).servers (shared_in new_words).servers pass.owned pass_after.owned (changes_by call phase (is_done it))).
+      let servers = (shared_in words).servers in
+      let now : ServerState = record { mark = write.mark; stamp = (server_at servers call.server).stamp + 1 } in
+      subst (λ new. All (OwnsItsMarks new) (set (joined views) one.place pass_after)) (sym write.wrote)
+      (each-set (OwnsItsMarks servers) (OwnsItsMarks (set servers call.server now)) (joined views) one.place call.number (shared_in words).enrolled
+      pass pass_after one.inside one.at named kept.core.core.numbers
+      (λ server. ap (λ owned. owns owned server) write.gained
+      ∙ owned-own servers pass.owned call.server call.number now write.inside write.only
+      (λ at. owned_before at ∙ ap (λ number. is_marked_by number (server_at servers at).mark) named) server
+      ∙ ap (λ number. is_marked_by number (server_at (set servers call.server now) server).mark) (sym named_after))
+      (λ other apart owns_its. owned-other servers other.owned call.server call.number (number_of other.state) now write.inside write.was write.only apart owns_its)
+      kept.core.owned))
+
+  replays_by : Effect s call (shared_in words).servers (shared_in new_words).servers pass.owned pass_after.owned (changes_by call phase (is_done it))
+      → Replays s history_after (shared_in new_words).servers
+  replays_by =
+      ⊎_elim
+      (λ (quiet : IsQuiet (shared_in words).servers (shared_in new_words).servers pass.owned pass_after.owned (changes_by call phase (is_done it))).
+      let same : kept.history ≡ history_after = sym (append-nil kept.history) ∙ ap (λ more. kept.history ++ more) (sym quiet.none) in
+      subst (λ servers. Replays s history_after servers) (sym quiet.same)
+      (subst (λ history. Replays s history (shared_in words).servers) same kept.told.replays))
+      (λ (write : IsWritten s call (shared_in words).servers (shared_in new_words).servers pass.owned pass_after.owned (changes_by call phase (is_done it))).
+      let servers = (shared_in words).servers in
+      let same = ap (λ more. kept.history ++ more) (sym write.change) in
+      subst (λ new. Replays s history_after new) (sym write.wrote)
+      (subst (λ history. Replays s history (set servers call.server (record { mark = write.mark; stamp = (server_at servers call.server).stamp + 1 }))) same
+      (Replays-push s kept.history servers (change_by call write.answer) write.mark kept.told.replays write.decides)))
+
+  planned_after : IsPlanned s pass_after.state
+  planned_after = subst (IsPlanned s) (sym state_is) (plans-next s call (shared_in words) phase planned)
+
+  pub act-kept : IsKept s new_words (set views id (before ++ pass_after ∷ rest))
+  act-kept =
+      let to = one.sets pass_after in
+      record {
+        core = record {
+          valid = valid;
+          core = core_after;
+          owned = subst (All (OwnsItsMarks (shared_in new_words).servers)) (sym to) (owned_by effect);
+          settings = subst (All (λ (at : Pass). at.settings ≡ s)) (sym to)
+              (All-set (λ (at : Pass). at.settings ≡ s) (joined views) one.place pass_after same_settings kept.core.settings);
+        };
+        history = history_after;
+        told = record {
+          replays = replays_by effect;
+          seen = subst (All (λ (at : Pass). Begins at.seen history_after)) (sym to)
+              (All-set (λ (at : Pass). Begins at.seen history_after) (joined views) one.place pass_after (Begins-all history_after)
+              (All-weaker (λ (at : Pass). Begins at.seen kept.history) (λ (at : Pass). Begins at.seen history_after)
+              (λ at begins. Begins-more at.seen kept.history (changes_by call phase (is_done it)) begins) (joined views) kept.told.seen));
+          planned = subst (All (λ (at : Pass). IsPlanned s at.state)) (sym to)
+              (All-set (λ (at : Pass). IsPlanned s at.state) (joined views) one.place pass_after planned_after kept.told.planned);
+        };
+      }
+
+  begins : Begins pass.seen kept.history
+  begins = subst (λ (at : Pass). Begins at.seen kept.history) (one.at pass) (kept.told.seen one.place pass one.inside)
+
+  owns_after : OwnsItsMarks (shared_in new_words).servers pass_after
+  owns_after =
+      let inside_after : one.place < length (set (joined views) one.place pass_after) = rw length-set one.inside in
+      subst (OwnsItsMarks (shared_in new_words).servers) (get_or-set_same (joined views) one.place pass_after pass one.inside)
+      (owned_by effect one.place pass inside_after)
+
+  -- the core's step leaves it the same servers to own
+  gained : (server : ℕ) → owns pass_after.owned server
+      ≡ owned_after_core call phase (word_at (shared_in words) (place_of call.server (action_of call.number phase))) (owns pass.owned) server
+  gained server =
+      let knows = knows_at (core_in s words (joined views)) one.place call kept.core.core inside phase stands_in in
+      owns_after server ∙ ap (λ number. is_marked_by number (server_at (shared_in new_words).servers server).mark) named_after
+      ∙ names-is call.number (server_at (shared_in new_words).servers server).mark
+      ∙ ap (λ (shared : Shared). names (server_at shared.servers server).mark (Some call.number)) left
+      ∙ sym (own-step s (shared_in words) call phase knows (owns pass.owned)
+      (λ at. owned_before at ∙ ap (λ number. is_marked_by number (server_at (shared_in words).servers at).mark) named
+      ∙ names-is call.number (server_at (shared_in words).servers at).mark) server)
+
+  pub act-takes : Takes pass call phase it pass_after
+  act-takes =
+      record {
+        shared = shared_in words;
+        between = begins.rest;
+        found = subst (λ with_settings. Replays with_settings (pass.seen ++ begins.rest) (shared_in words).servers) (sym same_settings)
+            (subst (λ history. Replays s history (shared_in words).servers) begins.is kept.told.replays);
+        reads = refl;
+        left = subst (λ with_settings. Replays with_settings history_after (shared_after (shared_in words) call.server (action_of call.number phase)).servers)
+            (sym same_settings)
+            (subst (λ (shared : Shared). Replays s history_after shared.servers) left (replays_by effect));
+        own = λ server.
+            owned_before server ∙ ap (λ number. is_marked_by number (server_at (shared_in words).servers server).mark) named;
+        gained = gained;
+        knows = ap (λ history. after_step pass call phase it (history ++ changes_by call phase (is_done it))) begins.is;
+      }

@@ -1,0 +1,16 @@
+pub mod AllowsLemmas
+pub mod BeginLemmas
+pub mod EffectLemmas
+pub mod EnrolLemmas
+pub mod HistoryLemmas
+pub mod JoinLemmas
+pub mod JoinedLemmas
+pub mod KeptLemmas
+pub mod OpenLemmas
+pub mod OpeningLemmas
+pub mod OwnedLemmas
+pub mod PlanLemmas
+pub mod SharedLemmas
+pub mod SplitLemmas
+pub mod StepLemmas
+pub mod ValueLemmas

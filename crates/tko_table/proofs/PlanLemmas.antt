@@ -1,0 +1,77 @@
+-- What a call is about to do stays what the sequential tracker does.
+use Rattle.std.proofs.Common.{Bool, cond}
+use Rattle.std.proofs.lemmas.Bool.{cond_both}
+use Rattle.tko_model.specs.declared.mark.Reply.TheVariants.{Contended, Full}
+use Rattle.tko_model.specs.declared.settings.Settings.{Settings}
+use Rattle.tko_model.specs.declared.state.ServerState.{ServerState}
+use Rattle.tko_steps.specs.declared.phase.Call.{Call}
+use Rattle.tko_steps.specs.declared.phase.Phase.{Phase}
+use Rattle.tko_steps.specs.declared.phase.Phase.TheVariants.{Start, Read, AtThreshold, Limit, Reserving, Holding, Firming, Losing, Loosening, Loosened, Emptied}
+use Rattle.tko_steps.specs.declared.table.Decision.{Decision}
+use Rattle.tko_steps.specs.declared.table.Decision.TheVariants.{Goes, Answers}
+use Rattle.tko_steps.specs.Core.{Shared, seen_by}
+use Rattle.tko_steps.specs.Steps.{state_after}
+use Rattle.tko_steps.specs.Table.{action_of, from_start, goes, lost_try, next_of, same_server}
+use Rattle.tko_model.specs.Tracker.{server_at}
+use Rattle.std.proofs.Common.{eqb, ◌+◌}
+use Rattle.tko_steps.proofs.StartLemmas.{Says, Says-from_start}
+use Rattle.tko_table.specs.Rule.{IsPlanned, IsPlannedAt}
+
+-- what a decision plans
+abbrev pub Plans : Settings → Call → Decision → Type 0
+Plans s call decision = IsPlanned s (state_after call decision)
+
+plans-says : (s : Settings) (call : Call) (now : ServerState) (decision : Decision) → Says s call.number call.op now decision
+    → Plans s call decision
+plans-says s call now (Answers answer) says = tt
+plans-says s call now (Goes lost Start) says = tt
+plans-says s call now (Goes lost (Read found mark answer)) says = says.1
+plans-says s call now (Goes lost (AtThreshold found)) says = says.1
+plans-says s call now (Goes lost (Limit found)) says = absurd says
+plans-says s call now (Goes lost (Reserving found slots)) says = absurd says
+plans-says s call now (Goes lost (Holding found)) says = absurd says
+plans-says s call now (Goes lost Firming) says = tt
+plans-says s call now (Goes lost Losing) says = tt
+plans-says s call now (Goes lost (Loosening found mark answer)) says = says.1
+plans-says s call now (Goes lost (Loosened found mark answer)) says = absurd says
+plans-says s call now (Goes lost (Emptied answer)) says = tt
+
+plans-lost_try : (s : Settings) (call : Call) → Plans s call (lost_try s call)
+plans-lost_try s call =
+    cond_both (eqb s.tries (call.lost + 1)) (Answers Contended) (Goes (call.lost + 1) Start) (Plans s call) (λ last. tt) (λ left. tt)
+
+either : (s : Settings) (call : Call) (test : Bool) (one other : Decision) → Plans s call one → Plans s call other
+    → Plans s call (cond test one other)
+either s call test one other first second = cond_both test one other (Plans s call) (λ e. first) (λ e. second)
+
+module _ (s : Settings) (call : Call) (shared : Shared) where
+  now : ServerState
+  now = server_at shared.servers call.server
+
+  -- what follows the step of this phase on these words
+  abbrev pub Follows : Phase → Type 0
+  Follows phase = Plans s call (next_of s call phase (seen_by shared call.server (action_of call.number phase)))
+
+  pub plans-next : (phase : Phase) → IsPlannedAt s call phase → Follows phase
+  plans-next Start planned =
+      plans-says s call (server_at shared.servers call.server) (from_start s call (server_at shared.servers call.server))
+      (Says-from_start s call (server_at shared.servers call.server))
+  plans-next (Read found mark answer) planned =
+      either s call (same_server (server_at shared.servers call.server) found) (Answers answer) (lost_try s call) tt (plans-lost_try s call)
+  plans-next (AtThreshold found) planned =
+      either s call (eqb shared.slots.firm s.limit) (goes call (Limit found))
+      (cond (eqb (shared.slots.firm + shared.slots.held) s.limit) (lost_try s call) (goes call (Reserving found shared.slots)))
+      planned
+      (either s call (eqb (shared.slots.firm + shared.slots.held) s.limit) (lost_try s call) (goes call (Reserving found shared.slots))
+      (plans-lost_try s call) planned)
+  plans-next (Limit found) planned =
+      either s call (same_server found (server_at shared.servers call.server)) (Answers Full) (lost_try s call) tt (plans-lost_try s call)
+  plans-next (Reserving found slots) planned =
+      either s call _ (goes call (Holding found)) (lost_try s call) planned (plans-lost_try s call)
+  plans-next (Holding found) planned =
+      either s call (same_server (server_at shared.servers call.server) found) (goes call Firming) (goes call Losing) tt tt
+  plans-next Firming planned = tt
+  plans-next Losing planned = plans-lost_try s call
+  plans-next (Loosening found mark answer) planned = planned
+  plans-next (Loosened found mark answer) planned = tt
+  plans-next (Emptied answer) planned = tt

@@ -1,0 +1,269 @@
+-- Each atomic step on a word is the core's step on what the word holds.
+use Rattle.std.proofs.Common.{◌≡◌, ℕ, ◌+◌, ◌-◌, ◌%◌, ◌^◌, ◌<◌, ◌≤◌, Bool, true, false, cond, eqb, List, ◌∷◌, ◌++◌, length, get_or, set, All, None, Some, refl, sym, ap, ◌∙◌, subst, arith, inl, inr}
+use Rattle.std.proofs.lemmas.Bool.{cases_Bool, cond-false, cond-true, eqb-true}
+use Rattle.std.proofs.lemmas.List.{get_or-map, length-map}
+use Rattle.std.proofs.lemmas.List.Elements.{All-set}
+use mathlib.Core.Option.{some}
+use lib.ListN.{get_elem?}
+use prog.Atomic.{either}
+use Rattle.tko_model.specs.declared.mark.Mark.{Mark}
+use Rattle.tko_model.specs.declared.mark.Mark.TheVariants.{Up, Soft, Hard}
+use Rattle.tko_model.specs.declared.settings.Settings.{Settings}
+use Rattle.tko_model.specs.declared.state.ServerState.{ServerState}
+use Rattle.tko_model.specs.Tracker.{IsFit, server_at}
+use Rattle.tko_word.specs.Words.{IsMarkOf, IsWord, firm_in, held_in, server_in}
+use Rattle.tko_steps.specs.declared.phase.Call.{Call}
+use Rattle.tko_steps.specs.declared.phase.Phase.{Phase}
+use Rattle.tko_steps.specs.declared.phase.Phase.TheVariants.{Start, Read, AtThreshold, Limit, Reserving, Holding, Firming, Losing, Loosening, Loosened, Emptied}
+use Rattle.tko_steps.specs.Invariant.{IsFoundBy, IsPhase}
+use Rattle.tko_steps.specs.Steps.{is_marked_state}
+use Rattle.tko_steps.specs.declared.phase.Slots.{Slots}
+use Rattle.tko_steps.specs.declared.phase.ThreadState.TheVariants.{NotEnrolled, InCall}
+use Rattle.tko_steps.specs.declared.table.Action.{Action}
+use Rattle.tko_steps.specs.declared.table.Action.TheVariants as action
+use Rattle.tko_steps.specs.declared.table.Seen.TheVariants as read
+use Rattle.tko_steps.specs.Core.{CanAct, owner_of, seen_by, shared_after, thread_at}
+use Rattle.tko_steps.specs.Table.{action_of, same_server, same_slots}
+use Rattle.tko_steps.proofs.CoreLemmas.{CanAct-at, enrolled-le, knows_at}
+use Rattle.tko_table.specs.declared.pass.Pass.{Pass}
+use Rattle.tko_table.specs.Rule.{IsKept, core_in, health_in, health_place, joined, shared_in, slots_in, soft_place, states_of}
+use Rattle.tko_table.specs.Steps.{IsSoundWord, IsWithinLimit, read_in}
+use Rattle.tko_table.proofs.JoinedLemmas.{one-joined}
+use Rattle.tko_table.proofs.SharedLemmas.{given-is, health-get, health-set, health-soft, loosened-is, server-there, set-same, settled-is, shared-health, shared-soft, slots-expected, word-expected}
+
+-- what the change of one word has to do: it leaves what the core's step leaves, and the step reads what was found
+pub record IsStepOn (words new_words : List ℕ) (server : ℕ) (act : Action) (found : ℕ) : Type 0 where
+  pub left : shared_in new_words ≡ shared_after (shared_in words) server act
+  pub valid : All IsWord (health_in new_words)
+  pub reads : seen_by (shared_in words) server act ≡ read_in act found
+
+-- ---- what the rule says of the words
+
+pub servers-some : (s : Settings) (words : List ℕ) (views : List (List Pass)) → IsKept s words views → 0 < length (shared_in words).servers
+servers-some s words views kept = omega (arith, kept.core.core.count, kept.core.core.settings.servers.0)
+
+-- what the step of a call under way needs
+pub can-act : (s : Settings) (words : List ℕ) (views : List (List Pass)) (id : ℕ) (before rest : List Pass) (pass : Pass) (call : Call) (phase : Phase)
+    → IsKept s words views → get_elem? views id ≡ some (before ++ pass ∷ rest) → pass.state ≡ InCall call phase
+    → CanAct (shared_in words) call.server (action_of call.number phase)
+can-act s words views id before rest pass call phase kept there stands =
+    let one = one-joined views id before rest pass there in
+    let passes = joined views in
+    let inside : one.place < length (states_of passes) = omega (arith, one.inside, length-map passes (λ (at : Pass). at.state)) in
+    let stands_in : thread_at (core_in s words passes) one.place ≡ InCall call phase =
+    get_or-map (λ (at : Pass). at.state) passes one.place pass NotEnrolled one.inside ∙ ap (λ (at : Pass). at.state) (one.at pass) ∙ stands in
+    CanAct-at (core_in s words passes) one.place call kept.core.core inside phase stands_in
+
+-- what was found marked by its own thread still stands
+found-by : (number : ℕ) (now found : ServerState) (mark : Mark) → is_marked_state mark ≡ true → IsFoundBy number now found mark → now ≡ found
+found-by number now found (Up count) marked by = cc
+found-by number now found (Soft owner) marked by = absurd by
+found-by number now found (Hard owner) marked by = by.1
+
+not-fresh : (mark : Mark) → owner_of mark ≡ None → is_marked_state mark ≡ true → ⊥
+not-fresh (Up count) none marked = cc
+not-fresh (Soft owner) none marked = cc
+not-fresh (Hard owner) none marked = cc
+
+-- a call that expects its own mark: the mark still stands
+found-own : (s : Settings) (number : ℕ) (now : ServerState) (phase : Phase) (found : ServerState) (mark : Mark) → IsPhase s number now phase
+    → action_of number phase ≡ action.Exchange found mark → is_marked_state found.mark ≡ true → now ≡ found
+found-own s number now Start found mark knows is marked = cc
+found-own s number now (Read before new answer) found mark knows is marked =
+    let same : before ≡ found = cc in
+    let marked_before : is_marked_state before.mark ≡ true = ap (λ (it : ServerState). is_marked_state it.mark) same ∙ marked in
+    found-by number now before before.mark marked_before knows.1 ∙ same
+found-own s number now (AtThreshold before) found mark knows is marked = cc
+found-own s number now (Limit before) found mark knows is marked = cc
+found-own s number now (Reserving before slots) found mark knows is marked = cc
+found-own s number now (Holding before) found mark knows is marked =
+    let same : before ≡ found = cc in
+    absurd (not-fresh before.mark knows.0 (ap (λ (it : ServerState). is_marked_state it.mark) same ∙ marked))
+found-own s number now Firming found mark knows is marked = cc
+found-own s number now Losing found mark knows is marked = cc
+found-own s number now (Loosening before new answer) found mark knows is marked = cc
+found-own s number now (Loosened before new answer) found mark knows is marked =
+    let same : before ≡ found = cc in knows.2 ∙ same
+found-own s number now (Emptied answer) found mark knows is marked = cc
+
+pub own-stands : (s : Settings) (words : List ℕ) (views : List (List Pass)) (id : ℕ) (before rest : List Pass) (pass : Pass) (call : Call) (phase : Phase)
+    (found : ServerState) (mark : Mark) → IsKept s words views → get_elem? views id ≡ some (before ++ pass ∷ rest) → pass.state ≡ InCall call phase
+    → action_of call.number phase ≡ action.Exchange found mark → is_marked_state found.mark ≡ true
+    → server_in (get_or words (health_place call.server) 0) ≡ found
+own-stands s words views id before rest pass call phase found mark kept there stands is marked =
+    let one = one-joined views id before rest pass there in
+    let passes = joined views in
+    let inside : one.place < length (states_of passes) = omega (arith, one.inside, length-map passes (λ (at : Pass). at.state)) in
+    let stands_in : thread_at (core_in s words passes) one.place ≡ InCall call phase =
+    get_or-map (λ (at : Pass). at.state) passes one.place pass NotEnrolled one.inside ∙ ap (λ (at : Pass). at.state) (one.at pass) ∙ stands in
+    let knows = knows_at (core_in s words passes) one.place call kept.core.core inside phase stands_in in
+    sym (server-there words call.server knows.0)
+    ∙ found-own s call.number (server_at (shared_in words).servers call.server) phase found mark knows.2 is marked
+
+allowed-mark : (s : Settings) (enrolled : ℕ) (mark : Mark) (stamp : ℕ) → IsFit s mark stamp → enrolled ≤ s.threads
+    → ((number : ℕ) → owner_of mark ≡ Some number → number < enrolled) → IsMarkOf s mark
+allowed-mark s enrolled (Up count) stamp fit le drawn = fit.0
+allowed-mark s enrolled (Soft owner) stamp fit le drawn = omega (arith, drawn owner refl, le)
+allowed-mark s enrolled (Hard owner) stamp fit le drawn = omega (arith, drawn owner refl, le)
+
+pub all-sound : (s : Settings) (words : List ℕ) (views : List (List Pass)) → IsKept s words views → (server : ℕ)
+    → server < length (shared_in words).servers → IsSoundWord s (get_or words (health_place server) 0)
+all-sound s words views kept server inside =
+    let core = kept.core.core in
+    let there = server-there words server inside in
+    let in_health : server < length (health_in words) = omega (arith, inside, length-map (health_in words) server_in) in
+    let unread : ServerState = record { mark = Up 0; stamp = 0 } in
+    let fit : IsFit s (server_at (shared_in words).servers server).mark (server_at (shared_in words).servers server).stamp = core.fit server unread inside in
+    let P : ServerState → Type 0 = λ it. IsFit s it.mark it.stamp in
+    let Q : ServerState → Type 0 = λ it. IsMarkOf s it.mark in
+    record {
+      valid = subst IsWord (sym (health-get words server)) (kept.core.valid server 0 in_health);
+      allowed = subst Q there (allowed-mark s (shared_in words).enrolled (server_at (shared_in words).servers server).mark
+          (server_at (shared_in words).servers server).stamp fit (enrolled-le (core_in s words (joined views)) core) (λ number owned. core.owners server number owned));
+      fit = subst P there fit;
+    }
+
+pub slots-within : (s : Settings) (words : List ℕ) (views : List (List Pass)) → IsKept s words views
+    → IsWithinLimit s (slots_in (get_or words soft_place 0))
+slots-within s words views kept = record { room = kept.core.core.room }
+
+-- ---- looks
+
+pub looks-at-server : (words : List ℕ) (server : ℕ) → All IsWord (health_in words) → server < length (shared_in words).servers
+    → IsStepOn words (set words (health_place server) (get_or words (health_place server) 0)) server action.LookAtServer
+    (get_or words (health_place server) 0)
+looks-at-server words server valid inside =
+    let same = set-same words (health_place server) in
+    record {
+      left = ap shared_in same;
+      valid = subst (λ it. All IsWord (health_in it)) (sym same) valid;
+      reads = ap read.Server (server-there words server inside);
+    }
+
+pub looks-at-slots : (words : List ℕ) (server : ℕ) → All IsWord (health_in words)
+    → IsStepOn words (set words soft_place (get_or words soft_place 0)) server action.LookAtSlots (get_or words soft_place 0)
+looks-at-slots words server valid =
+    let same = set-same words soft_place in
+    record {
+      left = ap shared_in same;
+      valid = subst (λ it. All IsWord (health_in it)) (sym same) valid;
+      reads = refl;
+    }
+
+-- ---- exchanges
+
+pub exchanges : (words : List ℕ) (server expected new : ℕ) (found : ServerState) (mark : Mark) → All IsWord (health_in words)
+    → server < length (shared_in words).servers → IsWord expected → server_in expected ≡ found
+    → IsWord new → server_in new ≡ record { mark = mark; stamp = found.stamp + 1 }
+    → IsStepOn words
+    (set words (health_place server) (either (eqb (get_or words (health_place server) 0) expected) new (get_or words (health_place server) 0)))
+    server (action.Exchange found mark) (get_or words (health_place server) 0)
+exchanges words server expected new found mark valid inside is_expected expects is_new leaves =
+    let n = get_or words (health_place server) 0 in
+    let servers = (shared_in words).servers in
+    let left_server : ServerState = record { mark = mark; stamp = found.stamp + 1 } in
+    let there : server_at servers server ≡ server_in n = server-there words server inside in
+    let in_health : server < length (health_in words) = omega (arith, inside, length-map (health_in words) server_in) in
+    let is_n : IsWord n = subst IsWord (sym (health-get words server)) (valid server 0 in_health) in
+    let tests : eqb n expected ≡ same_server (server_at servers server) found =
+    word-expected n expected found is_n is_expected expects ∙ ap (λ (it : ServerState). same_server it found) (sym there) in
+    let reads = ap (λ (it : ServerState). read.Done (same_server it found)) there in
+    let P : Bool → Type 0 = λ test. IsStepOn words (set words (health_place server) (either test new n)) server (action.Exchange found mark) n in
+    elim (cases_Bool (eqb n expected)) as (λ test. P (eqb n expected)) [
+      | inl won ↦
+          let same : same_server (server_at servers server) found ≡ true = sym tests ∙ won in
+          let servers_are : set servers server (server_in new)
+          ≡ cond (same_server (server_at servers server) found) (set servers server left_server) servers =
+          ap (set servers server) leaves ∙ sym (cond-true _ _ _ same) in
+          subst P (sym won) (record {
+            left = shared-health words server new
+                ∙ (λ i. record { servers = servers_are i; slots = (shared_in words).slots; enrolled = (shared_in words).enrolled });
+            valid = subst (All IsWord) (sym (health-set words server new)) (All-set IsWord (health_in words) server new is_new valid);
+            reads = reads;
+          })
+      | inr lost ↦
+          let same : same_server (server_at servers server) found ≡ false = sym tests ∙ lost in
+          let kept = set-same words (health_place server) in
+          let servers_are : servers ≡ cond (same_server (server_at servers server) found) (set servers server left_server) servers =
+          sym (cond-false _ _ _ same) in
+          subst P (sym lost) (record {
+            left = ap shared_in kept
+                ∙ (λ i. record { servers = servers_are i; slots = (shared_in words).slots; enrolled = (shared_in words).enrolled });
+            valid = subst (λ it. All IsWord (health_in it)) (sym kept) valid;
+            reads = reads;
+          })
+    ]
+
+-- ---- the soft word
+
+-- a change of the soft word that leaves these counts
+on-soft : (words : List ℕ) (server new : ℕ) (after : Slots) (act : Action) (found : ℕ) → All IsWord (health_in words) → 0 < length (shared_in words).servers
+    → slots_in new ≡ after
+    → record { servers = (shared_in words).servers; slots = after; enrolled = (shared_in words).enrolled } ≡ shared_after (shared_in words) server act
+    → seen_by (shared_in words) server act ≡ read_in act found
+    → IsStepOn words (set words soft_place new) server act found
+on-soft words server new after act found valid has_one leaves is reads =
+    record {
+      left = shared-soft words new has_one
+          ∙ (λ i. record { servers = (shared_in words).servers; slots = leaves i; enrolled = (shared_in words).enrolled }) ∙ is;
+      valid = subst (All IsWord) (sym (health-soft words new has_one)) valid;
+      reads = reads;
+    }
+
+slots_are : (new firm held : ℕ) → firm_in new ≡ firm → held_in new ≡ held → slots_in new ≡ record { firm = firm; held = held }
+slots_are new firm held one other = λ i. record { firm = one i; held = other i }
+
+pub settles : (words : List ℕ) (server : ℕ) → All IsWord (health_in words) → 0 < length (shared_in words).servers
+    → get_or words soft_place 0 < 2 ^ 64 → CanAct (shared_in words) server action.Settle
+    → IsStepOn words (set words soft_place ((get_or words soft_place 0 + (2 ^ 64 - 4294967295)) % 2 ^ 64)) server action.Settle (get_or words soft_place 0)
+settles words server valid has_one fits can =
+    let n = get_or words soft_place 0 in
+    let is = settled-is n fits can.0 can.1 in
+    on-soft words server _ (record { firm = firm_in n + 1; held = held_in n - 1 }) action.Settle n valid has_one (slots_are _ _ _ is.0 is.1) refl refl
+
+pub loosens : (words : List ℕ) (server : ℕ) → All IsWord (health_in words) → 0 < length (shared_in words).servers
+    → get_or words soft_place 0 < 2 ^ 64 → CanAct (shared_in words) server action.Loosen
+    → IsStepOn words (set words soft_place ((get_or words soft_place 0 + 4294967295) % 2 ^ 64)) server action.Loosen (get_or words soft_place 0)
+loosens words server valid has_one fits can =
+    let n = get_or words soft_place 0 in
+    let is = loosened-is n fits can.0 can.1 in
+    on-soft words server _ (record { firm = firm_in n - 1; held = held_in n + 1 }) action.Loosen n valid has_one (slots_are _ _ _ is.0 is.1) refl refl
+
+pub gives : (words : List ℕ) (server : ℕ) → All IsWord (health_in words) → 0 < length (shared_in words).servers
+    → get_or words soft_place 0 < 2 ^ 64 → CanAct (shared_in words) server action.Give
+    → IsStepOn words (set words soft_place ((get_or words soft_place 0 + (2 ^ 64 - 4294967296)) % 2 ^ 64)) server action.Give (get_or words soft_place 0)
+gives words server valid has_one fits can =
+    let n = get_or words soft_place 0 in
+    let is = given-is n fits can in
+    on-soft words server _ (record { firm = firm_in n; held = held_in n - 1 }) action.Give n valid has_one (slots_are _ _ _ is.0 is.1) refl refl
+
+reserved-is : (word : ℕ) → word < 2 ^ 64 → held_in word + 1 < 2 ^ 32
+    → (firm_in ((word + 4294967296) % 2 ^ 64) ≡ firm_in word) × (held_in ((word + 4294967296) % 2 ^ 64) ≡ held_in word + 1)
+unfolding firm_in held_in
+reserved-is word fits room = (omega arith, omega arith)
+
+pub reserves : (words : List ℕ) (server expected : ℕ) (slots : Slots) → All IsWord (health_in words) → 0 < length (shared_in words).servers
+    → get_or words soft_place 0 < 2 ^ 64 → CanAct (shared_in words) server (action.Reserve slots) → slots_in expected ≡ slots
+    → IsStepOn words
+    (set words soft_place (either (eqb (get_or words soft_place 0) expected) ((expected + 4294967296) % 2 ^ 64) (get_or words soft_place 0)))
+    server (action.Reserve slots) (get_or words soft_place 0)
+reserves words server expected slots valid has_one fits can expects =
+    let n = get_or words soft_place 0 in
+    let new = (expected + 4294967296) % 2 ^ 64 in
+    let now = (shared_in words).slots in
+    let one_more : Slots = record { firm = now.firm; held = now.held + 1 } in
+    let tests : eqb n expected ≡ same_slots now slots = slots-expected n expected slots expects in
+    let P : Bool → Type 0 = λ test. IsStepOn words (set words soft_place (either test new n)) server (action.Reserve slots) n in
+    elim (cases_Bool (eqb n expected)) as (λ test. P (eqb n expected)) [
+      | inl won ↦
+          let same : n ≡ expected = eqb-true n expected won in
+          let is = reserved-is n fits can in
+          let leaves : slots_in new ≡ one_more = ap (λ it. slots_in ((it + 4294967296) % 2 ^ 64)) (sym same) ∙ slots_are _ _ _ is.0 is.1 in
+          let after : cond (same_slots now slots) one_more now ≡ one_more = cond-true _ _ _ (sym tests ∙ won) in
+          subst P (sym won) (on-soft words server new one_more (action.Reserve slots) n valid has_one leaves
+          (λ i. record { servers = (shared_in words).servers; slots = sym after i; enrolled = (shared_in words).enrolled }) refl)
+      | inr lost ↦
+          let after : cond (same_slots now slots) one_more now ≡ now = cond-false _ _ _ (sym tests ∙ lost) in
+          subst P (sym lost) (on-soft words server n now (action.Reserve slots) n valid has_one refl
+          (λ i. record { servers = (shared_in words).servers; slots = sym after i; enrolled = (shared_in words).enrolled }) refl)
+    ]

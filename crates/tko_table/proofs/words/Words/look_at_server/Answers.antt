@@ -1,0 +1,34 @@
+use Rattle.std.proofs.Common.{ap, refl, subst}
+use Rattle.tko_model.specs.declared.settings.Settings.{Settings}
+use Rattle.tko_model.specs.declared.state.ServerState.{ServerState}
+use Rattle.tko_model.specs.Tracker.{IsFit}
+use Rattle.tko_word.specs.Words.{IsMarkOf}
+use Rattle.tko_steps.specs.declared.table.Action.{Action}
+use Rattle.tko_steps.specs.declared.table.Action.TheVariants.{LookAtServer}
+use Rattle.tko_steps.specs.declared.table.Seen.{Seen}
+use Rattle.tko_steps.specs.declared.table.Seen.TheVariants as read
+use Rattle.tko_table.specs.Steps.{Took, IsSoundWord, read_in, view_of}
+use Rattle.tko_table.proofs.words.Words.look_at_server.Goals as goal
+
+pub unpack-mark-requires : goal.unpack-mark-requires
+unpack-mark-requires c =
+    (c.load.ensures.looked.sound c.requires.stands.pass c.requires.stands.alone).valid
+
+pub returns-clause-step : goal.returns-clause-step
+returns-clause-step c =
+    let at = c.requires.stands in
+    let took = c.load.ensures.looked.plays at.pass c.args.call.now c.args.phase at.alone refl at.stands in
+    let P : Seen → Type 0 = λ it. Took (view_of c.args.seat.now) c.args.call.now c.args.phase it (view_of c.load.new.seat) in
+    let Q : Action → Type 0 = λ it. P (read_in it c.load.result) in
+    let is_look : Q LookAtServer = subst Q c.requires.kind took in
+    subst P (ap read.Server c.unpack-mark.ensures.read) is_look
+
+pub returns-clause-sound : goal.returns-clause-sound
+returns-clause-sound c =
+    let at = c.requires.stands in
+    let sound = c.load.ensures.looked.sound at.pass at.alone in
+    let P : Settings → Type 0 = λ it. IsSoundWord it c.load.result in
+    let here = subst P at.settings sound in
+    let Q : ServerState → Type 0 = λ it.
+    IsMarkOf c.args.self.now.settings it.mark × IsFit c.args.self.now.settings it.mark it.stamp in
+    subst Q c.unpack-mark.ensures.read (here.allowed, here.fit)

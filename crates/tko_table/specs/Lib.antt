@@ -1,0 +1,6 @@
+pub mod Callers
+pub mod History
+pub mod Opening
+pub mod Passes
+pub mod Rule
+pub mod Steps

@@ -1,0 +1,132 @@
+-- What a pass knows, and what a step of its own changes of it.
+use Rattle.std.specs.Prelude.{◌≡◌, ℕ, ◌+◌, Bool, false, ◌==◌, ◌||◌, if◌then◌else◌, List, [], ◌∷◌, Option, Some, None, replicate, nat_lt, length, map}
+use Rattle.tko_model.specs.declared.mark.Mark.{Mark}
+use Rattle.tko_model.specs.declared.mark.Mark.TheVariants.{Up, Soft, Hard}
+use Rattle.tko_model.specs.declared.mark.Reply.TheVariants.{TookSoft}
+use Rattle.tko_model.specs.declared.settings.Settings.{Settings}
+use Rattle.tko_model.specs.declared.state.ServerState.{ServerState}
+use Rattle.tko_model.specs.Tracker.{server_at}
+use Rattle.tko_steps.specs.declared.phase.Call.{Call}
+use Rattle.tko_steps.specs.declared.phase.Phase.{Phase}
+use Rattle.tko_steps.specs.declared.phase.Phase.TheVariants.{Read, Holding, Loosened}
+use Rattle.tko_steps.specs.declared.phase.ThreadState.TheVariants.{NotEnrolled, Idle}
+use Rattle.tko_steps.specs.declared.table.Action.{Action}
+use Rattle.tko_steps.specs.declared.table.Action.TheVariants.{Exchange}
+use Rattle.tko_steps.specs.declared.table.Seen.{Seen}
+use Rattle.tko_steps.specs.Core.{is_enrolled, number_of}
+use Rattle.tko_steps.specs.Steps.{is_done, state_after}
+use Rattle.tko_steps.specs.Table.{action_of, next_of}
+use Rattle.tko_table.specs.declared.pass.Change.{Change}
+use Rattle.tko_table.specs.declared.pass.Pass.{Pass}
+use Rattle.tko_table.specs.History.{change_by}
+
+-- a pass that took no step, and the passes of all threads before their first
+abbrev pub new_pass : Settings → Pass
+new_pass s = record { state = NotEnrolled; owned = []; steps = 0; seen = []; settings = s }
+
+abbrev pub new_passes : Settings → List Pass
+new_passes s = replicate s.threads (new_pass s)
+
+-- whether the thread with this number, if it has one, made the mark
+abbrev pub is_marked_by : Option ℕ → Mark → Bool
+is_marked_by None mark = false
+is_marked_by (Some number) (Up count) = false
+is_marked_by (Some number) (Soft owner) = owner == number
+is_marked_by (Some number) (Hard owner) = owner == number
+
+-- whether a server is among those owned
+abbrev pub owns : List ℕ → ℕ → Bool
+owns [] server = false
+owns (own ∷ owned) server = (own == server) || owns owned server
+
+abbrev pub without : ℕ → List ℕ → List ℕ
+without server [] = []
+without server (own ∷ owned) =
+    if own == server then without server owned else own ∷ without server owned
+
+-- the owned servers once the thread gave this server this mark
+abbrev pub owned_with : List ℕ → ℕ → Mark → List ℕ
+owned_with owned server (Up count) = without server owned
+owned_with owned server mark = server ∷ without server owned
+
+-- the owned servers after a step; only an exchange that is won changes them
+abbrev pub owned_after : List ℕ → ℕ → Action → Bool → List ℕ
+owned_after owned server (Exchange found mark) won =
+    if won then owned_with owned server mark else owned
+owned_after owned server action won = owned
+
+-- the change of a mark that a call at this phase makes, if its exchange is won
+abbrev pub change_at : Call → Phase → List Change
+change_at call (Read found mark answer) = change_by call answer ∷ []
+change_at call (Holding found) = change_by call TookSoft ∷ []
+change_at call (Loosened found mark answer) = change_by call answer ∷ []
+change_at call phase = []
+
+abbrev pub changes_by : Call → Phase → Bool → List Change
+changes_by call phase won = if won then change_at call phase else []
+
+-- the pass once its call, at this phase, took the step that read this, and saw this history
+abbrev pub after_step : Pass → Call → Phase → Seen → List Change → Pass
+after_step pass call phase read history =
+    record {
+      state = state_after call (next_of pass.settings call phase read);
+      owned =
+          owned_after pass.owned call.server (action_of call.number phase) (is_done read);
+      steps = pass.steps + 1;
+      seen = history;
+      settings = pass.settings;
+    }
+
+-- the pass owns exactly the servers whose marks name its number
+abbrev pub OwnsItsMarks : List ServerState → Pass → Type 0
+OwnsItsMarks servers pass =
+    (server : ℕ) →
+    owns pass.owned server ≡ is_marked_by (number_of pass.state) (server_at servers server).mark
+
+-- the pass once it drew this number, and saw this history
+abbrev pub enrolled_pass : Pass → ℕ → List Change → Pass
+enrolled_pass pass number history =
+    record {
+      state = Idle number;
+      owned = pass.owned;
+      steps = pass.steps + 1;
+      seen = history;
+      settings = pass.settings;
+    }
+
+-- the passes once the first of them that isn't enrolled drew this number
+abbrev pub enrol_first : List Pass → ℕ → List Change → List Pass
+enrol_first [] number history = []
+enrol_first (pass ∷ passes) number history =
+    if is_enrolled pass.state
+    then pass ∷ enrol_first passes number history
+    else enrolled_pass pass number history ∷ passes
+
+-- how many of these passes are enrolled
+abbrev pub count_enrolled : List Pass → ℕ
+count_enrolled [] = 0
+count_enrolled (pass ∷ passes) =
+    if is_enrolled pass.state then count_enrolled passes + 1 else count_enrolled passes
+
+-- the longest history that one of these passes has seen
+abbrev pub longest_seen : List Pass → List Change
+longest_seen [] = []
+longest_seen (pass ∷ passes) =
+    if nat_lt (length (longest_seen passes)) (length pass.seen)
+    then pass.seen
+    else longest_seen passes
+
+-- the pass once it has seen this history
+abbrev pub with_seen : List Change → Pass → Pass
+with_seen history pass =
+    record {
+      state = pass.state;
+      owned = pass.owned;
+      steps = pass.steps;
+      seen = history;
+      settings = pass.settings;
+    }
+
+-- joined passes: each has then seen what any of them had seen
+abbrev pub raised : List Pass → List Pass
+raised passes = map (with_seen (longest_seen passes)) passes

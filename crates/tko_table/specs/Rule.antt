@@ -1,0 +1,115 @@
+-- The rule of the words: what holds of them and of the passes of all seats between any two steps.
+use Rattle.std.specs.Prelude.{◌≡◌, ℕ, ◌+◌, Bool, if◌then◌else◌, List, [], ◌∷◌, ◌++◌, map, drop, slice_index, All}
+use Rattle.tko_model.specs.declared.mark.Mark.{Mark}
+use Rattle.tko_model.specs.declared.mark.Mark.TheVariants.{Soft}
+use Rattle.tko_model.specs.declared.mark.Reply.{Reply}
+use Rattle.tko_model.specs.declared.mark.Reply.TheVariants.{Full, TookSoft}
+use Rattle.tko_model.specs.declared.settings.Settings.{Settings}
+use Rattle.tko_model.specs.declared.state.ServerState.{ServerState}
+use Rattle.tko_model.specs.Tracker.{becomes, stays, transition}
+use Rattle.tko_word.specs.Words.{IsWord, firm_in, held_in, server_in}
+use Rattle.tko_steps.specs.declared.phase.Call.{Call}
+use Rattle.tko_steps.specs.declared.phase.Phase.{Phase}
+use Rattle.tko_steps.specs.declared.phase.Phase.TheVariants.{Read, AtThreshold, Limit, Reserving, Holding, Loosening, Loosened}
+use Rattle.tko_steps.specs.declared.phase.Slots.{Slots}
+use Rattle.tko_steps.specs.declared.phase.ThreadState.{ThreadState}
+use Rattle.tko_steps.specs.declared.phase.ThreadState.TheVariants.{InCall}
+use Rattle.tko_steps.specs.Core.{CoreState, Shared, opened_words}
+use Rattle.tko_steps.specs.Invariant.{IsCore}
+use Rattle.tko_table.specs.declared.pass.Change.{Change}
+use Rattle.tko_table.specs.declared.pass.Pass.{Pass}
+use Rattle.tko_table.specs.History.{Begins, Replays}
+use Rattle.tko_table.specs.Passes.{OwnsItsMarks}
+
+-- the words in their order: the soft word, the enrolment word, the health word of each server
+abbrev pub soft_place : ℕ
+soft_place = 0
+
+abbrev pub enrolment_place : ℕ
+enrolment_place = 1
+
+abbrev pub health_place : ℕ → ℕ
+health_place server = server + 2
+
+abbrev pub health_in : List ℕ → List ℕ
+health_in words = drop 2 words
+
+abbrev pub slots_in : ℕ → Slots
+slots_in word = record { firm = firm_in word; held = held_in word }
+
+-- what the words hold
+abbrev pub shared_in : List ℕ → Shared
+shared_in words =
+    record {
+      servers = map server_in (health_in words);
+      slots = slots_in (slice_index words soft_place);
+      enrolled = slice_index words enrolment_place;
+    }
+
+-- the words as they open: each server up, no slot taken, no thread enrolled
+pub record IsOpened (s : Settings) (words : List ℕ) : Type 0 where
+  pub valid : All IsWord (health_in words)
+  pub shared : shared_in words ≡ opened_words s
+
+-- the passes of all seats
+abbrev pub joined : List (List Pass) → List Pass
+joined [] = []
+joined (view ∷ views) = view ++ joined views
+
+abbrev pub states_of : List Pass → List ThreadState
+states_of passes = map (λ pass. pass.state) passes
+
+-- the words and the passes are this state of the core
+abbrev pub core_in : Settings → List ℕ → List Pass → CoreState
+core_in s words passes =
+    record { settings = s; shared = shared_in words; threads = states_of passes }
+
+-- the words and the passes are a state of the core that meets the core's invariant
+pub record IsCoreHalf (s : Settings) (words : List ℕ) (passes : List Pass) : Type 0 where
+  pub valid : All IsWord (health_in words)
+  pub core : IsCore (core_in s words passes)
+  pub owned : All (OwnsItsMarks (shared_in words).servers) passes
+  pub settings : All (λ pass. pass.settings ≡ s) passes
+
+-- on the server as it was found, the operation puts this mark there, whatever room there is
+abbrev pub Puts : Settings → Call → ServerState → Mark → Reply → Type 0
+Puts s call found mark answer =
+    (room : Bool) →
+    transition s room call.number call.op found.mark found.stamp ≡ becomes mark answer
+
+-- on the server as it was found, the operation makes a soft mark, where there is room
+abbrev pub MarksSoft : Settings → Call → ServerState → Type 0
+MarksSoft s call found =
+    (room : Bool) →
+    transition s room call.number call.op found.mark found.stamp
+    ≡ (if room then becomes (Soft call.number) TookSoft else stays Full)
+
+-- what a call at this phase is about to do is what the sequential tracker does
+abbrev pub IsPlannedAt : Settings → Call → Phase → Type 0
+IsPlannedAt s call (Read found mark answer) = Puts s call found mark answer
+IsPlannedAt s call (AtThreshold found) = MarksSoft s call found
+IsPlannedAt s call (Limit found) = MarksSoft s call found
+IsPlannedAt s call (Reserving found slots) = MarksSoft s call found
+IsPlannedAt s call (Holding found) = MarksSoft s call found
+IsPlannedAt s call (Loosening found mark answer) = Puts s call found mark answer
+IsPlannedAt s call (Loosened found mark answer) = Puts s call found mark answer
+IsPlannedAt s call phase = Unit {0}
+
+abbrev pub IsPlanned : Settings → ThreadState → Type 0
+IsPlanned s (InCall call phase) = IsPlannedAt s call phase
+IsPlanned s state = Unit {0}
+
+-- the servers are the replay of the history, and each pass has seen a beginning of it
+pub record IsToldHalf
+    (s : Settings) (servers : List ServerState) (passes : List Pass) (history : List Change)
+    : Type 0
+  where
+    pub replays : Replays s history servers
+    pub seen : All (λ pass. Begins pass.seen history) passes
+    pub planned : All (λ pass. IsPlanned s pass.state) passes
+
+-- the rule, in two halves that share the servers alone
+pub record IsKept (s : Settings) (words : List ℕ) (views : List (List Pass)) : Type 0 where
+  pub core : IsCoreHalf s words (joined views)
+  pub history : List Change
+  pub told : IsToldHalf s (shared_in words).servers (joined views) history

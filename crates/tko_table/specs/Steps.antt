@@ -1,0 +1,204 @@
+-- What each step function promises: the core's step of the phase, on plain data.
+use Rattle.std.specs.Prelude.{All, Some, length, ◌≡◌, ℕ, ◌+◌, ◌<◌, ◌≤◌, Bool, true, false, List, [], ◌∷◌, ◌++◌}
+use Rattle.atomic_table.specs.declared.shared.Seat.{Seat}
+use Rattle.atomic_table.specs.Table.{Me}
+use Rattle.tko_model.specs.declared.mark.Mark.{Mark}
+use Rattle.tko_model.specs.declared.mark.Op.{Op}
+use Rattle.tko_model.specs.declared.settings.Settings.{Settings}
+use Rattle.tko_model.specs.declared.state.ServerState.{ServerState}
+use Rattle.tko_model.specs.Tracker.{IsFit, server_at}
+use Rattle.tko_word.specs.Words.{IsMark, IsMarkOf, IsWord, most_threads, server_in, stamp_end}
+use Rattle.tko_steps.specs.declared.phase.Call.{Call}
+use Rattle.tko_steps.specs.declared.phase.Phase.{Phase}
+use Rattle.tko_steps.specs.declared.phase.ThreadState.TheVariants.{InCall}
+use Rattle.tko_steps.specs.declared.table.Action.{Action}
+use Rattle.tko_steps.specs.declared.table.Action.TheVariants.{LookAtServer, LookAtSlots, Exchange, Settle, Loosen}
+use Rattle.tko_steps.specs.declared.table.Seen.{Seen}
+use Rattle.tko_steps.specs.declared.table.Seen.TheVariants as read
+use Rattle.tko_steps.specs.Core.{Shared, seen_by, shared_after, word_at}
+use Rattle.tko_steps.specs.Steps.{in_call, is_done, is_marked_state, seen_in, owned_after, place_of}
+use Rattle.tko_steps.specs.declared.step.Word.{Word}
+use Rattle.tko_steps.specs.declared.step.Word.TheVariants as held
+use Rattle.tko_steps.specs.Table.{action_of}
+use Rattle.tko_table.specs.declared.pass.Change.{Change}
+use Rattle.tko_table.specs.declared.pass.Pass.{Pass}
+use Rattle.tko_table.specs.History.{Begins, Replays}
+use Rattle.tko_table.specs.Passes.{after_step, changes_by, count_enrolled, enrol_first, is_marked_by, owns}
+use Rattle.tko_steps.specs.declared.phase.Slots.{Slots}
+use Rattle.tko_table.specs.Rule.{health_place, slots_in}
+
+-- what a seat knows: its passes
+abbrev pub view_of : Seat (Unit {0}) (List Pass) → List Pass
+view_of seat = seat.me.0
+
+-- a step leaves a seat in its table, with no slot more
+abbrev pub IsSameSeat : Seat (Unit {0}) (List Pass) → Seat (Unit {0}) (List Pass) → Type 0
+IsSameSeat old new = (new.table_id ≡ old.table_id) × (new.me.1 ≡ old.me.1)
+
+-- what the number in the word of a step holds
+abbrev pub held_by : Action → ℕ → Word
+held_by LookAtServer number = held.Server (server_in number)
+held_by (Exchange found mark) number = held.Server (server_in number)
+held_by action number = held.Soft (slots_in number)
+
+-- what a step reads in the number that it found in its word
+abbrev pub read_in : Action → ℕ → Seen
+read_in action number = seen_in action (held_by action number)
+
+-- a step of this call at this phase, by the pass of a thread: it finds the words of some core whose
+-- servers are the replay of what the pass then has seen; it reads and leaves what the core's step
+-- does; and a change that it makes goes last in the history
+pub record Takes (before : Pass) (call : Call) (phase : Phase) (it : Seen) (after : Pass) : Type 0
+  where
+    pub shared : Shared
+    -- the changes since the pass looked last
+    pub between : List Change
+    pub found : Replays before.settings (before.seen ++ between) shared.servers
+    pub reads : it ≡ seen_by shared call.server (action_of call.number phase)
+    pub left :
+        Replays
+        before.settings
+        after.seen
+        (shared_after shared call.server (action_of call.number phase)).servers
+    -- the servers that its thread owns are those whose marks name it
+    pub own : (server : ℕ) →
+        owns before.owned server
+        ≡ is_marked_by (Some call.number) (server_at shared.servers server).mark
+    -- the servers that it then owns are those that the core's step leaves it
+    pub gained : (server : ℕ) →
+        owns after.owned server
+        ≡ owned_after
+        call
+        phase
+        (word_at shared (place_of call.server (action_of call.number phase)))
+        (owns before.owned)
+        server
+    pub knows : after
+        ≡ after_step
+        before
+        call
+        phase
+        it
+        ((before.seen ++ between) ++ changes_by call phase (is_done it))
+
+-- the seat's one pass took that step, which read this
+pub record Took (before : List Pass) (call : Call) (phase : Phase) (it : Seen) (after : List Pass)
+    : Type 0 where
+  pub old : Pass
+  pub new : Pass
+  pub was : before ≡ old ∷ []
+  pub is : after ≡ new ∷ []
+  pub takes : Takes old call phase it new
+
+-- what a step on a word tells the pass of a call: it took the step of its phase
+abbrev pub Plays : Me (Unit {0}) (List Pass) → ℕ → Me (Unit {0}) (List Pass) → Type 0
+Plays old found new =
+    (pass : Pass) (call : Call) (phase : Phase) →
+    old.0 ≡ pass ∷ [] →
+    pass.state ≡ InCall call phase →
+    Took old.0 call phase (read_in (action_of call.number phase) found) new.0
+
+-- a health word that was found: a mark that the settings allow, and a stamp that fits it
+pub record IsSoundWord (s : Settings) (word : ℕ) : Type 0 where
+  pub valid : IsWord word
+  pub allowed : IsMarkOf s (server_in word).mark
+  pub fit : IsFit s (server_in word).mark (server_in word).stamp
+
+-- a soft word that was found: no more slots are taken than the limit allows
+pub record IsWithinLimit (s : Settings) (slots : Slots) : Type 0 where
+  pub room : slots.firm + slots.held ≤ s.limit
+
+-- what a load of a server's word tells: the call that is under way, or that begins with this
+-- operation on this server, took the step of its phase
+pub record Looked
+    (op : Op) (word : ℕ) (old : Me (Unit {0}) (List Pass)) (found : ℕ) (new : Me (Unit {0}) (List Pass))
+    : Type 0
+  where
+    pub plays : (pass : Pass) (call : Call) (phase : Phase) →
+        old.0 ≡ pass ∷ [] →
+        word ≡ health_place call.server →
+        in_call pass.state op call.server ≡ InCall call phase →
+        Took old.0 call phase (read_in (action_of call.number phase) found) new.0
+    pub sound : (pass : Pass) → old.0 ≡ pass ∷ [] → IsSoundWord pass.settings found
+
+-- what an exchange of a server's word tells; a mark that its own call expects still stands
+pub record Exchanged
+    (word : ℕ) (old : Me (Unit {0}) (List Pass)) (found : ℕ) (new : Me (Unit {0}) (List Pass)) : Type 0
+  where
+    pub plays : Plays old found new
+    pub valid : IsWord found
+    pub stands : (pass : Pass) (call : Call) (phase : Phase) (expected : ServerState) (mark : Mark) →
+        old.0 ≡ pass ∷ [] →
+        word ≡ health_place call.server →
+        pass.state ≡ InCall call phase →
+        action_of call.number phase ≡ Exchange expected mark →
+        is_marked_state expected.mark ≡ true →
+        server_in found ≡ expected
+
+-- what a load of the soft word tells
+pub record LookedAtSlots
+    (old : Me (Unit {0}) (List Pass)) (found : ℕ) (new : Me (Unit {0}) (List Pass)) : Type 0
+  where
+    pub plays : Plays old found new
+    pub within : (pass : Pass) → old.0 ≡ pass ∷ [] → IsWithinLimit pass.settings (slots_in found)
+
+-- the seat's one pass may take the step of this call at this phase: the call is under way
+pub record IsAt (view : List Pass) (call : Call) (phase : Phase) : Type 0 where
+  pub pass : Pass
+  pub alone : view ≡ pass ∷ []
+  pub stands : pass.state ≡ InCall call phase
+
+-- the same under these settings, or the call begins here with this operation
+pub record CanLook (s : Settings) (op : Op) (view : List Pass) (call : Call) (phase : Phase) : Type 0
+  where
+    pub pass : Pass
+    pub alone : view ≡ pass ∷ []
+    pub stands : in_call pass.state op call.server ≡ InCall call phase
+    pub settings : pass.settings ≡ s
+
+-- the step is a look
+abbrev pub IsLook : Action → Type 0
+IsLook LookAtServer = Unit {0}
+IsLook LookAtSlots = Unit {0}
+IsLook action = ⊥
+
+-- the step settles a soft mark, or loosens one
+abbrev pub IsShift : Action → Type 0
+IsShift Settle = Unit {0}
+IsShift Loosen = Unit {0}
+IsShift action = ⊥
+
+abbrev pub is_look_at_slots : Action → Bool
+is_look_at_slots LookAtSlots = true
+is_look_at_slots action = false
+
+abbrev pub is_settle : Action → Bool
+is_settle Settle = true
+is_settle action = false
+
+-- what a look found: a server whose mark and stamp the settings allow, or slots within the limit
+abbrev pub IsSound : Settings → Seen → Type 0
+IsSound s (read.Server found) = IsMarkOf s found.mark × IsFit s found.mark found.stamp
+IsSound s (read.Slots slots) = slots.firm + slots.held ≤ s.limit
+IsSound s (read.Done won) = Unit {0}
+
+-- an exchange whose words can be packed
+pub record IsWritable (found : ServerState) (mark : Mark) : Type 0 where
+  pub expected : IsMark found.mark
+  pub new : IsMark mark
+  pub below : found.stamp + 1 < stamp_end
+
+-- the first of these passes that isn't enrolled drew this number; where they are all passes that there
+-- are, it is how many of them were enrolled
+pub record Enrols (before : List Pass) (number : ℕ) (after : List Pass) : Type 0 where
+  pub history : List Change
+  pub begins : All (λ pass. Begins pass.seen history) before
+  pub drew : after ≡ enrol_first before number history
+  pub few : number < most_threads
+  pub all : (pass : Pass) (rest : List Pass) →
+      before ≡ pass ∷ rest →
+      length before ≡ pass.settings.threads → number ≡ count_enrolled before
+
+-- what an enrolment tells
+abbrev pub Enrolled : Me (Unit {0}) (List Pass) → ℕ → Me (Unit {0}) (List Pass) → Type 0
+Enrolled old found new = Enrols old.0 found new.0

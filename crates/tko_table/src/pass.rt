@@ -1,0 +1,31 @@
+//! What a thread knows. No value of a pass or a change is made: contracts speak of them.
+
+use std::collections::LinkedList;
+use tko_model::{Op, Reply, Settings};
+use tko_steps::ThreadState;
+
+/// A change of a server's mark, by an operation of the thread with this number.
+pub struct Change {
+    pub number: u32,
+    pub op: Op,
+    pub server: usize,
+    pub reply: Reply,
+}
+
+/// What one thread knows.
+pub struct Pass {
+    pub state: ThreadState,
+    /// The servers whose marks name the thread.
+    pub owned: LinkedList<usize>,
+    /// How many steps the thread took.
+    pub steps: u64,
+    /// The history as it was at the thread's last step.
+    pub seen: LinkedList<Change>,
+    pub settings: Settings,
+}
+
+/// What a seat knows: one pass, or those of several threads.
+pub type View = LinkedList<Pass>;
+
+/// A token of no bytes with which a thread steps.
+pub type Seat = atomic_table::Seat<(), View>;

@@ -1,0 +1,5 @@
+pub mod KnowsLemmas
+pub mod OwnedLemmas
+pub mod PassLemmas
+pub mod RetireLemmas
+pub mod RunLemmas

@@ -1,0 +1,195 @@
+-- A call under way: what its loop keeps from step to step.
+use Rattle.std.proofs.Common.{◌≡◌, ℕ, ◌+◌, ◌<◌, ◌≤◌, true, eqb, List, [], ◌∷◌, refl, sym, ap, ◌∙◌, subst, arith}
+use Rattle.std.proofs.lemmas.Bool.{cond_both}
+use Rattle.tko_model.specs.declared.mark.Mark.{Mark}
+use Rattle.tko_model.specs.declared.mark.Mark.TheVariants.{Up, Soft, Hard}
+use Rattle.tko_model.specs.declared.mark.Op.{Op}
+use Rattle.tko_model.specs.declared.mark.Op.TheVariants.{LookUp}
+use Rattle.tko_model.specs.declared.mark.Reply.{Reply}
+use Rattle.tko_model.specs.declared.mark.Reply.TheVariants.{Marked}
+use Rattle.tko_model.specs.declared.settings.Settings.{Settings}
+use Rattle.tko_model.specs.declared.state.ServerState.{ServerState}
+use Rattle.tko_model.specs.Looks.{look_reply}
+use Rattle.tko_model.specs.Ranges.{IsWithinRanges}
+use Rattle.tko_steps.specs.declared.phase.Call.{Call}
+use Rattle.tko_steps.specs.declared.phase.Phase.{Phase}
+use Rattle.tko_steps.specs.declared.phase.Phase.TheVariants.{Start}
+use Rattle.tko_steps.specs.declared.phase.ThreadState.TheVariants.{Idle, InCall}
+use Rattle.tko_steps.specs.declared.table.Decision.{Decision}
+use Rattle.tko_steps.specs.declared.table.Decision.TheVariants.{Goes, Answers}
+use Rattle.tko_steps.specs.declared.table.Seen.{Seen}
+use Rattle.tko_steps.specs.declared.table.Seen.TheVariants as seen
+use Rattle.tko_steps.specs.Cost.{most_steps}
+use Rattle.tko_steps.specs.Steps.{begun_by, in_call, is_done, state_after}
+use Rattle.tko_steps.specs.Table.{action_of, from_mark, from_up_by, next_of, on_others, on_own_hard_by, on_own_soft_by}
+use Rattle.tko_table.specs.declared.pass.Pass.{Pass}
+use Rattle.tko_table.specs.Passes.{owned_after, owns}
+use Rattle.tko_table.specs.Steps.{IsSound}
+use Rattle.tko_tracker.specs.Calls.{Called, GoesOn, IsStep, Leads, Taken, answers_owner, can_answer, owned_left}
+use Rattle.tko_tracker.specs.Running.{CanCall, IsReady, Ran, Stepped}
+use Rattle.tko_tracker.proofs.KnowsLemmas.{Knows, KnowsAfter, knows-next, left}
+
+-- the call of the pass that the view had first, at this phase
+pub record IsUnderWay
+    (s : Settings) (number : ℕ) (op : Op) (server : ℕ) (before : List Pass) (call : Call) (phase : Phase) (view : List Pass) : Type 0
+  where
+    pub first : Pass
+    pub now : Pass
+    pub was : before ≡ first ∷ []
+    pub is : view ≡ now ∷ []
+    pub idle : first.state ≡ Idle number
+    pub same : first.settings ≡ s
+    pub settings : now.settings ≡ s
+    pub within : number < s.threads
+    pub by : call.number ≡ number
+    pub does : call.op ≡ op
+    pub on : call.server ≡ server
+    pub stands : in_call now.state op server ≡ InCall call phase
+    pub knows : Knows s first.steps first.owned call phase now.steps now.owned
+    -- what follows makes a whole call
+    pub rest : (steps : List Taken) (answer : Reply) (after : Pass) →
+        Leads now call phase steps answer after → Called first op server answer after
+
+-- the call begins
+pub begins : (s : Settings) (number : ℕ) (op : Op) (server : ℕ) (view : List Pass) → IsWithinRanges s → CanCall s number view
+    → IsUnderWay s number op server view (begun_by number op server) Start view
+begins s number op server view ranges can =
+    record {
+      first = can.pass;
+      now = can.pass;
+      was = can.alone;
+      is = can.alone;
+      idle = can.state;
+      same = can.settings;
+      settings = can.settings;
+      within = can.within;
+      by = refl;
+      does = refl;
+      on = refl;
+      stands = ap (λ state. in_call state op server) can.state;
+      knows = record { lost = omega (arith, ranges.tries.0); few = omega arith; at = refl; writes = tt; owner = λ own. tt };
+      rest = λ steps answer after leads. record { number = number; idle = can.state; steps = steps; leads = leads };
+    }
+
+pub ready : (s : Settings) (number : ℕ) (op : Op) (server : ℕ) (before : List Pass) (call : Call) (phase : Phase) (view : List Pass)
+    → IsUnderWay s number op server before call phase view → IsReady s view call phase
+ready s number op server before call phase view at =
+    record {
+      pass = at.now;
+      alone = at.is;
+      settings = at.settings;
+      stands = ap (λ it. in_call at.now.state it call.server) at.does ∙ ap (λ it. in_call at.now.state op it) at.on ∙ at.stands;
+      writes = at.knows.writes;
+    }
+
+head : (one other : Pass) → one ∷ [] ≡ other ∷ [] → one ≡ other
+head one other e = cc
+
+-- what one more step makes of it
+module _ (s : Settings) (ranges : IsWithinRanges s) (number : ℕ) (op : Op) (server : ℕ) (before : List Pass) (call : Call) (phase : Phase)
+    (view : List Pass) (at : IsUnderWay s number op server before call phase view) (read : Seen) (after : List Pass)
+    (stepped : Stepped s view call phase read after) where
+  abbrev mid : Pass
+  mid = stepped.new
+
+  same-pass : stepped.old ≡ at.now
+  same-pass = head stepped.old at.now (sym stepped.was ∙ at.is)
+
+  step : IsStep at.now call phase read mid
+  step = subst (λ it. IsStep it call phase read mid) same-pass stepped.step
+
+  decided : next_of at.now.settings call phase read ≡ next_of s call phase read
+  decided = ap (λ it. next_of it call phase read) at.settings
+
+  state-mid : mid.state ≡ state_after call (next_of s call phase read)
+  state-mid = ap (λ (it : Pass). it.state) step.takes.knows ∙ ap (state_after call) decided
+
+  settings-mid : mid.settings ≡ s
+  settings-mid = ap (λ (it : Pass). it.settings) step.takes.knows ∙ at.settings
+
+  knows-mid : KnowsAfter s at.first.steps at.first.owned call phase (next_of s call phase read) mid.steps mid.owned
+  knows-mid =
+      let takes = step.takes in
+      let act = action_of call.number phase in
+      let steps : at.now.steps + 1 ≡ mid.steps = sym (ap (λ (it : Pass). it.steps) takes.knows) in
+      let owned : owned_after at.now.owned call.server act (is_done read) ≡ mid.owned = sym (ap (λ (it : Pass). it.owned) takes.knows) in
+      let P : Seen → Type 0 = λ it.
+      KnowsAfter s at.first.steps at.first.owned call phase (next_of s call phase it) (at.now.steps + 1)
+      (owned_after at.now.owned call.server act (is_done it)) in
+      let Q : ℕ → Type 0 = λ n. KnowsAfter s at.first.steps at.first.owned call phase (next_of s call phase read) n
+      (owned_after at.now.owned call.server act (is_done read)) in
+      let R : List ℕ → Type 0 = λ it. KnowsAfter s at.first.steps at.first.owned call phase (next_of s call phase read) mid.steps it in
+      let next = knows-next s ranges at.first.steps at.first.owned call (subst (λ n. n < s.threads) (sym at.by) at.within) at.now.steps at.now.owned
+      takes.shared phase (subst (IsSound s) takes.reads stepped.sound) (λ found mark is marked. sym takes.reads ∙ step.sure found mark is marked) at.knows (takes.own call.server) in
+      subst R owned (subst Q steps (subst P (sym takes.reads) next))
+
+  leads-mid : (decision : Decision) → next_of s call phase read ≡ decision → (steps : List Taken) (answer : Reply) (end : Pass)
+      → GoesOn call decision (λ same later. Leads mid same later steps answer end) (λ given. (steps ≡ []) × (given ≡ answer) × (mid ≡ end))
+      → Called at.first op server answer end
+  leads-mid decision is steps answer end goes =
+      let P : Decision → Type 0 = λ it.
+      GoesOn call it (λ same later. Leads mid same later steps answer end) (λ given. (steps ≡ []) × (given ≡ answer) × (mid ≡ end)) in
+      at.rest (record { read = read; after = mid } ∷ steps) answer end (step, subst P (sym (decided ∙ is)) goes)
+
+  pub goes-on : (lost : ℕ) (next : Phase) → next_of s call phase read ≡ Goes lost next
+      → IsUnderWay s number op server before (record call { lost = lost }) next after × (left s lost next < left s call.lost phase)
+  goes-on lost next is =
+      let both = subst (λ it. KnowsAfter s at.first.steps at.first.owned call phase it mid.steps mid.owned) is knows-mid in (
+        record {
+          first = at.first;
+          now = mid;
+          was = at.was;
+          is = stepped.is;
+          idle = at.idle;
+          same = at.same;
+          settings = settings-mid;
+          within = at.within;
+          by = at.by;
+          does = at.does;
+          on = at.on;
+          stands = ap (λ state. in_call state op server) (state-mid ∙ ap (state_after call) is);
+          knows = both.0;
+          rest = λ steps answer end leads. leads-mid (Goes lost next) is steps answer end leads;
+        },
+        both.1,
+      )
+
+  pub answers : (answer : Reply) → next_of s call phase read ≡ Answers answer → Ran s number before op server answer after
+  answers answer is =
+      let ends = subst (λ it. KnowsAfter s at.first.steps at.first.owned call phase it mid.steps mid.owned) is knows-mid in
+      record {
+        old = at.first;
+        new = mid;
+        was = at.was;
+        is = stepped.is;
+        called = leads-mid (Answers answer) is [] answer mid (refl, refl, refl);
+        state = state-mid ∙ ap (state_after call) is ∙ ap Idle at.by;
+        settings = settings-mid ∙ sym at.same;
+        steps = subst (λ it. mid.steps ≤ at.first.steps + most_steps s it) at.does ends.few;
+        allowed = subst (λ it. can_answer it answer ≡ true) at.does ends.allowed;
+        owned = subst (λ it. mid.owned ≡ owned_left answer it at.first.owned) at.on ends.leaves;
+        owner = subst (λ it. owns at.first.owned server ≡ true → answers_owner it answer ≡ true) at.does
+            (subst (λ it. owns at.first.owned it ≡ true → answers_owner call.op answer ≡ true) at.on ends.owner);
+      }
+
+-- a look-up's first step answers it
+look-mark : (mark : Mark) (s : Settings) (call : Call) (found : ServerState) → call.op ≡ LookUp → found.mark ≡ mark
+    → from_mark mark s call found ≡ Answers (look_reply mark)
+look-mark (Up count) s call found is of = ap (λ op. from_up_by op s call found count) is
+look-mark (Soft owner) s call found is of =
+    cond_both (eqb owner call.number) (on_own_soft_by call.op call found) (Answers (on_others call.op found.mark)) (λ it. it ≡ Answers (Marked (Soft owner)))
+    (λ mine. ap (λ op. on_own_soft_by op call found) is ∙ ap (λ mark. Answers (Marked mark)) of)
+    (λ theirs. ap (λ op. Answers (on_others op found.mark)) is ∙ ap (λ mark. Answers (Marked mark)) of)
+look-mark (Hard owner) s call found is of =
+    cond_both (eqb owner call.number) (on_own_hard_by call.op call found) (Answers (on_others call.op found.mark)) (λ it. it ≡ Answers (Marked (Hard owner)))
+    (λ mine. ap (λ op. on_own_hard_by op call found) is ∙ ap (λ mark. Answers (Marked mark)) of)
+    (λ theirs. ap (λ op. Answers (on_others op found.mark)) is ∙ ap (λ mark. Answers (Marked mark)) of)
+
+-- a look-up that took its one step
+pub looked-up : (s : Settings) (ranges : IsWithinRanges s) (number server : ℕ) (before : List Pass) (found : ServerState) (read : Seen) (after : List Pass)
+    → CanCall s number before → read ≡ seen.Server found → Stepped s before (begun_by number LookUp server) Start read after
+    → Ran s number before LookUp server (look_reply found.mark) after
+looked-up s ranges number server before found read after can is stepped =
+    let call = begun_by number LookUp server in
+    answers s ranges number LookUp server before call Start before (begins s number LookUp server before ranges can) read after stepped (look_reply found.mark)
+    (ap (λ it. next_of s call Start it) is ∙ look-mark found.mark s call found refl refl)

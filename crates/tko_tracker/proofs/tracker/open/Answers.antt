@@ -1,0 +1,17 @@
+use Rattle.std.proofs.Common.{◌≡◌, ◌∙◌, Err, ap, sym}
+use Rattle.std.proofs.lemmas.Result.{err_from_is_err_and}
+use Rattle.tko_model.specs.declared.plain.OpenFault.{OpenFault}
+use Rattle.tko_tracker.proofs.tracker.open.Goals as goal
+
+pub returns-in_err-words-clause-settings : goal.returns-in_err-words-clause-settings
+returns-in_err-words-clause-settings c = λ fault.
+    let p = err_from_is_err_and c.from_residual.result c.from_residual.ensures.1 in
+    let told = c.open.ensures.settings fault in (
+      (λ e.
+          let same : p.0 ≡ OpenFault.Settings fault = cc (p.1, e) in
+          told.0 (c.in_err-words.was ∙ ap Err (sym p.2 ∙ same))),
+      (λ h.
+          let is = told.1 h in
+          let same : c.in_err-words.field-0.0 ≡ OpenFault.Settings fault = cc (c.in_err-words.was, is) in
+          p.1 ∙ ap Err (p.2 ∙ same)),
+    )

@@ -1,0 +1,117 @@
+-- A call: the steps that it takes, one after another, from its begin to its answer.
+use Rattle.std.specs.Prelude.{◌≡◌, ℕ, Bool, true, false, if◌then◌else◌, List, [], ◌∷◌}
+use Rattle.tko_model.specs.declared.mark.Op.{Op}
+use Rattle.tko_model.specs.declared.mark.Op.TheVariants.{LookUp, SoftFailure, HardFailure, Success, Release}
+use Rattle.tko_model.specs.declared.mark.Mark.{Mark}
+use Rattle.tko_model.specs.declared.mark.Reply.{Reply}
+use Rattle.tko_model.specs.declared.mark.Reply.TheVariants as reply
+use Rattle.tko_model.specs.declared.state.ServerState.{ServerState}
+use Rattle.tko_steps.specs.declared.phase.Call.{Call}
+use Rattle.tko_steps.specs.declared.phase.Phase.{Phase}
+use Rattle.tko_steps.specs.declared.phase.Phase.TheVariants.{Start}
+use Rattle.tko_steps.specs.declared.phase.ThreadState.TheVariants.{Idle}
+use Rattle.tko_steps.specs.declared.table.Action.TheVariants.{Exchange}
+use Rattle.tko_steps.specs.declared.table.Decision.{Decision}
+use Rattle.tko_steps.specs.declared.table.Decision.TheVariants.{Goes, Answers}
+use Rattle.tko_steps.specs.declared.table.Seen.{Seen}
+use Rattle.tko_steps.specs.declared.table.Seen.TheVariants as seen
+use Rattle.tko_steps.specs.Steps.{begun_by, is_marked_state}
+use Rattle.tko_steps.specs.Table.{action_of, next_of}
+use Rattle.tko_table.specs.declared.pass.Pass.{Pass}
+use Rattle.tko_table.specs.Passes.{without}
+use Rattle.tko_table.specs.Steps.{Takes}
+
+-- the replies that an operation may get
+abbrev pub can_answer : Op → Reply → Bool
+can_answer LookUp (reply.Up count) = true
+can_answer LookUp (reply.Marked mark) = true
+can_answer SoftFailure (reply.Counted count) = true
+can_answer SoftFailure reply.TookSoft = true
+can_answer SoftFailure reply.Full = true
+can_answer SoftFailure (reply.Already mark) = true
+can_answer SoftFailure reply.Worn = true
+can_answer SoftFailure reply.Contended = true
+can_answer HardFailure reply.TookHard = true
+can_answer HardFailure reply.Hardened = true
+can_answer HardFailure (reply.Already mark) = true
+can_answer HardFailure reply.Worn = true
+can_answer HardFailure reply.Contended = true
+can_answer Success reply.Clean = true
+can_answer Success (reply.Reset count) = true
+can_answer Success (reply.Unmarked mark) = true
+can_answer Success (reply.Already mark) = true
+can_answer Success reply.Worn = true
+can_answer Success reply.Contended = true
+can_answer Release (reply.Released mark) = true
+can_answer Release (reply.NotMine mark) = true
+can_answer op answer = false
+
+-- the replies that an operation may get on a server that its own thread marked
+abbrev pub answers_owner : Op → Reply → Bool
+answers_owner LookUp (reply.Marked mark) = true
+answers_owner SoftFailure (reply.Already mark) = true
+answers_owner HardFailure reply.Hardened = true
+answers_owner HardFailure (reply.Already mark) = true
+answers_owner Success (reply.Unmarked mark) = true
+answers_owner Release (reply.Released mark) = true
+answers_owner op answer = false
+
+-- whether a call with this reply left the thread's mark on the server
+abbrev pub takes : Reply → Bool
+takes reply.TookSoft = true
+takes reply.TookHard = true
+takes reply.Hardened = true
+takes answer = false
+
+-- whether a call with this reply left the server unmarked
+abbrev pub gives : Reply → Bool
+gives (reply.Counted count) = true
+gives (reply.Reset count) = true
+gives (reply.Unmarked mark) = true
+gives (reply.Released mark) = true
+gives answer = false
+
+-- the owned servers after a call on this server with this reply
+abbrev pub owned_left : Reply → ℕ → List ℕ → List ℕ
+owned_left answer server owned =
+    if takes answer
+    then server ∷ without server owned
+    else (if gives answer then without server owned else owned)
+
+-- one step of a call: what it read, and what the pass knew then
+pub record Taken : Type 0 where
+  pub read : Seen
+  pub after : Pass
+
+-- the step of a call at this phase: that of the core. A thread does not lose the exchange of its own
+-- mark
+pub record IsStep (before : Pass) (call : Call) (phase : Phase) (read : Seen) (after : Pass) : Type 0
+  where
+    pub takes : Takes before call phase read after
+    pub sure : (found : ServerState) (mark : Mark) →
+        action_of call.number phase ≡ Exchange found mark →
+        is_marked_state found.mark ≡ true → read ≡ seen.Done true
+
+-- a call goes on, or ends with a reply
+abbrev pub GoesOn : Call → Decision → (Call → Phase → Type 0) → (Reply → Type 0) → Type 0
+GoesOn call (Goes lost phase) more end = more (record call { lost = lost }) phase
+GoesOn call (Answers answer) more end = end answer
+
+-- the steps of a call from this phase to its answer
+abbrev pub Leads : Pass → Call → Phase → List Taken → Reply → Pass → Type 0
+Leads before call phase [] answer after = ⊥
+Leads before call phase (step ∷ steps) answer after =
+    IsStep before call phase step.read step.after
+    × GoesOn
+    call
+    (next_of before.settings call phase step.read)
+    (λ same later. Leads step.after same later steps answer after)
+    (λ given. (steps ≡ []) × (given ≡ answer) × (step.after ≡ after))
+
+-- an idle pass made a call with this answer
+pub record Called (before : Pass) (op : Op) (server : ℕ) (answer : Reply) (after : Pass) : Type 0
+  where
+    pub number : ℕ
+    pub idle : before.state ≡ Idle number
+    pub steps : List Taken
+    pub leads : Leads before (begun_by number op server) Start steps answer after

@@ -1,0 +1,4 @@
+pub mod Calls
+pub mod Owned
+pub mod Running
+pub mod Seated

@@ -1,0 +1,82 @@
+//! Calls of two threads, worked out by hand.
+ghost use Rattle.std.specs.Prelude.{◌≡◌, ◌<◌, IfSome};
+ghost use Rattle.tko_tracker.specs.Seated.{ArePasses, IsOf};
+
+use crate::{IdlePass, Pass, Tracker, open, wake};
+use std::test::Fail;
+use tko_model::{Look, Mark, Op, Reply, Settings};
+
+const SETTINGS: Settings = Settings {
+    servers: 2,
+    threads: 2,
+    failures: 1,
+    limit: 1,
+    tries: 3,
+    opening_stamp: 0,
+};
+
+/// The last two passes, woken.
+fn last_two(tracker: &Tracker, passes: Vec<IdlePass>) -> Option<(Pass, Pass)>
+    requires { ArePasses tracker.now passes.items }
+    ensures { IfSome result (λ two. IsOf tracker.now two.0 × IsOf tracker.now two.1) }
+{
+    let _ = tracker;
+    let mut passes = passes;
+    let second = passes.pop()?;
+    let first = passes.pop()?;
+    Some((wake(first), wake(second)))
+}
+
+fn reply(tracker: &Tracker, pass: &mut Pass, op: Op, server: usize) -> Reply
+    requires tracker { IsOf tracker.now pass.old }
+    requires server { server < tracker.now.settings.servers }
+    ensures { IsOf tracker.now pass.new }
+{
+    match op {
+        Op::LookUp => match tracker.look_up(pass, server) {
+            Look::Up(count, _) => Reply::Up(count),
+            Look::Marked(mark) => Reply::Marked(mark),
+        },
+        Op::SoftFailure => tracker.soft_failure(pass, server),
+        Op::HardFailure => tracker.hard_failure(pass, server),
+        Op::Success => tracker.success(pass, server),
+        Op::Release => tracker.release(pass, server),
+    }
+}
+
+#[test]
+fn two_threads_share_one_soft_mark(rt: HostRuntime) -> Result<(), Fail> {
+    let (tracker, passes) = open(rt.alloc(), SETTINGS)?;
+    let (mut first, mut second) = last_two(&tracker, passes).expect(&rt, "two passes");
+    let soft = Mark::Soft(0);
+    assert_eq!(rt;
+        reply(&tracker, &mut first, Op::SoftFailure, 0),
+        Reply::TookSoft
+    );
+    assert_eq!(rt;
+        reply(&tracker, &mut second, Op::SoftFailure, 1),
+        Reply::Full
+    );
+    assert_eq!(rt;
+        reply(&tracker, &mut second, Op::Success, 0),
+        Reply::Already(soft)
+    );
+    assert_eq!(rt;
+        reply(&tracker, &mut second, Op::Release, 0),
+        Reply::NotMine(soft)
+    );
+    assert_eq!(rt; (first.owns(0), second.owns(0)), (true, false));
+    assert_eq!(rt;
+        reply(&tracker, &mut first, Op::HardFailure, 0),
+        Reply::Hardened
+    );
+    assert_eq!(rt;
+        reply(&tracker, &mut second, Op::SoftFailure, 1),
+        Reply::TookSoft
+    );
+    let hard = Reply::Marked(Mark::Hard(0));
+    assert_eq!(rt; reply(&tracker, &mut second, Op::LookUp, 0), hard);
+    assert_eq!(rt; tracker.retire(first).number(), 0);
+    assert_eq!(rt; reply(&tracker, &mut second, Op::LookUp, 0), Reply::Up(0));
+    Ok(())
+}
