@@ -1,13 +1,28 @@
 -- What was written for a fault.
-use Rattle.std.proofs.Common.{ℕ, ◌<◌, List, inl, inr, OnErr, OnOk, Result, Ok, Err}
+use Rattle.std.proofs.Common.{◌≡◌, ℕ, ◌<◌, List, inl, inr, subst, OnErr, OnOk, Result, Ok, Err}
 use Rattle.tko_cli.specs.declared.fault.Fault.{Fault}
 use Rattle.tko_cli.specs.declared.fault.Fault.TheVariants as fault
-use Rattle.tko_cli.specs.FaultLines.{IsFaultWritten, Written, Failed, HasLine}
+use Rattle.tko_cli.specs.FaultLines.{IsFaultTold, Alone, AfterNotices, IsFaultWritten, Written, Failed, HasLine}
+use Rattle.tko_cli.specs.Serving.{IsSilentOrBegun, Silent, Begun}
 
 -- what holds where it is Ok
 pub on_ok : {T E : Type 0} {P Q : Type 0} (result : Result T E) → OnOk result P → (P → Q) → OnOk result Q
 on_ok (Ok value) holds next = next holds
 on_ok (Err error) holds next = holds
+
+-- what holds in any case, where it is Err
+pub on_err : {T E : Type 0} {P : Type 0} (result : Result T E) → P → OnErr result P
+on_err (Ok value) holds = tt
+on_err (Err error) holds = holds
+
+-- the line of a fault after what a server noted
+pub fault_told : {O F : Type 0} (takes : O → List ℕ → O → Type 0) (failures : O → ℕ) (notes : F → List ℕ → F → Type 0)
+    (faults : F → ℕ) (from to : O) (old middle new : F) → IsSilentOrBegun takes failures notes faults from to old middle
+    → IsFaultWritten notes faults middle new → IsFaultTold takes failures notes faults from to old new
+fault_told {F = F} takes failures notes faults from to old middle new (Silent same) told =
+    Alone (subst (λ (at : F). IsFaultWritten notes faults at new) same told)
+fault_told takes failures notes faults from to old middle new (Begun begun noted) told =
+    AfterNotices middle begun noted told
 
 either_line : {O : Type 0} (takes : O → List ℕ → O → Type 0) (failures : O → ℕ) (reason : Fault) (old new : O)
     → HasLine takes reason old new → IsFaultWritten takes failures old new

@@ -2,6 +2,7 @@ pub mod CommandLineLemmas
 pub mod ConfiguredLemmas
 pub mod DryLemmas
 pub mod FaultLineLemmas
+pub mod NoticeLemmas
 pub mod PlannedLemmas
 pub mod ReplayLemmas
 pub mod ServingLemmas

@@ -1,5 +1,5 @@
 -- What `serve` writes, and why it fails.
-use Rattle.std.proofs.Common.{◌≡◌, ℕ, List, Some, None, inr, refl, subst}
+use Rattle.std.proofs.Common.{◌≡◌, ℕ, List, Option, Some, None, inr, refl, subst}
 use Rattle.std.proofs.lemmas.Bool.{le-leb}
 use Rattle.std.proofs.Math.Dec.{leb-zero}
 use Rattle.tko_desk.specs.declared.numbers.Numbers.{Numbers}
@@ -36,16 +36,18 @@ no_fault s within =
     ) refl
 
 -- the tracker of a planned server has the plan's settings
-settings_of_plan : (options : ServeOptions) (plan : Plan) (server : Server) → IsPlanned options plan
-    → IsServerOf plan options server → tracker_settings server ≡ plan.settings
-settings_of_plan options plan server planned is = rw (is.settings, is.config, planned.settings) refl
+settings_of_plan : (options : ServeOptions) (plan : Plan) (open_files : Option ℕ) (server : Server)
+    → IsPlanned options plan → IsServerOf plan options open_files server
+    → tracker_settings server ≡ plan.settings
+settings_of_plan options plan open_files server planned is = rw (is.settings, is.config, planned.settings) refl
 
 -- so no setting of it is a fault
-pub never_unset : (options : ServeOptions) (plan : Plan) (server : Server) (name : SettingsFault)
-    → IsPlanned options plan → IsServerOf plan options server → first_fault (tracker_settings server) ≡ Some name → ⊥
-never_unset options plan server name planned is first =
+pub never_unset : (options : ServeOptions) (plan : Plan) (open_files : Option ℕ) (server : Server)
+    (name : SettingsFault) → IsPlanned options plan → IsServerOf plan options open_files server
+    → first_fault (tracker_settings server) ≡ Some name → ⊥
+never_unset options plan open_files server name planned is first =
     let P : Settings → Type 0 = λ s. first_fault s ≡ Some name in
-    let broken = subst P (settings_of_plan options plan server planned is) first in
+    let broken = subst P (settings_of_plan options plan open_files server planned is) first in
     let none = no_fault plan.settings planned.within in
     absurd (cc)
 

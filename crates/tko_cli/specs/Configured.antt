@@ -15,7 +15,7 @@ use Rattle.tko_cli.specs.Faults.{fault_of_config}
 abbrev pub dry_threads : ℕ
 dry_threads = 4
 
--- the settings that the options name, of a tracker of so many servers
+-- the settings that the options name, of a tracker of `servers` servers
 abbrev pub settings_of : DryOptions → ℕ → Settings
 settings_of options servers = record {
   servers = servers;
@@ -30,12 +30,12 @@ settings_of options servers = record {
 abbrev pub json_in : DryOptions → Option (List ℕ)
 json_in options = option_map string_bytes options.config
 
--- the names of so many servers that no configuration names
+-- the names of `servers` servers that no configuration names
 abbrev pub scripted_names : ℕ → List (List ℕ)
 scripted_names servers = map (λ server. codes "dry:" ++ decimal server) (numbers_below servers)
 
--- the configuration of this JSON, or without one that of so many servers, which every key tries in
--- order
+-- the configuration of this JSON, or without one that of `servers` servers, which every key tries
+-- in order
 abbrev pub ConfigOf : Option (List ℕ) → ℕ → Configuration → Type 0
 ConfigOf None servers config = config ≡ in_order (scripted_names servers)
 ConfigOf (Some json) servers config = Means json config

@@ -5,7 +5,7 @@ use Rattle.tko_model.specs.Tracker.{Tracker, opened}
 use Rattle.tko_model.specs.declared.settings.SettingsFault.{SettingsFault}
 use Rattle.tko_route.specs.declared.attempt.Attempt.{Attempt}
 use Rattle.tko_links.specs.declared.scripted.Script.{Script}
-use Rattle.tko_route.specs.Health.{OneThread, IsTrackerStep}
+use Rattle.tko_health.specs.Health.{OneThread, IsGranted, IsTrackerStep}
 use Rattle.tko_links.specs.Scripted.{ScriptedState, IsPlayed}
 use Rattle.tko_prober.specs.declared.delays.Delays.{Delays}
 use Rattle.tko_session.specs.declared.moments.Still.{Still}
@@ -99,7 +99,7 @@ probes_of links server = slice_index links.probes server
 -- an event over these parts
 abbrev pub IsDryEvent : DryParts → Event → DryParts → Type 0
 IsDryEvent old event new =
-    IsEvent IsTrackerStep IsPlayed sends_of probes_of Keeps IsStill old event new
+    IsEvent IsTrackerStep IsGranted IsPlayed sends_of probes_of Keeps IsStill old event new
 
 -- the trails' lines went out if they are asked for, and else nothing
 abbrev pub TrailsGo : {O : Type 0} → (O → List ℕ → O → Type 0) → Bool → List (List Attempt)

@@ -1,8 +1,11 @@
 -- What is written for a fault.
-use Rattle.std.specs.Prelude.{ℕ, ◌<◌, ◌⊎◌, List, ◌++◌, codes}
+use Rattle.std.specs.Prelude.{ℕ, ◌≡◌, ◌<◌, ◌⊎◌, List, ◌++◌, codes}
 use Rattle.tko_cli.specs.declared.fault.Fault.{Fault}
 use Rattle.tko_cli.specs.declared.fault.Fault.TheVariants as fault
 use Rattle.tko_cli.specs.Faults.{fault_line}
+use Rattle.tko_cli.specs.Notices.{HasNotices}
+use Rattle.tko_cli.specs.Serving.{HasBegun, HasServed}
+use Rattle.tko_cli.specs.declared.serve_options.ServeOptions.{ServeOptions}
 
 -- the line of a fault with its LF
 abbrev pub fault_bytes : Fault → List ℕ
@@ -19,3 +22,19 @@ pub data IsFaultWritten {O : Type 0} (takes : O → List ℕ → O → Type 0) (
   Written : (reason : Fault) → takes old (fault_bytes reason) new
       → IsFaultWritten takes failures old new
   Failed : failures old < failures new → IsFaultWritten takes failures old new
+
+-- a command was done: nothing was written for it, or a server served to its end and there are notices
+pub data IsQuiet {O F : Type 0} (takes : O → List ℕ → O → Type 0) (notes : F → List ℕ → F → Type 0)
+    (faults : F → ℕ) (from to : O) (old new : F) : Type 0 where
+  Nothing : new ≡ old → IsQuiet takes notes faults from to old new
+  Noted : (options : ServeOptions) → HasServed takes options from to → HasNotices notes faults old new
+      → IsQuiet takes notes faults from to old new
+
+-- the line of one fault was written, and nothing else but notices of a server that had begun
+pub data IsFaultTold {O F : Type 0} (takes : O → List ℕ → O → Type 0) (failures : O → ℕ)
+    (notes : F → List ℕ → F → Type 0) (faults : F → ℕ) (from to : O) (old new : F) : Type 0 where
+  Alone : IsFaultWritten notes faults old new
+      → IsFaultTold takes failures notes faults from to old new
+  AfterNotices : (middle : F) → HasBegun takes failures from to → HasNotices notes faults old middle
+      → IsFaultWritten notes faults middle new
+      → IsFaultTold takes failures notes faults from to old new

@@ -3,12 +3,14 @@ pub mod Configured
 pub mod DryRuns
 pub mod FaultLines
 pub mod Faults
+pub mod Notices
 pub mod Outcomes
 pub mod Planned
 pub mod Program
 pub mod Readings
 pub mod Replays
 pub mod ServeCommand
+pub mod ServeWords
 pub mod Serving
 pub mod Texts
 pub mod Totals

@@ -1,5 +1,5 @@
 -- What `serve` runs on, and why its options name none of it.
-use Rattle.std.specs.Prelude.{◌≡◌, ℕ, length, true, false, Some, string_bytes}
+use Rattle.std.specs.Prelude.{◌≡◌, ℕ, length, true, false, Option, Some, string_bytes}
 use Rattle.tko_model.specs.Ranges.{IsWithinRanges, first_fault}
 use Rattle.tko_model.specs.declared.settings.Settings.{Settings}
 use Rattle.tko_model.specs.declared.settings.SettingsFault.{SettingsFault}
@@ -7,6 +7,7 @@ use Rattle.tko_pools.specs.Addresses.{is_address}
 use Rattle.tko_pools.specs.Configs.{Configuration, Means, Refuses}
 use Rattle.tko_pools.specs.declared.fault.ConfigFault.{ConfigFault}
 use Rattle.tko_prober.specs.Delay.{IsRange}
+use Rattle.tko_server.specs.declared.patience.Patience.{Patience}
 use Rattle.tko_server.specs.declared.running.Options.{Options as Server}
 use Rattle.tko_cli.specs.Faults.{fault_of_config}
 use Rattle.tko_cli.specs.declared.fault.ConfigFlaw.{ConfigFlaw}
@@ -15,7 +16,7 @@ use Rattle.tko_cli.specs.declared.fault.Fault.TheVariants as fault
 use Rattle.tko_cli.specs.declared.planned.Plan.{Plan}
 use Rattle.tko_cli.specs.declared.serve_options.ServeOptions.{ServeOptions}
 
--- the settings that the options name, of a tracker of so many servers
+-- the settings that the options name, of a tracker of `servers` servers
 abbrev pub serve_settings : ServeOptions → ℕ → Settings
 serve_settings options servers = record {
   servers = servers;
@@ -24,6 +25,13 @@ serve_settings options servers = record {
   limit = options.limit;
   tries = options.tries;
   opening_stamp = 0;
+}
+
+-- how long the server waits for a client
+abbrev pub serve_patience : ServeOptions → Patience
+serve_patience options = record {
+  write_timeout = options.write_timeout;
+  idle_timeout = options.idle_timeout;
 }
 
 -- the configuration of the JSON, settings in their ranges, and delays in theirs; what it listens on
@@ -36,12 +44,16 @@ pub record IsPlanned (options : ServeOptions) (plan : Plan) : Type 0 where
   pub greatest : plan.delays.greatest ≡ options.greatest_delay
   pub listen : is_address (string_bytes options.listen) ≡ true
 
--- a server of this plan, with the time limit and the number of connections that the options name
-pub record IsServerOf (plan : Plan) (options : ServeOptions) (server : Server) : Type 0 where
+-- a server of this plan, with the time limits and the number of connections that the options name,
+-- in a process that may have so many files open
+pub record IsServerOf (plan : Plan) (options : ServeOptions) (allowed : Option ℕ)
+    (server : Server) : Type 0 where
   pub config : server.config ≡ plan.config
   pub settings : server.settings ≡ plan.settings
   pub delays : server.delays ≡ plan.delays
   pub timeout : server.timeout ≡ options.timeout
+  pub patience : server.patience ≡ serve_patience options
+  pub open_files : server.open_files ≡ allowed
   pub connections : server.connections ≡ options.connections
 
 -- this is what is wrong with the JSON

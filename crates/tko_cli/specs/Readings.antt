@@ -3,7 +3,7 @@ use Rattle.std.specs.Prelude.{ℕ, ◌<◌, ◌≤◌, ◌⊎◌, List, length}
 use Rattle.tko_cli.specs.declared.reading.ReadFault.{ReadFault}
 use Rattle.tko_cli.specs.declared.reading.ReadFault.TheVariants as fault
 
--- this is the input to its end, or so many bytes of it
+-- this is the input to its end, or `most` bytes of it
 pub record IsText {I : Type 0} (gives : I → List ℕ → I → Type 0) (is_ended : I → Type 0)
     (most : ℕ) (old new : I) (text : List ℕ) : Type 0 where
   pub came : gives old text new

@@ -13,6 +13,12 @@ default_connections = codes "0"
 abbrev pub default_timeout : Text
 default_timeout = codes "1000"
 
+abbrev pub default_write_timeout : Text
+default_write_timeout = codes "5000"
+
+abbrev pub default_idle_timeout : Text
+default_idle_timeout = codes "0"
+
 abbrev pub default_first_delay : Text
 default_first_delay = codes "10000"
 
@@ -41,9 +47,9 @@ connections_option = record (number_option (codes "connections") default_connect
   parser = Some (parser.Unsigned 0 max_connections);
 }
 
--- `--timeout MS`, from 1
-abbrev pub timeout_option : Rule
-timeout_option = record (number_option (codes "timeout") default_timeout) {
+-- `--name MS`, a number from 1
+abbrev pub limit_option : Text → Text → Rule
+limit_option name default = record (number_option name default) {
   parser = Some (parser.Signed (pos 1) (pos max_number));
 }
 
@@ -53,12 +59,18 @@ with_clients app =
     with_rule (with_rule (with_rule (with_rule app listen_option) required_config)
     (number_option (codes "threads") default_threads)) connections_option
 
+-- how long it waits for a client
+abbrev pub with_patience : App → App
+with_patience app =
+    with_rule (with_rule app (limit_option (codes "write-timeout") default_write_timeout))
+    (number_option (codes "idle-timeout") default_idle_timeout)
+
 -- how long an exchange may take, and how long probes wait
 abbrev pub with_times : App → App
 with_times app =
-    with_rule (with_rule (with_rule app timeout_option)
+    with_rule (with_rule (with_rule app (limit_option (codes "timeout") default_timeout))
     (number_option (codes "first-delay") default_first_delay))
     (number_option (codes "greatest-delay") default_greatest_delay)
 
 abbrev pub serve_command : App
-serve_command = with_tracker (with_times (with_clients (new_app (codes "serve"))))
+serve_command = with_tracker (with_times (with_patience (with_clients (new_app (codes "serve")))))

@@ -1,6 +1,7 @@
 -- What `serve` writes, and why it fails.
 use Rattle.std.specs.Prelude.{◌≡◌, ◌<◌, ◌⊎◌, ℕ, List, codes}
 use Rattle.tko_desk.specs.declared.numbers.Numbers.{Numbers}
+use Rattle.tko_cli.specs.Notices.{HasNotices}
 use Rattle.tko_cli.specs.Planned.{IsPlanned, NoPlan}
 use Rattle.tko_cli.specs.Totals.{totals_text}
 use Rattle.tko_cli.specs.declared.fault.Fault.{Fault}
@@ -25,6 +26,19 @@ pub record HasServed {O : Type 0} (takes : O → List ℕ → O → Type 0) (opt
   pub numbers : Numbers
   pub ready : takes from ready_text middle
   pub totals : takes middle (totals_text numbers) to
+
+-- a server that had begun ended by a fault: the outlet failed, or `ready` went out and nothing else
+pub data HasBegun {O : Type 0} (takes : O → List ℕ → O → Type 0) (failures : O → ℕ)
+    (from to : O) : Type 0 where
+  NotWritten : failures from < failures to → HasBegun takes failures from to
+  Ready : takes from ready_text to → HasBegun takes failures from to
+
+-- nothing was noted, or the server had begun and there are notices
+pub data IsSilentOrBegun {O F : Type 0} (takes : O → List ℕ → O → Type 0) (failures : O → ℕ)
+    (notes : F → List ℕ → F → Type 0) (faults : F → ℕ) (from to : O) (old new : F) : Type 0 where
+  Silent : new ≡ old → IsSilentOrBegun takes failures notes faults from to old new
+  Begun : HasBegun takes failures from to → HasNotices notes faults old new
+      → IsSilentOrBegun takes failures notes faults from to old new
 
 -- `ready` went out and nothing else
 pub record IsReady {O : Type 0} (takes : O → List ℕ → O → Type 0) (options : ServeOptions)

@@ -24,7 +24,7 @@ pub(crate) fn config_of(alloc: Global, options: &DryOptions) -> Result<Config, F
     }
 }
 
-/// The configuration of so many servers, which every key tries in order.
+/// The configuration of `servers` servers, which every key tries in order.
 fn scripted_config(alloc: Global, servers: u32) -> Result<Config, NoMemory>
     requires { servers ≤ max_servers }
     ensures { IfOk result (λ config. config ≡ in_order (scripted_names servers)) }
@@ -33,7 +33,7 @@ fn scripted_config(alloc: Global, servers: u32) -> Result<Config, NoMemory>
     Config::in_order(alloc, names)
 }
 
-/// The names of so many servers.
+/// The names of `servers` servers.
 fn names_of(alloc: Global, servers: u32) -> Result<Vec<String>, NoMemory>
     ensures { IfOk result (λ names. map string_bytes names.items ≡ scripted_names servers) }
 {

@@ -11,6 +11,8 @@ mod command_line;
 mod configured;
 mod dry;
 mod fault;
+mod notice;
+mod open_files;
 mod options;
 mod outcomes;
 mod planned;
@@ -27,13 +29,5 @@ mod writing;
 pub use fault::{ConfigFlaw, Fault};
 pub use program::command;
 
-#[cfg(test)]
-mod fault_tests;
-#[cfg(test)]
-mod replay_tests;
-#[cfg(test)]
-mod row_tests;
-#[cfg(test)]
-mod serve_tests;
 #[cfg(test)]
 mod tests;

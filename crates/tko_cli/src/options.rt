@@ -1,6 +1,8 @@
 //! The words of the command line.
 ghost use Rattle.std.specs.Prelude.{◌≡◌};
+ghost use Rattle.clap.specs.Words.{found_of};
 ghost use Rattle.tko_cli.specs.Configured.{settings_of};
+ghost use Rattle.tko_cli.specs.ServeWords.{IsNumberAt};
 
 use crate::command_line::program;
 use crate::serve_options::ServeOptions;
@@ -68,7 +70,7 @@ impl DryOptions {
         })
     }
 
-    /// The settings of a tracker of so many servers.
+    /// The settings of a tracker of `servers` servers.
     pub fn settings(&self, servers: u32) -> Settings
         ensures { result ≡ settings_of self.now servers }
     {
@@ -84,6 +86,8 @@ impl DryOptions {
 }
 
 /// A number of the options; each has a default.
-pub(crate) fn number_of(found: &ArgMatches<'_>, name: &str) -> u32 {
+pub(crate) fn number_of(found: &ArgMatches<'_>, name: &str) -> u32
+    ensures { IsNumberAt 32 (found_of found.now) name.now result }
+{
     found.get_one(name).unwrap_or(0)
 }

@@ -18,15 +18,17 @@ pub(crate) struct Plan {
 }
 
 impl Plan {
-    /// What a server is started with.
-    pub fn server(self, options: &ServeOptions) -> tko_server::Options
-        ensures { IsServerOf self options.now result }
+    /// What a server is started with, where the process may have so many files open.
+    pub fn server(self, options: &ServeOptions, open_files: Option<u64>) -> tko_server::Options
+        ensures { IsServerOf self options.now open_files result }
     {
         tko_server::Options {
             config: self.config,
             settings: self.settings,
             delays: self.delays,
             timeout: options.timeout,
+            patience: options.patience(),
+            open_files,
             connections: options.connections,
         }
     }

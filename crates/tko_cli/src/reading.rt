@@ -25,7 +25,7 @@ impl From<AllocError> for ReadFault {
     }
 }
 
-/// Reads a text to its end, but at most so many bytes of it.
+/// Reads a text to its end, but at most `most` bytes of it.
 pub(crate) fn read_text<R: IoRuntime, I: Inlet>(
     rt: &R,
     alloc: Global,

@@ -1,8 +1,8 @@
 //! The command `serve` as clap reads it.
-ghost use Rattle.std.specs.Prelude.{◌≡◌, false, IfOk};
+ghost use Rattle.std.specs.Prelude.{◌≡◌, false, IfOk, codes};
 ghost use Rattle.clap.specs.Words.{App, rule_of};
 ghost use Rattle.tko_cli.specs.CommandLine.{ReadsAs, number_option};
-ghost use Rattle.tko_cli.specs.ServeCommand.{connections_option, listen_option, required_config, serve_command, timeout_option, with_clients, with_times};
+ghost use Rattle.tko_cli.specs.ServeCommand.{connections_option, default_timeout, limit_option, listen_option, required_config, serve_command, with_clients, with_patience, with_times};
 
 use crate::command_line::{number, with_tracker};
 use clap::builder::ValueParser;
@@ -15,6 +15,10 @@ const DEFAULT_CONNECTIONS: &str = "0";
 
 const DEFAULT_TIMEOUT: &str = "1000";
 
+const DEFAULT_WRITE_TIMEOUT: &str = "5000";
+
+const DEFAULT_IDLE_TIMEOUT: &str = "0";
+
 const DEFAULT_FIRST_DELAY: &str = "10000";
 
 const DEFAULT_GREATEST_DELAY: &str = "60000";
@@ -26,6 +30,7 @@ pub(crate) fn serve<'a>(alloc: Global) -> Result<Command<'a>, AllocError>
         "Answers clients that connect to it, over memcached servers",
     );
     let serve = with_clients(alloc, serve)?;
+    let serve = with_patience(alloc, serve)?;
     let serve = with_times(alloc, serve)?;
     with_tracker(alloc, serve)
 }
@@ -40,6 +45,17 @@ fn with_clients<'a>(alloc: Global, command: Command<'a>) -> Result<Command<'a>, 
         .arg(config(alloc))?
         .arg(number(alloc, "threads", DEFAULT_THREADS, threads))?
         .arg(connections(alloc))
+}
+
+/// With the options on how long it waits for a client.
+fn with_patience<'a>(alloc: Global, command: Command<'a>) -> Result<Command<'a>, AllocError>
+    ensures { (app : App) → ReadsAs app command.entry → IfOk result (ReadsAs (with_patience app)) }
+{
+    let write = "How long a write to a client may make no progress, in milliseconds, from 1";
+    let idle = "How long a client may send nothing, in milliseconds; 0 for ever";
+    command
+        .arg(limit(alloc, "write-timeout", DEFAULT_WRITE_TIMEOUT, write))?
+        .arg(delay(alloc, "idle-timeout", DEFAULT_IDLE_TIMEOUT, idle))
 }
 
 /// With the options that are times.
@@ -85,11 +101,19 @@ fn connections<'a>(alloc: Global) -> Arg<'a>
 }
 
 fn timeout<'a>(alloc: Global) -> Arg<'a>
-    ensures rule { rule_of result ≡ timeout_option }
+    ensures rule { rule_of result ≡ limit_option (codes "timeout") default_timeout }
     ensures local { result.global ≡ false }
 {
     let help = "How long an exchange with a server may take, in milliseconds";
-    number(alloc, "timeout", DEFAULT_TIMEOUT, help)
+    limit(alloc, "timeout", DEFAULT_TIMEOUT, help)
+}
+
+/// `--name MS`, a number of milliseconds from 1.
+fn limit<'a>(alloc: Global, name: &'a str, default: &'a str, help: &'a str) -> Arg<'a>
+    ensures rule { rule_of result ≡ limit_option name.now default.now }
+    ensures local { result.global ≡ false }
+{
+    number(alloc, name, default, help)
         .value_name("MS")
         .value_parser(ValueParser::signed(1, 4_294_967_295))
 }

@@ -1,11 +1,14 @@
 //! The options of `serve`.
-ghost use Rattle.std.specs.Prelude.{◌≡◌};
-ghost use Rattle.tko_cli.specs.Planned.{serve_settings};
+ghost use Rattle.std.specs.Prelude.{◌≡◌, IfOk, codes, string_bytes};
+ghost use Rattle.clap.specs.Words.{found_of};
+ghost use Rattle.tko_cli.specs.Planned.{serve_patience, serve_settings};
+ghost use Rattle.tko_cli.specs.ServeWords.{AreFound, IsNumberAt, IsTextAt};
 
 use crate::options::number_of;
 use clap::ArgMatches;
 use std::alloc::{AllocError, Global};
 use tko_model::Settings;
+use tko_server::Patience;
 
 /// The options of `serve`.
 #[derive(Debug, Drop)]
@@ -20,6 +23,10 @@ pub(crate) struct ServeOptions {
     pub connections: u64,
     /// How long an exchange may take, in milliseconds.
     pub timeout: u32,
+    /// How long a write to a client may make no progress, in milliseconds.
+    pub write_timeout: u32,
+    /// How long a client may send nothing, in milliseconds; 0 for ever.
+    pub idle_timeout: u32,
     /// How long the first probe waits, in milliseconds.
     pub first_delay: u32,
     /// How long any probe may wait, in milliseconds.
@@ -30,13 +37,17 @@ pub(crate) struct ServeOptions {
 }
 
 impl ServeOptions {
-    pub fn of(alloc: Global, found: &ArgMatches<'_>) -> Result<ServeOptions, AllocError> {
+    pub fn of(alloc: Global, found: &ArgMatches<'_>) -> Result<ServeOptions, AllocError>
+        ensures { IfOk result (AreFound (found_of found.now)) }
+    {
         Ok(ServeOptions {
-            listen: String::from_str(alloc, found.get_str("listen").unwrap_or(""))?,
-            config: String::from_str(alloc, found.get_str("config").unwrap_or(""))?,
+            listen: text_of(alloc, found, "listen")?,
+            config: text_of(alloc, found, "config")?,
             threads: number_of(found, "threads"),
-            connections: found.get_one("connections").unwrap_or(0),
+            connections: connections_of(found),
             timeout: number_of(found, "timeout"),
+            write_timeout: number_of(found, "write-timeout"),
+            idle_timeout: number_of(found, "idle-timeout"),
             first_delay: number_of(found, "first-delay"),
             greatest_delay: number_of(found, "greatest-delay"),
             failures: number_of(found, "failures"),
@@ -45,7 +56,17 @@ impl ServeOptions {
         })
     }
 
-    /// The settings of a tracker of so many servers.
+    /// How long the server waits for a client.
+    pub fn patience(&self) -> Patience
+        ensures { result ≡ serve_patience self.now }
+    {
+        Patience {
+            write_timeout: self.write_timeout,
+            idle_timeout: self.idle_timeout,
+        }
+    }
+
+    /// The settings of a tracker of `servers` servers.
     pub fn settings(&self, servers: u32) -> Settings
         ensures { result ≡ serve_settings self.now servers }
     {
@@ -58,4 +79,18 @@ impl ServeOptions {
             opening_stamp: 0,
         }
     }
+}
+
+/// A text of the options.
+fn text_of(alloc: Global, found: &ArgMatches<'_>, name: &str) -> Result<String, AllocError>
+    ensures { IfOk result (λ text. IsTextAt (found_of found.now) name.now (string_bytes text)) }
+{
+    String::from_str(alloc, found.get_str(name).unwrap_or(""))
+}
+
+/// The number of connections, which may have 64 bits.
+fn connections_of(found: &ArgMatches<'_>) -> u64
+    ensures { IsNumberAt 64 (found_of found.now) (codes "connections") result }
+{
+    found.get_one("connections").unwrap_or(0)
 }

@@ -1,37 +1,80 @@
 //! The command `serve`: a server over TCP, and its totals.
-ghost use Rattle.std.specs.Prelude.{OnOk, IfErr};
-ghost use Rattle.tko_cli.specs.Serving.{HasServed, ServeFails};
+ghost use Rattle.std.specs.Prelude.{OnOk, IfErr, OnErr};
+ghost use Rattle.tko_cli.specs.Notices.{HasNotices};
+ghost use Rattle.tko_cli.specs.Serving.{HasServed, IsSilentOrBegun, ServeFails};
 
 use crate::Fault;
+use crate::notice::{Notice, write_notice, write_notice_if};
+use crate::open_files::open_file_limit;
 use crate::planned::plan_of;
 use crate::serve_options::ServeOptions;
 use crate::totals::totals_lines;
 use crate::writing::write_text;
 use std::alloc::Global;
+use std::fs::Files;
 use std::net::TcpListener;
 use std::thread::Threads;
 use tko_links::IoRuntime;
-use tko_server::run;
+use tko_server::{WorkerReport, run_to_end};
 use tko_session::Outlet;
 
 /// Serves clients over TCP until the last of the connections has ended, and then prints the totals.
-/// `ready` is printed once clients can connect.
-pub(crate) fn serve<R: IoRuntime<Listener = TcpListener> + Threads + Sync, O: Outlet>(
+/// `ready` is printed once clients can connect. Before it a notice says what the server does with its
+/// descriptors, and before the totals notices say what the workers met.
+pub(crate) fn serve<
+    R: IoRuntime<Listener = TcpListener> + Threads + Sync + Files,
+    O: Outlet,
+    F: Outlet,
+>(
     rt: &R,
     alloc: Global,
     options: &ServeOptions,
     output: &mut O,
+    faults: &mut F,
 ) -> Result<(), Fault>
     ensures ok { OnOk result (HasServed O.takes options.now output.old output.new) }
     ensures err { IfErr result (ServeFails O.takes O.failures options.now output.old output.new) }
+    ensures noted { OnOk result (HasNotices F.takes F.failures faults.old faults.new) }
+    ensures told { OnErr result (IsSilentOrBegun O.takes O.failures F.takes F.failures
+        output.old output.new faults.old faults.new) }
 {
     let plan = plan_of(alloc, options)?;
     let Ok(listener) = TcpListener::bind(rt, options.listen.as_str()) else {
         return Err(Fault::Listen);
     };
+    let server = plan.server(options, open_file_limit(rt, alloc));
+    note_descriptors(rt, alloc, faults, &server);
     write_text(rt, output, b"ready\n")?;
-    let totals = run(rt, alloc, &listener, &plan.server(options))?;
-    let lines = totals_lines(alloc, &totals)?;
+    let ended = run_to_end(rt, alloc, &listener, &server)?;
+    report(rt, alloc, faults, &ended.report);
+    let lines = totals_lines(alloc, &ended.totals)?;
     write_text(rt, output, &lines)?;
     Ok(())
+}
+
+/// Writes what a server does with the descriptors that it may have open.
+fn note_descriptors<R: IoRuntime, F: Outlet>(
+    rt: &R,
+    alloc: Global,
+    faults: &mut F,
+    server: &tko_server::Options,
+)
+    ensures { HasNotices F.takes F.failures faults.old faults.new }
+{
+    let notice = match server.open_files {
+        Some(limit) => Notice::Descriptors(server.allotment(), limit),
+        None => Notice::UnknownLimit(server.allotment()),
+    };
+    write_notice(rt, alloc, faults, notice);
+}
+
+/// Writes what the workers met, where it is worth a notice.
+#[tactic(auto, using(crate::proofs::NoticeLemmas::more_notices))]
+fn report<R: IoRuntime, F: Outlet>(rt: &R, alloc: Global, faults: &mut F, report: &WorkerReport)
+    ensures { HasNotices F.takes F.failures faults.old faults.new }
+{
+    let faulty = Notice::Faults(report.faults, report.sessions);
+    write_notice_if(rt, alloc, faults, 0 < report.faults, faulty);
+    write_notice_if(rt, alloc, faults, report.memory, Notice::Memory);
+    write_notice_if(rt, alloc, faults, report.ledger_full, Notice::LedgerFull);
 }

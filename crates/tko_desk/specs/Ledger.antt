@@ -31,7 +31,7 @@ number_of Reply n = n.reply
 number_of NoServer n = n.no_server
 number_of Probe n = n.probe
 
--- so many more of the kind, and as many as before of every other
+-- `by` more of the kind, and as many as before of every other
 abbrev pub raised : Kind → ℕ → Numbers → Numbers
 raised Request by n = record n { request = n.request + by }
 raised Attempt by n = record n { attempt = n.attempt + by }
@@ -44,7 +44,7 @@ raised Probe by n = record n { probe = n.probe + by }
 abbrev pub fresh_share : ℕ → ℕ → Share
 fresh_share name place = record { name = name; place = place; numbers = none }
 
--- the shares of the places from 0 on, so many, in order
+-- the shares of the first n places, in order
 abbrev pub fresh_shares : ℕ → ℕ → List Share
 fresh_shares name zero = []
 fresh_shares name (suc n) = fresh_shares name n ++ fresh_share name n ∷ []
@@ -54,17 +54,17 @@ pub record IsOpened (name shares : ℕ) (book : Book) (list : List Share) : Type
   pub book_is : book ≡ record { name = name; shares = shares; totals = none }
   pub list_is : list ≡ fresh_shares name shares
 
--- the book or the share has counted so many of the kind that it counts no more
+-- the book or the share has counted the greatest number of the kind, and counts no more
 abbrev pub IsFull : Kind → Book → Share → Type 0
 IsFull kind book share =
     (number_of kind book.totals ≡ most) ⊎ (number_of kind share.numbers ≡ most)
 
--- the book or the share would come to more of the kind than is counted, with so many more
+-- the book or the share would come to more of the kind than is counted, with `by` more
 abbrev pub IsTooMany : Kind → ℕ → Book → Share → Type 0
 IsTooMany kind by book share =
     (most < number_of kind book.totals + by) ⊎ (most < number_of kind share.numbers + by)
 
--- so many more of the kind in the book and in the share, and nothing else
+-- `by` more of the kind in the book and in the share, and nothing else
 pub record IsAdded (kind : Kind) (by : ℕ) (book : Book) (share : Share) (book' : Book)
     (share' : Share) : Type 0 where
   pub in_book : book' ≡ record book { totals = raised kind by book.totals }

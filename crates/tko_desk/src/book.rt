@@ -28,7 +28,7 @@ pub struct LedgerFull {
 }
 
 impl Book {
-    /// A ledger with so many shares, of the places from 0 on, in order.
+    /// A ledger with `shares` shares, of the places from 0 on, in order.
     pub fn open(alloc: Global, name: u64, shares: u32) -> Result<(Book, Vec<Share>), NoMemory>
         ensures { IfOk result (λ opened. IsOpened name shares opened.0 opened.1.items) }
     {
@@ -57,7 +57,7 @@ impl Book {
         Ok(())
     }
 
-    /// Counts so many more of a kind, in the book and in the share: all of them, or none.
+    /// Counts `by` more of a kind, in the book and in the share: all of them, or none.
     pub fn add_many(&mut self, share: &mut Share, kind: Kind, by: u64) -> Result<(), LedgerFull>
         ensures ok { OnOk result (IsAdded kind by self.old share.old self.new share.new) }
         ensures full { IsErrOf result (record { kind = kind })

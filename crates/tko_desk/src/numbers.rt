@@ -85,14 +85,14 @@ impl Numbers {
         }
     }
 
-    /// Whether so many more of a kind are more than is counted.
+    /// Whether `by` more of a kind are more than is counted.
     pub(crate) fn has_no_room(&self, kind: Kind, by: u64) -> bool
         ensures { IsTrue result ↔ (most < number_of kind self.now + by) }
     {
         self.of(kind).checked_add(by).is_none()
     }
 
-    /// Counts so many more.
+    /// Counts `by` more.
     pub(crate) fn raise(&mut self, kind: Kind, by: u64)
         requires { number_of kind self.old + by ≤ most }
         ensures { self.new ≡ raised kind by self.old }

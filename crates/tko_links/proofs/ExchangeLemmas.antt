@@ -15,7 +15,7 @@ use Rattle.tko_links.specs.declared.fault.LinkFault.TheVariants as fault
 use Rattle.tko_links.specs.declared.links.Outcome.TheVariants as outcome
 use Rattle.tko_links.specs.declared.wire.WireFault.{WireFault}
 use Rattle.tko_links.specs.declared.wire.WireFault.TheVariants as wire_fault
-use Rattle.tko_links.specs.ExchangeParts.{Opens, ReadsPiece, ReceiveEnds, Receives, SendEnds, Sends, TalkEnds, Talks, returned, stays_after}
+use Rattle.tko_links.specs.ExchangeParts.{Opens, ReadsPiece, ReceiveEnds, Receives, SendEnds, Sends, SendAndReceiveEnds, SendsAndReceives, returned, stays_after}
 use Rattle.tko_links.specs.Exchanges.{ConnectionFailed, WriteTookNone, Ended, Unreadable, Ends, IsExchange, IsFront, IsOpening, IsPart, IsShut, closing_of, got_all, is_reached, tried, wrote_all}
 use Rattle.tko_links.specs.Faults.{fault_of}
 use Rattle.tko_links.specs.Incoming.{Arrival, IsAwaited, HasCome, IsReply, Judges, nothing_yet}
@@ -119,13 +119,13 @@ judged_end server request pieces piece bytes count next fault.Broken e len judge
 judged_end server request pieces piece bytes count next fault.Memory e len judged = refl
 
 unsent_end : (server : ℕ) (request : Request) (text : List ℕ) (pieces : List (List ℕ)) (tail : List WireItem) (f : LinkFault) → SendEnds server text pieces tail (Err f)
-    → TalkEnds server request pieces [] tail (Err f)
+    → SendAndReceiveEnds server request pieces [] tail (Err f)
 unsent_end server request text pieces tail fault.TimedOut ends = ends
 unsent_end server request text pieces tail fault.Broken ends = ends request
 unsent_end server request text pieces tail fault.Memory ends = absurd ends
 
 received_end : (server : ℕ) (request : Request) (sent got : List (List ℕ)) (tail : List WireItem) (result : Result (Response × Bool) LinkFault)
-    → concat sent ≡ request_text request → ReceiveEnds server request got tail result → TalkEnds server request sent got tail result
+    → concat sent ≡ request_text request → ReceiveEnds server request got tail result → SendAndReceiveEnds server request sent got tail result
 received_end server request sent got tail (Ok reply) all ends = (ends.0, all, ends.1)
 received_end server request sent got tail (Err fault.TimedOut) all ends = ends
 received_end server request sent got tail (Err fault.Broken) all ends = ends sent
@@ -135,7 +135,7 @@ shut_end : (server : ℕ) (tail told : List WireItem) → tail ≡ told → IsSh
 shut_end server tail told e = record { closed = ap (λ xs. xs ++ Shut server ∷ []) e; gone = refl }
 
 done_end : (server : ℕ) (request : Request) (sent got : List (List ℕ)) (tail : List WireItem) (result : Result (Response × Bool) LinkFault)
-    → TalkEnds server request sent got tail result
+    → SendAndReceiveEnds server request sent got tail result
     → Ends server request (outcome_in (returned result)) sent got (tail ++ closing_of (stays_after result) server) (stays_after result)
 done_end server request sent got tail (Ok reply) ends = record {
   all_sent = ends.1;
@@ -318,9 +318,9 @@ module _ {W : Type 0} {servers : W → ℕ} {connected : W → ℕ → Bool} {fa
 module _ {W : Type 0} {servers : W → ℕ} {connected : W → ℕ → Bool} {failures : W → ℕ} {steps : W → WireItem → W → Type 0}
     {server : ℕ} {request : Request} where
   -- memory for the printed request ran out
-  pub talks_unprinted : (at : W) → connected at server ≡ true
-      → Talks servers connected failures steps server request at (Err fault.Memory) at
-  talks_unprinted at there = record {
+  pub not_printed : (at : W) → connected at server ≡ true
+      → SendsAndReceives servers connected failures steps server request at (Err fault.Memory) at
+  not_printed at there = record {
     sent = [];
     got = [];
     tail = [];
@@ -331,10 +331,10 @@ module _ {W : Type 0} {servers : W → ℕ} {connected : W → ℕ → Bool} {fa
   }
 
   -- the request was not written whole
-  pub talks_unsent : {old new : W} {text : List ℕ} (f : LinkFault) → text ≡ request_text request
+  pub not_sent : {old new : W} {text : List ℕ} (f : LinkFault) → text ≡ request_text request
       → Sends servers connected failures steps server text old (Err f) new
-      → Talks servers connected failures steps server request old (Err f) new
-  talks_unsent {text} f e sends = record {
+      → SendsAndReceives servers connected failures steps server request old (Err f) new
+  not_sent {text} f e sends = record {
     sent = sends.pieces;
     got = [];
     tail = sends.tail;
@@ -345,11 +345,11 @@ module _ {W : Type 0} {servers : W → ℕ} {connected : W → ℕ → Bool} {fa
   }
 
   -- it was, and this came of the reading
-  pub talks_received : {old mid new : W} {text : List ℕ} (result : Result (Response × Bool) LinkFault) → text ≡ request_text request
+  pub received_after_send : {old mid new : W} {text : List ℕ} (result : Result (Response × Bool) LinkFault) → text ≡ request_text request
       → Sends servers connected failures steps server text old (Ok tt) mid
       → Receives servers connected failures steps server request mid result new
-      → Talks servers connected failures steps server request old result new
-  talks_received {text} result e sends receives =
+      → SendsAndReceives servers connected failures steps server request old result new
+  received_after_send {text} result e sends receives =
       let all : concat sends.pieces ≡ request_text request = sends.ends.1 ∙ e in
       let written : wrote_all server sends.pieces ++ sends.tail ≡ wrote_all server sends.pieces =
       ap (λ xs. wrote_all server sends.pieces ++ xs) sends.ends.0 ∙ append-nil (wrote_all server sends.pieces) in
@@ -382,7 +382,7 @@ module _ {W : Type 0} {servers : W → ℕ} {connected : W → ℕ → Bool} {fa
   -- a connection, a request and its response, and the end
   pub exchange_done : {old mid talked new : W} (result : Result (Response × Bool) LinkFault)
       → Opens servers connected failures steps server old true mid
-      → Talks servers connected failures steps server request mid result talked
+      → SendsAndReceives servers connected failures steps server request mid result talked
       → IsPart servers connected failures steps server talked (closing_of (stays_after result) server) (stays_after result) new
       → IsExchange servers connected failures steps server request old (outcome_in (returned result)) new
   exchange_done {old} result opened talks close = record {

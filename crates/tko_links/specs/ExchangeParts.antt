@@ -17,7 +17,8 @@ use Rattle.tko_links.specs.Wires.{WireItem, Got, Failed}
 
 -- a connection was found or made, or could not be made
 pub record Opens {W : Type 0} (servers : W → ℕ) (connected : W → ℕ → Bool) (failures : W → ℕ)
-    (steps : W → WireItem → W → Type 0) (server : ℕ) (old : W) (is_open : Bool) (new : W) : Type 0 where
+    (steps : W → WireItem → W → Type 0) (server : ℕ) (old : W) (is_open : Bool) (new : W)
+    : Type 0 where
   pub items : List WireItem
   pub part : IsPart servers connected failures steps server old items is_open new
   pub opens : IsOpening server (connected old server) is_open items
@@ -25,36 +26,43 @@ pub record Opens {W : Type 0} (servers : W → ℕ) (connected : W → ℕ → B
 -- how a writing of the text ends after these pieces
 abbrev pub SendEnds : ℕ → List ℕ → List (List ℕ) → List WireItem → Result Unit LinkFault → Type 0
 SendEnds server text pieces tail (Ok done) = (tail ≡ []) × (concat pieces ≡ text)
-SendEnds server text pieces tail (Err fault.TimedOut) = tail ≡ Failed server wire_fault.TimedOut ∷ []
+SendEnds server text pieces tail (Err fault.TimedOut) =
+    tail ≡ Failed server wire_fault.TimedOut ∷ []
 SendEnds server text pieces tail (Err fault.Broken) =
     (request : Request) → IsBroken server request pieces [] tail
 SendEnds server text pieces tail (Err fault.Memory) = ⊥
 
 -- a beginning of the text was written
 pub record Sends {W : Type 0} (servers : W → ℕ) (connected : W → ℕ → Bool) (failures : W → ℕ)
-    (steps : W → WireItem → W → Type 0) (server : ℕ) (text : List ℕ) (old : W) (result : Result Unit LinkFault) (new : W)
+    (steps : W → WireItem → W → Type 0) (server : ℕ) (text : List ℕ) (old : W)
+    (result : Result Unit LinkFault) (new : W)
     : Type 0 where
   pub pieces : List (List ℕ)
   pub tail : List WireItem
-  pub part : IsPart servers connected failures steps server old (wrote_all server pieces ++ tail) true new
+  pub part : IsPart servers connected failures steps server old
+      (wrote_all server pieces ++ tail) true new
   pub front : IsFront (concat pieces) text
   pub ends : SendEnds server text pieces tail result
 
 -- what one read for a response did: a piece came, which may be empty, or the read failed; where
 -- memory for the room ran out, nothing was read
-abbrev pub ReadsPiece : {W : Type 0} → (W → ℕ) → (W → ℕ → Bool) → (W → ℕ) → (W → WireItem → W → Type 0)
-    → ℕ → W → List ℕ → Result ℕ LinkFault → W → List ℕ → Type 0
+abbrev pub ReadsPiece : {W : Type 0} → (W → ℕ) → (W → ℕ → Bool) → (W → ℕ)
+    → (W → WireItem → W → Type 0) → ℕ → W → List ℕ → Result ℕ LinkFault → W → List ℕ → Type 0
 ReadsPiece servers connected failures steps server old bytes (Ok count) new bytes' =
     (piece : List ℕ) × (bytes' ≡ bytes ++ piece) × (length piece ≡ count)
     × IsPart servers connected failures steps server old (Got server piece ∷ []) true new
 ReadsPiece servers connected failures steps server old bytes (Err fault.TimedOut) new bytes' =
-    IsPart servers connected failures steps server old (Failed server wire_fault.TimedOut ∷ []) true new
+    IsPart servers connected failures steps server old
+    (Failed server wire_fault.TimedOut ∷ []) true new
 ReadsPiece servers connected failures steps server old bytes (Err fault.Broken) new bytes' =
-    IsPart servers connected failures steps server old (Failed server wire_fault.Other ∷ []) true new
-ReadsPiece servers connected failures steps server old bytes (Err fault.Memory) new bytes' = new ≡ old
+    IsPart servers connected failures steps server old
+    (Failed server wire_fault.Other ∷ []) true new
+ReadsPiece servers connected failures steps server old bytes (Err fault.Memory) new bytes' =
+    new ≡ old
 
 -- how the reading of a response ends after these pieces
-abbrev pub ReceiveEnds : ℕ → Request → List (List ℕ) → List WireItem → Result (Response × Bool) LinkFault → Type 0
+abbrev pub ReceiveEnds : ℕ → Request → List (List ℕ) → List WireItem
+    → Result (Response × Bool) LinkFault → Type 0
 ReceiveEnds server request pieces tail (Ok reply) =
     (tail ≡ []) × IsReply request (concat pieces) reply.0 reply.1
 ReceiveEnds server request pieces tail (Err fault.TimedOut) =
@@ -68,21 +76,26 @@ pub record Receives {W : Type 0} (servers : W → ℕ) (connected : W → ℕ �
     (result : Result (Response × Bool) LinkFault) (new : W) : Type 0 where
   pub pieces : List (List ℕ)
   pub tail : List WireItem
-  pub part : IsPart servers connected failures steps server old (got_all server pieces ++ tail) true new
+  pub part : IsPart servers connected failures steps server old
+      (got_all server pieces ++ tail) true new
   pub ends : ReceiveEnds server request pieces tail result
 
 -- how a request and its response end
-abbrev pub TalkEnds : ℕ → Request → List (List ℕ) → List (List ℕ) → List WireItem → Result (Response × Bool) LinkFault → Type 0
-TalkEnds server request sent got tail (Ok reply) =
-    (tail ≡ []) × (concat sent ≡ request_text request) × IsReply request (concat got) reply.0 reply.1
-TalkEnds server request sent got tail (Err fault.TimedOut) =
+abbrev pub SendAndReceiveEnds : ℕ → Request → List (List ℕ) → List (List ℕ) → List WireItem
+    → Result (Response × Bool) LinkFault → Type 0
+SendAndReceiveEnds server request sent got tail (Ok reply) =
+    (tail ≡ []) × (concat sent ≡ request_text request)
+    × IsReply request (concat got) reply.0 reply.1
+SendAndReceiveEnds server request sent got tail (Err fault.TimedOut) =
     tail ≡ Failed server wire_fault.TimedOut ∷ []
-TalkEnds server request sent got tail (Err fault.Broken) = IsBroken server request sent got tail
-TalkEnds server request sent got tail (Err fault.Memory) = tail ≡ []
+SendAndReceiveEnds server request sent got tail (Err fault.Broken) =
+    IsBroken server request sent got tail
+SendAndReceiveEnds server request sent got tail (Err fault.Memory) = tail ≡ []
 
 -- a request was written and its response read, over a connection that is there
-pub record Talks {W : Type 0} (servers : W → ℕ) (connected : W → ℕ → Bool) (failures : W → ℕ)
-    (steps : W → WireItem → W → Type 0) (server : ℕ) (request : Request) (old : W)
+pub record SendsAndReceives {W : Type 0} (servers : W → ℕ) (connected : W → ℕ → Bool)
+    (failures : W → ℕ) (steps : W → WireItem → W → Type 0) (server : ℕ) (request : Request)
+    (old : W)
     (result : Result (Response × Bool) LinkFault) (new : W) : Type 0 where
   pub sent : List (List ℕ)
   pub got : List (List ℕ)
@@ -91,7 +104,7 @@ pub record Talks {W : Type 0} (servers : W → ℕ) (connected : W → ℕ → B
       (wrote_all server sent ++ (got_all server got ++ tail)) true new
   pub front : IsFront (concat sent) (request_text request)
   pub order : (got ≡ []) ⊎ (concat sent ≡ request_text request)
-  pub ends : TalkEnds server request sent got tail result
+  pub ends : SendAndReceiveEnds server request sent got tail result
 
 -- whether the connection stays after this, and the item where it does not
 abbrev pub stays_after : Result (Response × Bool) LinkFault → Bool

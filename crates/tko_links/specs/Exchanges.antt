@@ -27,8 +27,8 @@ failures_of (Checked server usable) = 0
 -- these are the wire's items from the one state to the other, the connection of this server is
 -- there at their end or not, and no other server's connection changed
 pub record IsPart {W : Type 0} (servers : W → ℕ) (connected : W → ℕ → Bool) (failures : W → ℕ)
-    (steps : W → WireItem → W → Type 0) (server : ℕ) (old : W) (items : List WireItem) (open_after : Bool) (new : W)
-    : Type 0 where
+    (steps : W → WireItem → W → Type 0) (server : ℕ) (old : W) (items : List WireItem)
+    (open_after : Bool) (new : W) : Type 0 where
   pub gains : Gains steps old items new
   pub connection : connected new server ≡ open_after
   pub others : OthersSame server (connected old) (connected new)
@@ -73,9 +73,11 @@ pub record EndsEmpty (pieces : List (List ℕ)) : Type 0 where
 -- front of it is a response, or it is unreadable. Nothing is read before all is written.
 pub data IsBroken (server : ℕ) (request : Request) (sent got : List (List ℕ)) (tail : List WireItem)
     : Type 0 where
-  ConnectionFailed : tail ≡ Failed server wire_fault.Other ∷ [] → IsBroken server request sent got tail
+  ConnectionFailed : tail ≡ Failed server wire_fault.Other ∷ []
+      → IsBroken server request sent got tail
   WriteTookNone : tail ≡ [] → got ≡ [] → EndsEmpty sent → IsBroken server request sent got tail
-  Ended : tail ≡ [] → EndsEmpty got → NoResponse request (concat got) → IsBroken server request sent got tail
+  Ended : tail ≡ [] → EndsEmpty got → NoResponse request (concat got)
+      → IsBroken server request sent got tail
   Unreadable : tail ≡ [] → ReadsResponse request (concat got) (Err read_fault.Unreadable)
       → IsBroken server request sent got tail
 
@@ -86,14 +88,15 @@ closing_of false server = Shut server ∷ []
 
 -- the response that begins what was read, after the whole request was written; the connection stays
 -- exactly if nothing followed the response
-pub record IsAnswered (server : ℕ) (request : Request) (response : Response) (sent got : List (List ℕ))
-    (closing : List WireItem) (stays : Bool) : Type 0 where
+pub record IsAnswered (server : ℕ) (request : Request) (response : Response)
+    (sent got : List (List ℕ)) (closing : List WireItem) (stays : Bool) : Type 0 where
   pub all_sent : concat sent ≡ request_text request
   pub reply : IsReply request (concat got) response stays
   pub closed : closing ≡ closing_of stays server
 
 -- nothing is written or read without a connection
-pub record IsRefused (sent got : List (List ℕ)) (closing : List WireItem) (stays : Bool) : Type 0 where
+pub record IsRefused (sent got : List (List ℕ)) (closing : List WireItem) (stays : Bool)
+    : Type 0 where
   pub unsent : sent ≡ []
   pub unread : got ≡ []
   pub closed : closing ≡ []
@@ -105,14 +108,16 @@ pub record IsShut (server : ℕ) (tail closing : List WireItem) (stays : Bool) :
   pub gone : stays ≡ false
 
 -- how an exchange ends, by what came of it; nothing where memory ran out
-abbrev pub Ends : ℕ → Request → Option Outcome → List (List ℕ) → List (List ℕ) → List WireItem → Bool → Type 0
+abbrev pub Ends : ℕ → Request → Option Outcome → List (List ℕ) → List (List ℕ) → List WireItem
+    → Bool → Type 0
 Ends server request (Some (outcome.Reply response)) sent got closing stays =
     IsAnswered server request response sent got closing stays
 Ends server request (Some outcome.Refused) sent got closing stays = IsRefused sent got closing stays
 Ends server request (Some outcome.Timeout) sent got closing stays =
     IsShut server (Failed server wire_fault.TimedOut ∷ []) closing stays
 Ends server request (Some outcome.Broken) sent got closing stays =
-    (tail : List WireItem) × IsBroken server request sent got tail × IsShut server tail closing stays
+    (tail : List WireItem) × IsBroken server request sent got tail
+    × IsShut server tail closing stays
 Ends server request (Some outcome.Spent) sent got closing stays = ⊥
 Ends server request None sent got closing stays = IsShut server [] closing stays
 
@@ -124,8 +129,8 @@ is_reached _ = true
 -- Of this request that came, and the wire did this: a connection was found or made, a beginning of
 -- the request was written, bytes were read only after all of it, and the exchange ended.
 pub record IsExchange {W : Type 0} (servers : W → ℕ) (connected : W → ℕ → Bool) (failures : W → ℕ)
-    (steps : W → WireItem → W → Type 0) (server : ℕ) (request : Request) (old : W) (came : Option Outcome) (new : W)
-    : Type 0 where
+    (steps : W → WireItem → W → Type 0) (server : ℕ) (request : Request) (old : W)
+    (came : Option Outcome) (new : W) : Type 0 where
   pub opening : List WireItem
   pub sent : List (List ℕ)
   pub got : List (List ℕ)

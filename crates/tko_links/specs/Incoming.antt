@@ -37,8 +37,9 @@ pub record IsReply (request : Request) (bytes : List ℕ) (response : Response) 
   pub reads : ReadsResponse request bytes (Ok (response, len))
   pub ends : is_last ≡ (len == length bytes)
 
--- what the bytes are, after a piece of so many has come: a response, none yet, or never one
-abbrev pub Judges : Request → List ℕ → ℕ → Arrival → Result (Option (Response × Bool)) LinkFault → Type 0
+-- what the bytes are, after a piece of `count` bytes has come: a response, none yet, or never one
+abbrev pub Judges : Request → List ℕ → ℕ → Arrival → Result (Option (Response × Bool)) LinkFault
+    → Type 0
 Judges request bytes count new (Ok (Some reply)) = IsReply request bytes reply.0 reply.1
 Judges request bytes count new (Ok None) = IsAwaited request new
 Judges request bytes count new (Err fault.TimedOut) = ⊥

@@ -7,6 +7,7 @@ pub mod Links
 pub mod MemoryWires
 pub mod Scripted
 pub mod TcpAddresses
+pub mod TcpConnections
 pub mod TcpWires
 pub mod WireRecords
 pub mod Wired

@@ -9,8 +9,8 @@ use Rattle.tko_links.specs.declared.links.NoMemory.{NoMemory}
 abbrev pub most_sends : ℕ
 most_sends = 18446744073709551615
 
--- an item of a links record: this request was sent to this server, or the server was probed, and that
--- came of it; without an outcome where memory ran out
+-- an item of a links record: this request was sent to this server, or the server was probed, with
+-- this outcome, or none where memory ran out
 pub data LinksItem : Type 0 where
   Sent : (server : ℕ) (request : Request) (outcome : Option Outcome) → LinksItem
   Probed : (server : ℕ) (outcome : Option Outcome) → LinksItem

@@ -1,19 +1,13 @@
 -- A wire in memory: which servers are connected, and the bytes that each was sent.
-use Rattle.std.specs.Prelude.{◌≡◌, ℕ, Bool, true, false, List, [], ◌++◌, get_or, slice_set}
-use Rattle.tko_links.specs.Wires.{WireItem, Connected, Unconnected, Wrote, Shut}
+use Rattle.std.specs.Prelude.{◌≡◌, ℕ, Bool, List, [], ◌++◌, get_or, slice_set}
+use Rattle.tko_links.specs.TcpWires.{connected_after}
+use Rattle.tko_links.specs.Wires.{WireItem, Wrote}
 
 -- which servers are connected, the bytes that each was sent, and how often a call failed
 pub record MemoryState : Type 0 where
   pub connected : List Bool
   pub written : List (List ℕ)
   pub failures : ℕ
-
--- which servers are connected after an item
-abbrev pub joined_after : List Bool → WireItem → List Bool
-joined_after connected (Connected server) = slice_set connected server true
-joined_after connected (Unconnected server) = slice_set connected server false
-joined_after connected (Shut server) = slice_set connected server false
-joined_after connected _ = connected
 
 -- the bytes that each server was sent after an item
 abbrev pub written_after : List (List ℕ) → WireItem → List (List ℕ)
@@ -23,5 +17,5 @@ written_after written _ = written
 
 -- one call: the server that it connected or shut is so, and the bytes that it wrote are kept
 pub record IsMemoryStep (old : MemoryState) (it : WireItem) (new : MemoryState) : Type 0 where
-  pub connected : new.connected ≡ joined_after old.connected it
+  pub connected : new.connected ≡ connected_after old.connected it
   pub written : new.written ≡ written_after old.written it

@@ -125,8 +125,8 @@ abbrev pub probes_after_all : List ℕ → List LinksItem → List ℕ
 probes_after_all probes [] = probes
 probes_after_all probes (it ∷ items) = probes_after_all (probes_after probes it) items
 
--- over these items the scripts are used in order, each send and each probe is counted, and the bytes
--- of each request are kept in order
+-- over these items the scripts are used in order, each send and each probe is counted, and the
+-- bytes of each request are kept in order
 pub record IsReplay (old : ScriptedState) (items : List LinksItem) (new : ScriptedState)
     : Type 0 where
   pub outcomes : GiveInOrder old.scripts items

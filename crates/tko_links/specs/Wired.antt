@@ -31,7 +31,9 @@ came_of_item (Probed server came) = came
 
 -- an item is one exchange over the wire, and is counted
 pub record IsWired {W : Type 0} (servers : W → ℕ) (connected : W → ℕ → Bool) (failures : W → ℕ)
-    (steps : W → WireItem → W → Type 0) (old : WiredState W) (it : LinksItem) (new : WiredState W) : Type 0 where
-  pub exchange : IsExchange servers connected failures steps (server_of it) (asked_in it) old.wire (came_of_item it) new.wire
+    (steps : W → WireItem → W → Type 0) (old : WiredState W) (it : LinksItem) (new : WiredState W)
+    : Type 0 where
+  pub exchange : IsExchange servers connected failures steps (server_of it) (asked_in it)
+      old.wire (came_of_item it) new.wire
   pub sends : new.sends ≡ sends_after old.sends it
   pub probes : new.probes ≡ probes_after old.probes it

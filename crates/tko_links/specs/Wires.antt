@@ -7,7 +7,8 @@ pub data WireItem : Type 0 where
   -- a connection was made, or could not be made
   Connected : (server : ℕ) → WireItem
   Unconnected : (server : ℕ) → WireItem
-  -- these bytes were taken from the front of a piece; none of a piece that is not empty is a failure
+  -- these bytes were taken from the front of a piece; none of a piece that is not empty is a
+  -- failure
   Wrote : (server : ℕ) (bytes : List ℕ) → WireItem
   -- these bytes came; none are the end of input
   Got : (server : ℕ) (bytes : List ℕ) → WireItem

@@ -1,10 +1,12 @@
 //! Counts that contracts see as whole numbers.
 ghost use Rattle.std.specs.Prelude.{◌≡◌, ◌+◌};
+ghost use Rattle.tko_links.specs.Wires.{faults_in, refusals_in};
 
+use crate::wire::WireFault;
 use std::sync::Wait;
 
 /// Raises a count by 1. It blocks forever at 2^64 - 1, which no run reaches.
-pub(crate) fn raise<R: Wait>(rt: &R, count: &mut u64)
+pub fn raise<R: Wait>(rt: &R, count: &mut u64)
     ensures { count.new ≡ count.old + 1 }
 {
     for _ in rt.forever() {
@@ -14,4 +16,45 @@ pub(crate) fn raise<R: Wait>(rt: &R, count: &mut u64)
         }
     }
     unreachable!()
+}
+
+/// Counts the result of a connect or a read, and returns it.
+pub(crate) fn counted<R: Wait, T>(
+    rt: &R,
+    failures: &mut u64,
+    called: Result<T, WireFault>,
+) -> Result<T, WireFault>
+    ensures same { result ≡ called }
+    ensures failures { failures.new ≡ failures.old + faults_in called }
+{
+    match called {
+        Ok(done) => Ok(done),
+        Err(fault) => {
+            raise(rt, failures);
+            Err(fault)
+        }
+    }
+}
+
+/// Counts the result of a write of this piece, and returns it.
+pub(crate) fn counted_write<R: Wait>(
+    rt: &R,
+    failures: &mut u64,
+    piece: &[u8],
+    written: Result<usize, WireFault>,
+) -> Result<usize, WireFault>
+    ensures same { result ≡ written }
+    ensures failures { failures.new ≡ failures.old + refusals_in piece.now written }
+{
+    match written {
+        Ok(0) if !piece.is_empty() => {
+            raise(rt, failures);
+            Ok(0)
+        }
+        Ok(count) => Ok(count),
+        Err(fault) => {
+            raise(rt, failures);
+            Err(fault)
+        }
+    }
 }

@@ -1,7 +1,7 @@
 //! One exchange over a wire.
-ghost use Rattle.std.specs.Prelude.{◌≡◌, ◌<◌, true};
+ghost use Rattle.std.specs.Prelude.{◌≡◌, ◌<◌, true, IfErr, OnOk};
 ghost use Rattle.tko_text.specs.Requests.{request_text};
-ghost use Rattle.tko_links.specs.ExchangeParts.{Opens, Receives, Sends, Talks, returned, stays_after};
+ghost use Rattle.tko_links.specs.ExchangeParts.{Opens, Receives, Sends, SendsAndReceives, returned, stays_after};
 ghost use Rattle.tko_links.specs.Exchanges.{IsExchange, IsPart, closing_of};
 ghost use Rattle.tko_links.specs.Links.{is_counted, outcome_in};
 ghost use Rattle.tko_links.specs.Wires.{is_ok};
@@ -10,6 +10,7 @@ use crate::fault::LinkFault;
 use crate::incoming::Incoming;
 use crate::io_runtime::IoRuntime;
 use crate::links::{NoMemory, Outcome};
+use crate::read_buffer::ReadBuffer;
 use crate::wire::{Wire, WireFault};
 use std::alloc::Global;
 use tko_text::{Request, Response};
@@ -31,8 +32,8 @@ pub(crate) fn exchange_over<R: IoRuntime, W: Wire>(
 {
     match connect(rt, wire, server) {
         Ok(()) => {
-            let talk = talk(rt, alloc, wire, buffers, server, request);
-            close(wire, server, talk)
+            let received = send_and_receive(rt, alloc, wire, buffers, server, request);
+            close(wire, server, received)
         }
         Err(_) => Ok(Outcome::Refused),
     }
@@ -42,15 +43,15 @@ pub(crate) fn exchange_over<R: IoRuntime, W: Wire>(
 fn close<W: Wire>(
     wire: &mut W,
     server: usize,
-    talk: Result<(Response, bool), LinkFault>,
+    received: Result<(Response, bool), LinkFault>,
 ) -> Result<Outcome, NoMemory>
     requires within { server < W.servers wire.old }
     requires connected { W.is_connected wire.old server ≡ true }
     ensures closes { IsPart W.servers W.is_connected W.failures W.steps server wire.old
-        (closing_of (stays_after talk) server) (stays_after talk) wire.new }
-    ensures returns { result ≡ returned talk }
+        (closing_of (stays_after received) server) (stays_after received) wire.new }
+    ensures returns { result ≡ returned received }
 {
-    match talk {
+    match received {
         Ok((response, true)) => Ok(Outcome::Reply(response)),
         Ok((response, false)) => {
             wire.shut(server);
@@ -81,7 +82,7 @@ fn connect<R: IoRuntime, W: Wire>(rt: &R, wire: &mut W, server: usize) -> Result
 }
 
 /// Prints a request, writes it and reads its response.
-fn talk<R: IoRuntime, W: Wire>(
+fn send_and_receive<R: IoRuntime, W: Wire>(
     rt: &R,
     alloc: Global,
     wire: &mut W,
@@ -91,37 +92,12 @@ fn talk<R: IoRuntime, W: Wire>(
 ) -> Result<(Response, bool), LinkFault>
     requires within { server < W.servers wire.old }
     requires connected { W.is_connected wire.old server ≡ true }
-    ensures { Talks W.servers W.is_connected W.failures W.steps server request.now wire.old result
-        wire.new }
+    ensures { SendsAndReceives W.servers W.is_connected W.failures W.steps server request.now
+        wire.old result wire.new }
 {
-    let Buffers { text, incoming } = buffers;
-    text.clear();
-    match request.append_to(text) {
-        Ok(()) => converse(rt, alloc, wire, text.as_slice(), incoming, server, request),
-        Err(_) => Err(LinkFault::Memory),
-    }
-}
-
-/// Writes the printed request and reads its response.
-fn converse<R: IoRuntime, W: Wire>(
-    rt: &R,
-    alloc: Global,
-    wire: &mut W,
-    text: &[u8],
-    incoming: &mut Incoming,
-    server: usize,
-    request: &Request,
-) -> Result<(Response, bool), LinkFault>
-    requires within { server < W.servers wire.old }
-    requires connected { W.is_connected wire.old server ≡ true }
-    requires printed { text.now ≡ request_text request.now }
-    ensures { Talks W.servers W.is_connected W.failures W.steps server request.now wire.old result
-        wire.new }
-{
-    match send(rt, wire, server, text) {
-        Ok(()) => receive(rt, alloc, wire, incoming, server, request),
-        Err(fault) => Err(fault),
-    }
+    buffers.print(request)?;
+    send(rt, wire, server, buffers.text.as_slice())?;
+    receive(rt, alloc, wire, &mut buffers.received, server, request)
 }
 
 /// Writes a text: in one call, continued where the wire took less.
@@ -152,7 +128,7 @@ fn receive<R: IoRuntime, W: Wire>(
     rt: &R,
     alloc: Global,
     wire: &mut W,
-    incoming: &mut Incoming,
+    received: &mut ReadBuffer,
     server: usize,
     request: &Request,
 ) -> Result<(Response, bool), LinkFault>
@@ -161,10 +137,11 @@ fn receive<R: IoRuntime, W: Wire>(
     ensures { Receives W.servers W.is_connected W.failures W.steps server request.now wire.old
         result wire.new }
 {
-    incoming.clear();
+    received.clear();
+    let mut incoming = Incoming::new();
     for _ in rt.forever() {
-        match incoming.read(rt, wire, server) {
-            Ok(count) => match incoming.look(alloc, request, count) {
+        match received.read(rt, wire, server) {
+            Ok(count) => match incoming.look(alloc, request, received.as_bytes(), count) {
                 Ok(None) => {}
                 Ok(Some(reply)) => return Ok(reply),
                 Err(fault) => return Err(fault),
@@ -180,7 +157,7 @@ fn receive<R: IoRuntime, W: Wire>(
 pub(crate) struct Buffers {
     /// The printed request.
     text: Vec<u8>,
-    incoming: Incoming,
+    received: ReadBuffer,
 }
 
 /// The greatest capacity that an empty buffer keeps.
@@ -190,13 +167,25 @@ impl Buffers {
     pub(crate) fn new(alloc: Global) -> Buffers {
         Buffers {
             text: Vec::new(alloc),
-            incoming: Incoming::new(alloc),
+            received: ReadBuffer::new(alloc),
+        }
+    }
+
+    /// Prints a request into the text.
+    fn print(&mut self, request: &Request) -> Result<(), LinkFault>
+        ensures ok { OnOk result (self.new.text.items ≡ request_text request.now) }
+        ensures err { IfErr result (λ fault. fault ≡ LinkFault.Memory) }
+    {
+        self.text.clear();
+        match request.append_to(&mut self.text) {
+            Ok(()) => Ok(()),
+            Err(_) => Err(LinkFault::Memory),
         }
     }
 
     /// Gives up room above 64 KiB.
     pub(crate) fn release(&mut self) {
         tko_bytes::clear(&mut self.text, KEPT_CAPACITY);
-        self.incoming.release();
+        self.received.release();
     }
 }

@@ -4,10 +4,10 @@
 //!   `NoMemory`, which says whether the request was counted.
 //! - `Scripted`: links in memory that play a list of `Script`s, and keep the bytes of each request
 //!   as a `RequestText`.
-//! - `Wire`: the connections to the servers and their bytes; `TcpWire`: those over TCP; `MemoryWire`:
-//!   a wire in memory, whose servers play lists of `PeerStep`s.
+//! - `Wire`: the connections to the servers and their bytes; `TcpWire`: those over TCP.
 //! - `Wired`: links over a wire; `TcpLinks`: those over TCP.
 //! - `IoRuntime`: a runtime that lets a call wait and use the network.
+//! - `raise`: raises a count by 1.
 #![tactic(auto)]
 
 mod counting;
@@ -17,9 +17,9 @@ mod fault;
 mod incoming;
 mod io_runtime;
 mod laws;
+mod limited_stream;
 mod links;
-mod memory_wire;
-mod peer;
+mod read_buffer;
 mod scripted;
 mod tcp_address;
 mod tcp_connect;
@@ -30,17 +30,20 @@ mod wire;
 mod wired;
 mod wired_law;
 
+pub use counting::raise;
 pub use io_runtime::IoRuntime;
 pub use laws::{scripted_replays, tcp_counts};
 pub use links::{Links, NoMemory, Outcome};
-pub use memory_wire::MemoryWire;
-pub use peer::PeerStep;
 pub use scripted::{RequestText, Script, Scripted};
 pub use tcp_wire::TcpWire;
 pub use wire::{Wire, WireFault};
 pub use wired::{TcpLinks, Wired};
 pub use wired_law::wired_records;
 
+#[cfg(test)]
+mod memory_wire;
+#[cfg(test)]
+mod peer;
 #[cfg(test)]
 mod tcp_links_tests;
 #[cfg(test)]

@@ -1,15 +1,13 @@
-//! A wire in memory, for tests and examples.
-ghost use Rattle.std.specs.Prelude.{◌≡◌, ◌<◌, ◌≤◌, ◌+◌, ◌++◌, ◌∷◌, [], IfOk, OnOk, OnErr, false, get_or, length, take};
+//! A wire in memory, which keeps the bytes that each server was sent.
+ghost use Rattle.std.specs.Prelude.{◌≡◌, ◌<◌, ◌≤◌, ◌++◌, ◌∷◌, [], IfOk, OnOk, OnErr, false, get_or, length, take};
 ghost use Rattle.tko_links.specs.MemoryWires.{IsMemoryStep};
-ghost use Rattle.tko_links.specs.Wires.{faults_in, refusals_in};
 
-use crate::counting::raise;
+use crate::counting::{counted, counted_write};
 use crate::io_runtime::IoRuntime;
 use crate::peer::{Peer, PeerStep};
 use crate::wire::{Wire, WireFault};
 use std::alloc::{AllocError, Global};
 use std::marker::Model;
-use std::sync::Wait;
 use tko_bytes::NoMemory;
 
 /// The bytes that a server was sent. Contracts see their list.
@@ -52,7 +50,7 @@ impl Inbox {
 /// Connections in memory to servers that play lists of steps. It keeps the bytes that each server
 /// was sent.
 #[derive(Debug, Drop)]
-pub struct MemoryWire {
+pub(crate) struct MemoryWire {
     alloc: Global,
     peers: Vec<Peer>,
     connected: Vec<bool>,
@@ -78,7 +76,7 @@ impl Model for MemoryWire {
 
 impl MemoryWire {
     /// A wire without servers.
-    pub fn new(alloc: Global) -> MemoryWire
+    pub(crate) fn new(alloc: Global) -> MemoryWire
         ensures { result ≡ record { connected = []; written = []; failures = 0 } }
     {
         MemoryWire {
@@ -91,7 +89,7 @@ impl MemoryWire {
     }
 
     /// One server more, which is not connected and plays these steps.
-    pub fn with_server(self, steps: Vec<PeerStep>) -> Result<MemoryWire, NoMemory>
+    pub(crate) fn with_server(self, steps: Vec<PeerStep>) -> Result<MemoryWire, NoMemory>
         ensures { IfOk result (λ wire. wire ≡ record {
           connected = self.connected ++ false ∷ [];
           written = self.written ++ [] ∷ [];
@@ -117,52 +115,13 @@ impl MemoryWire {
         })
     }
 
-    /// The bytes that a server was sent.
-    pub fn written(&self, server: usize) -> &[u8]
-        requires { server < length self.now.written }
+    /// The bytes that a server was sent; none where there is no such server.
+    pub(crate) fn written(&self, server: usize) -> &[u8]
         ensures { result.now ≡ get_or self.now.written server [] }
     {
-        self.written[server].as_bytes()
-    }
-}
-
-/// Counts a failure of a call, and returns the result.
-fn counted<R: Wait, T>(
-    rt: &R,
-    failures: &mut u64,
-    called: Result<T, WireFault>,
-) -> Result<T, WireFault>
-    ensures same { result ≡ called }
-    ensures failures { failures.new ≡ failures.old + faults_in called }
-{
-    match called {
-        Ok(done) => Ok(done),
-        Err(fault) => {
-            raise(rt, failures);
-            Err(fault)
-        }
-    }
-}
-
-/// Counts a write of this piece that failed or took nothing, and returns its result.
-fn counted_write<R: Wait>(
-    rt: &R,
-    failures: &mut u64,
-    piece: &[u8],
-    called: Result<usize, WireFault>,
-) -> Result<usize, WireFault>
-    ensures same { result ≡ called }
-    ensures failures { failures.new ≡ failures.old + refusals_in piece.now called }
-{
-    match called {
-        Ok(0) if !piece.is_empty() => {
-            raise(rt, failures);
-            Ok(0)
-        }
-        Ok(count) => Ok(count),
-        Err(fault) => {
-            raise(rt, failures);
-            Err(fault)
+        match self.written.get(server) {
+            Some(inbox) => inbox.as_bytes(),
+            None => &[],
         }
     }
 }

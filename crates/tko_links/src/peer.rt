@@ -12,7 +12,7 @@ pub enum PeerStep {
     Refuse,
     /// It waits for the next request, which it takes whole.
     Await,
-    /// It takes at most so many bytes of the next write.
+    /// It takes at most this number of bytes of the next write.
     Take(usize),
     /// These bytes come, in as many reads as the buffers need.
     Send(Vec<u8>),

@@ -48,8 +48,8 @@ impl RequestText {
     }
 }
 
-/// Links that play one script for each request and for each probe, and refuse where the list is used
-/// up. They keep the bytes of each request sent.
+/// Links that play one script for each request and for each probe, and refuse where the list is
+/// used up. They keep the bytes of each request sent.
 #[derive(Debug, Drop)]
 pub struct Scripted {
     alloc: Global,
@@ -185,7 +185,7 @@ impl Scripted {
     ghost use Rattle.std.specs.Prelude.{drop, slice_get};
     ghost use Rattle.tko_links.specs.Scripted.{NextGives, counted};
 
-    /// Links to so many servers, none of which was sent to or probed.
+    /// Links to `servers` servers, none of which was sent to or probed.
     pub fn new(
         alloc: Global,
         servers: usize,

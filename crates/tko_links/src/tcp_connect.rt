@@ -31,7 +31,7 @@ pub(crate) fn connect<R: IoRuntime>(
     Err(last)
 }
 
-/// Connects to this address, in one part of so many of the time that is left.
+/// Connects to this address, in one of `parts` equal parts of the time that is left.
 fn connect_one<R: IoRuntime>(
     rt: &R,
     address: SocketAddr,

@@ -1,80 +1,71 @@
 //! One connection to a server, and the time limit of the exchange on it.
 //!
-//! A socket has limits of its own for a read and a write, which are set when it connects to the
-//! time of a whole exchange. Only a call after one that may have waited gets what is left of it.
-ghost use Rattle.std.specs.Prelude.{◌≤◌, IfOk, length};
+//! A call has the whole limit of an exchange as long as no call of the exchange can have waited,
+//! and then needs neither the clock nor another limit of the socket. Each later call has what is
+//! left.
+ghost use Rattle.std.specs.Prelude.{◌≡◌, ◌≤◌, ◌↔◌, true, false, IfErr, IfOk, length};
+ghost use Rattle.std.specs.Duration.{as_nanos};
+ghost use Rattle.tko_links.specs.ExchangeTimes.{left_at};
+ghost use Rattle.tko_links.specs.TcpConnections.{Begins, IsAllowed, IsOpened, IsQuick};
 
 use crate::exchange_time::ExchangeTime;
 use crate::io_runtime::IoRuntime;
+use crate::limited_stream::LimitedStream;
 use crate::tcp_connect::connect;
 use crate::wire::WireFault;
 use std::io;
-use std::io::{Error, ErrorKind, Read, Write};
-use std::net::TcpStream;
+use std::io::{Error, ErrorKind};
 use std::time::{Duration, Instant};
 
-/// A connection whose last exchange began so many milliseconds ago is looked at before the next.
-const GAP_MS: u64 = 50;
-
-/// A write of so many bytes does not wait where nothing else is on its way.
+/// A write of up to this many bytes does not wait where nothing else is on its way.
 const QUICK_WRITE: usize = 16_384;
 
 /// A connection.
 #[derive(Drop)]
 pub(crate) struct TcpConnection {
-    stream: TcpStream,
+    socket: LimitedStream,
     time: ExchangeTime,
     /// Whether a call of this exchange may have waited.
     has_waited: bool,
-    /// Whether one of the socket's limits is only what was left of an exchange.
-    is_shortened: bool,
 }
 
 impl TcpConnection {
-    /// Connects to a server. This begins an exchange, of whose time connecting takes its part.
+    /// Connects to a server, in an exchange that has begun: connecting takes its part of the time.
     pub(crate) fn open<R: IoRuntime>(
         rt: &R,
         address: &str,
-        limit: Duration,
-    ) -> Result<TcpConnection, WireFault> {
-        let begun = Instant::now(rt).ok();
-        let time = ExchangeTime { begun, limit };
+        time: ExchangeTime,
+    ) -> Result<TcpConnection, WireFault>
+        ensures { IfOk result (λ connection. IsOpened time connection) }
+    {
         let stream = connect(rt, address, &time).map_err(fault_of)?;
         stream.set_nodelay(true).map_err(fault_of)?;
-        set_limits(&stream, limit).map_err(fault_of)?;
+        let socket = LimitedStream::new(stream, time.limit).map_err(fault_of)?;
         Ok(TcpConnection {
-            stream,
+            socket,
             time,
             has_waited: true,
-            is_shortened: false,
         })
     }
 
     /// Begins an exchange: whether the connection can be used for it.
-    pub(crate) fn begin<R: IoRuntime>(&mut self, rt: &R) -> bool {
-        let now = Instant::now(rt).ok();
-        let is_old = self.time.is_old(now, Duration::from_millis(GAP_MS));
-        self.time.begun = now;
+    pub(crate) fn begin<R: IoRuntime>(&mut self, rt: &R) -> bool
+        ensures { Begins self.old self.new }
+    {
+        self.time = ExchangeTime::begin(rt, self.time.limit);
         self.has_waited = false;
-        self.restore_limits().is_ok() && (!is_old || is_quiet(&self.stream))
+        self.socket.is_quiet()
     }
 
     /// Writes from the front of the piece, and returns how many bytes.
     pub(crate) fn write<R: IoRuntime>(&mut self, rt: &R, bytes: &[u8]) -> Result<usize, WireFault>
-        ensures { IfOk result (λ count. count ≤ length bytes.now) }
+        ensures count { IfOk result (λ count. count ≤ length bytes.now) }
+        ensures time { self.new.time ≡ self.old.time }
     {
         for _ in rt.forever() {
-            let is_quick = !self.has_waited && bytes.len() <= QUICK_WRITE;
-            if let Some(left) = self.shorten(rt)? {
-                self.stream.set_write_timeout(Some(left)).map_err(fault_of)?;
-            }
-            match self.stream.write(bytes) {
-                Ok(count) => {
-                    self.has_waited = !is_quick || count < bytes.len();
-                    return Ok(count);
-                }
+            match self.try_write(rt, bytes) {
                 Err(error) if error.kind() == ErrorKind::Interrupted => {}
-                Err(error) => return Err(fault_of(error)),
+                written => return written.map_err(fault_of),
             }
         }
         unreachable!()
@@ -86,61 +77,72 @@ impl TcpConnection {
         rt: &R,
         buffer: &mut [u8],
     ) -> Result<usize, WireFault>
-        ensures { IfOk result (λ count. count ≤ length buffer.new) }
+        ensures count { IfOk result (λ count. count ≤ length buffer.new) }
+        ensures time { self.new.time ≡ self.old.time }
     {
         for _ in rt.forever() {
-            if let Some(left) = self.shorten(rt)? {
-                self.stream.set_read_timeout(Some(left)).map_err(fault_of)?;
-            }
-            match self.stream.read(buffer) {
-                Ok(count) => return Ok(count),
+            match self.try_read(rt, buffer) {
                 Err(error) if error.kind() == ErrorKind::Interrupted => {}
-                Err(error) => return Err(fault_of(error)),
+                read => return read.map_err(fault_of),
             }
         }
         unreachable!()
     }
 
-    /// Begins a call that may wait, and returns the limit that the socket needs for it, or None
-    /// where it has the right one.
-    fn shorten<R: IoRuntime>(&mut self, rt: &R) -> Result<Option<Duration>, WireFault> {
+    /// A write that a signal may interrupt.
+    fn try_write<R: IoRuntime>(&mut self, rt: &R, bytes: &[u8]) -> io::Result<usize>
+        ensures count { IfOk result (λ count. count ≤ length bytes.now) }
+        ensures limit { IfOk result (λ count. IsAllowed self.old self.new.socket.write_limit) }
+        ensures quick { IfOk result (λ count. (self.new.has_waited ≡ false)
+            ↔ IsQuick self.old bytes.now count) }
+        ensures interrupted { IfErr result (λ error. self.new.has_waited ≡ true) }
+        ensures time { self.new.time ≡ self.old.time }
+    {
+        let limit = self.allowance(self.moment(rt))?;
+        let is_slow = self.has_waited || bytes.len() > QUICK_WRITE;
+        self.has_waited = true;
+        let count = self.socket.write(limit, bytes)?;
+        self.has_waited = is_slow || count < bytes.len();
+        Ok(count)
+    }
+
+    /// A read that a signal may interrupt.
+    fn try_read<R: IoRuntime>(&mut self, rt: &R, buffer: &mut [u8]) -> io::Result<usize>
+        ensures count { IfOk result (λ count. count ≤ length buffer.new) }
+        ensures limit { IfOk result (λ count. IsAllowed self.old self.new.socket.read_limit) }
+        ensures waited { self.new.has_waited ≡ true }
+        ensures time { self.new.time ≡ self.old.time }
+    {
+        let limit = self.allowance(self.moment(rt))?;
+        self.has_waited = true;
+        self.socket.read(limit, buffer)
+    }
+
+    /// The clock, where the next call of the exchange depends on it.
+    fn moment<R: IoRuntime>(&self, rt: &R) -> Option<Instant> {
+        if self.has_waited {
+            Instant::now(rt).ok()
+        } else {
+            None
+        }
+    }
+
+    /// How long a call of the exchange may take at this moment.
+    fn allowance(&self, now: Option<Instant>) -> io::Result<Duration>
+        ensures ok { IfOk result (λ limit. IsAllowed self.now limit) }
+        ensures left { IfOk result (λ limit. self.now.has_waited ≡ true
+            → as_nanos limit ≡ left_at self.now.time now) }
+        ensures over { IfErr result (λ error.
+            (self.now.has_waited ≡ true) × (left_at self.now.time now ≡ 0)) }
+    {
         if !self.has_waited {
-            self.has_waited = true;
-            return Ok(None);
+            return Ok(self.time.limit);
         }
-        let Some(left) = self.time.left(Instant::now(rt).ok()) else {
-            return Err(WireFault::TimedOut);
-        };
-        self.is_shortened = true;
-        Ok(Some(left))
-    }
-
-    /// Sets the socket's limits to the time of a whole exchange.
-    fn restore_limits(&mut self) -> io::Result<()> {
-        if self.is_shortened {
-            set_limits(&self.stream, self.time.limit)?;
-            self.is_shortened = false;
+        match self.time.left(now) {
+            Some(left) => Ok(left),
+            None => Err(Error::from(ErrorKind::TimedOut)),
         }
-        Ok(())
     }
-}
-
-fn set_limits(stream: &TcpStream, limit: Duration) -> io::Result<()> {
-    stream.set_read_timeout(Some(limit))?;
-    stream.set_write_timeout(Some(limit))
-}
-
-/// Whether the server has neither closed the connection nor sent anything: a read would wait.
-fn is_quiet(stream: &TcpStream) -> bool {
-    if stream.set_nonblocking(true).is_err() {
-        return false;
-    }
-    let peeked = stream.peek(&mut [0]);
-    let would_wait = match peeked {
-        Ok(_) => false,
-        Err(error) => error.kind() == ErrorKind::WouldBlock,
-    };
-    stream.set_nonblocking(false).is_ok() && would_wait
 }
 
 fn fault_of(error: Error) -> WireFault {

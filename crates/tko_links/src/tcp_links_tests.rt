@@ -16,7 +16,7 @@ use tko_model::{Look, Mark};
 // literal, since each further value of a table adds to its proof.
 
 /// A whole answer, at once, byte by byte and of 1 MiB; half a line and an end; an end before the
-/// answer; further bytes behind the answer.
+/// answer; further bytes right after the answer.
 const ANSWERS: &str = "aqmqv miss value
 aqdqm value miss
 aqLqm large miss
@@ -24,13 +24,20 @@ aqecaqm broken miss
 acaqm broken miss
 aqMaqv miss value";
 
-/// An end after the answer, before the next request.
-const CLOSED: &str = "aqmcaqv miss value";
+/// An end, or further bytes, some milliseconds after the answer and before the next request.
+const LATER: &str = "aqmcaqv miss value
+aqvtmaqv value value
+aqvteaqm value miss";
 
-/// A late answer is never that of the next request, and a byte from time to time does not prolong
-/// the exchange.
-const SLOW: &str = "aqwvaqm timeout miss
-aqDaqm timeout miss";
+/// A late answer is never that of the next request; the limit is that of all reads together; and
+/// the next exchange on the connection has the whole limit again.
+const SLOW: &str = "aqwwvaqm timeout miss
+aqDaqm timeout miss
+aqwhwRaqm timeout miss
+aqwhtRqwv value value";
+
+/// The time between two exchanges is no part of them.
+const APART: &str = "aqvqhtR value value";
 
 fn listen<R: Net<Stream = TcpStream, Listener = TcpListener>>(rt: &R) -> io::Result<TcpListener> {
     TcpListener::bind(rt, SocketAddr::from((Ipv4Addr::LOCALHOST, 0)))
@@ -62,7 +69,7 @@ fn get<R: Wait + Net<Stream = TcpStream> + Clock>(
     Ok(word_of(&links.exchange(rt, clear, &request)))
 }
 
-/// What comes of one `get a`, and of another after so many milliseconds, as a row for these acts.
+/// What comes of one `get a`, and of another `pause` milliseconds later, as a row for these acts.
 fn row_of<R: Wait + Net<Stream = TcpStream> + Clock>(
     rt: &R,
     alloc: Global,
@@ -96,7 +103,12 @@ fn a_silent_peer_times_out(rt: HostRuntime) -> Result<(), Fail> {
 #[test]
 fn peers_that_answer_in_many_ways(rt: HostRuntime) -> Result<(), Fail> {
     let alloc = rt.alloc();
-    for (limit, pause, table) in [(9_000, 0, ANSWERS), (9_000, 200, CLOSED), (300, 0, SLOW)] {
+    for (limit, pause, table) in [
+        (9_000, 0, ANSWERS),
+        (9_000, 45, LATER),
+        (600, 0, SLOW),
+        (600, 700, APART),
+    ] {
         for row in table.lines() {
             let acts = acts_of(row);
             let listener = listen(&rt)?;

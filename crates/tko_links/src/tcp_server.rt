@@ -1,8 +1,11 @@
 //! A server, and the connection to it.
-ghost use Rattle.std.specs.Prelude.{◌≡◌, ◌≤◌, false, IfOk, length};
+ghost use Rattle.std.specs.Prelude.{◌≡◌, ◌≤◌, false, IfOk, IfSome, OnOk, length};
+ghost use Rattle.tko_links.specs.declared.exchange_time.ExchangeTime.{ExchangeTime};
+ghost use Rattle.tko_links.specs.TcpConnections.{IsOpened};
 ghost use Rattle.tko_links.specs.TcpWires.{is_open};
 ghost use Rattle.tko_links.specs.Wires.{is_ok};
 
+use crate::exchange_time::ExchangeTime;
 use crate::io_runtime::IoRuntime;
 use crate::tcp_connection::TcpConnection;
 use crate::wire::WireFault;
@@ -33,12 +36,16 @@ impl TcpServer {
         self.connection.is_some()
     }
 
-    /// Connects. A connection that was there is given up.
+    /// Begins an exchange by connecting. A connection that was there is given up.
     pub(crate) fn connect<R: IoRuntime>(&mut self, rt: &R) -> Result<(), WireFault>
-        ensures { is_open self.new ≡ is_ok result }
+        ensures connected { is_open self.new ≡ is_ok result }
+        ensures opened { OnOk result (IfSome self.new.connection (λ connection.
+            (time : ExchangeTime) × (time.limit ≡ self.old.limit) × IsOpened time connection)) }
+        ensures limit { self.new.limit ≡ self.old.limit }
     {
         self.shut();
-        let connection = TcpConnection::open(rt, self.address.as_str(), self.limit)?;
+        let time = ExchangeTime::begin(rt, self.limit);
+        let connection = TcpConnection::open(rt, self.address.as_str(), time)?;
         self.connection = Some(connection);
         Ok(())
     }
@@ -78,7 +85,8 @@ impl TcpServer {
     }
 
     pub(crate) fn shut(&mut self)
-        ensures { is_open self.new ≡ false }
+        ensures closed { is_open self.new ≡ false }
+        ensures limit { self.new.limit ≡ self.old.limit }
     {
         self.connection = None;
     }

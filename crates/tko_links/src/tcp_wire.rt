@@ -6,13 +6,12 @@ ghost use Rattle.std.specs.Prelude.{◌≡◌, ◌+◌, ◌<◌, false, IfOk, ge
 ghost use Rattle.tko_links.specs.TcpWires.{IsTcpStep};
 ghost use Rattle.tko_links.specs.Wires.{faults_in, refusals_in};
 
-use crate::counting::raise;
+use crate::counting::{counted, counted_write};
 use crate::io_runtime::IoRuntime;
 use crate::tcp_server::TcpServer;
 use crate::wire::{Wire, WireFault};
 use std::alloc::Global;
 use std::marker::Model;
-use std::sync::Wait;
 use std::time::Duration;
 use tko_bytes::NoMemory;
 
@@ -37,7 +36,7 @@ impl Model for TcpWire {
 
 impl TcpWire {
     /// Connections to the servers with these addresses, none of which is connected yet. An exchange
-    /// may take so long, of which connecting is a part.
+    /// may take `time_limit_ms` milliseconds, of which connecting is a part.
     pub fn new(alloc: Global, addresses: &[String], time_limit_ms: u32) -> Result<TcpWire, NoMemory>
         ensures { IfOk result (λ wire. wire
             ≡ record { connected = replicate (length addresses.now) false; failures = 0 }) }
@@ -52,47 +51,6 @@ impl TcpWire {
             servers,
             failures: 0,
         })
-    }
-}
-
-/// Counts the result of a connect or a read, and returns it.
-fn counted<R: Wait, T>(
-    rt: &R,
-    failures: &mut u64,
-    called: Result<T, WireFault>,
-) -> Result<T, WireFault>
-    ensures same { result ≡ called }
-    ensures failures { failures.new ≡ failures.old + faults_in called }
-{
-    match called {
-        Ok(done) => Ok(done),
-        Err(fault) => {
-            raise(rt, failures);
-            Err(fault)
-        }
-    }
-}
-
-/// Counts the result of a write of this piece, and returns it.
-fn counted_write<R: Wait>(
-    rt: &R,
-    failures: &mut u64,
-    piece: &[u8],
-    written: Result<usize, WireFault>,
-) -> Result<usize, WireFault>
-    ensures same { result ≡ written }
-    ensures failures { failures.new ≡ failures.old + refusals_in piece.now written }
-{
-    match written {
-        Ok(0) if !piece.is_empty() => {
-            raise(rt, failures);
-            Ok(0)
-        }
-        Ok(count) => Ok(count),
-        Err(fault) => {
-            raise(rt, failures);
-            Err(fault)
-        }
     }
 }
 

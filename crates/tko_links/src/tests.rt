@@ -40,7 +40,7 @@ fn response_word(response: &Response) -> &'static str {
     }
 }
 
-/// The word for a value of so many bytes.
+/// The word for a value of `len` bytes.
 fn value_word(len: usize) -> &'static str {
     if len == 1 {
         return "value";

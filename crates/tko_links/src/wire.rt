@@ -83,8 +83,7 @@ pub trait Wire {
         ensures servers { servers self.new ≡ servers self.old };
 
     /// Begins an exchange, whose time starts: whether the connection can still be used. It can't
-    /// where the server has closed it, or bytes came unasked. A wire may look only where the
-    /// connection was not used for a while.
+    /// where the server has closed it, or bytes came that nobody asked for.
     fn is_usable<R: IoRuntime>(&mut self, rt: &R, server: usize) -> bool
         requires within { server < servers self.old }
         requires connected { is_connected self.old server ≡ true }

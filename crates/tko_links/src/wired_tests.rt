@@ -1,9 +1,11 @@
 //! Links over a wire in memory.
 ghost use Rattle.std.specs.Prelude.{◌≡◌, IfOk, length};
 
+use crate::memory_wire::MemoryWire;
+use crate::peer::PeerStep;
 use crate::tests::acts::{acts_of, text_of};
 use crate::tests::{get_a, word_of};
-use crate::{Links, MemoryWire, NoMemory, Outcome, PeerStep, Wired};
+use crate::{Links, NoMemory, Outcome, Wired};
 use std::alloc::Global;
 use std::net::{Net, TcpStream};
 use std::sync::Wait;
@@ -160,6 +162,7 @@ fn a_probe_asks_for_the_version(rt: HostRuntime) -> Result<(), Fail> {
     let alloc = rt.alloc();
     let mut links = links_to(alloc, version_steps(alloc)?)?;
     assert_eq!(rt; word_of(&probe(&rt, &mut links)), "version");
+    assert_eq!(rt; links.wire().written(0), b"version\r\n".as_slice());
     assert_eq!(rt; (links.sends(0), links.probes(0)), (0, 1));
     Ok(())
 }

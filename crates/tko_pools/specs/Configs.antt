@@ -51,7 +51,7 @@ configuration pools route =
       failover_exptime = route.failover_exptime;
     }
 
--- the numbers of so many servers
+-- the numbers of `count` servers
 abbrev pub numbers_below : ℕ → List ℕ
 numbers_below count = range_with_len 0 count
 

@@ -1,9 +1,9 @@
 //! The configuration: pools of servers, a failover route over them, and the servers of a key.
 //!
 //! - `Config`: what a configuration's JSON text means; `ConfigFault`: why a text is none.
-//! - *Address*: `<host>:<port>`, by `is_address`. *Pool*: a list of addresses under a name. *Child* of the route:
-//!   the name of a pool. *Number* of a server: its place among the different addresses of the
-//!   children.
+//! - *Address*: `<host>:<port>`, by `is_address`. *Pool*: a list of addresses under a name. *Child*
+//!   of the route: the name of a pool. *Number* of a server: its place among the different
+//!   addresses of the children.
 //! - *Target*: the server that a child has for a key, by `fnv1a`.
 #![tactic(auto)]
 

@@ -15,6 +15,6 @@ capped n = min n (2 ^ 64 - 1)
 abbrev pub delay_after : Delays → ℕ → ℕ
 delay_after delays results = min (delays.first * 2 ^ results) delays.greatest
 
--- the moment at which the probe that follows so many results is due, where the last one came now
+-- the moment at which the probe that follows `results` results is due, where the last one came now
 abbrev pub due_after : Delays → ℕ → ℕ → ℕ
 due_after delays results now = capped (now + delay_after delays results)

@@ -27,7 +27,7 @@ impl Delays {
         Some(Delays { first, greatest })
     }
 
-    /// The delay of the probe that follows so many results.
+    /// The delay of the probe that follows `results` results, in milliseconds.
     pub(crate) fn after(&self, results: u64) -> u64
         ensures { result ≡ delay_after self.now results }
     {

@@ -8,7 +8,8 @@ use crate::Delays;
 /// What a prober is at.
 #[derive(Clone, Copy, Debug, PartialEq, Eq)]
 pub enum Stage {
-    /// No probe is out, and the next one is due at this moment.
+    /// No probe is out, and the next one is due at this moment, in milliseconds of the caller's
+    /// clock.
     Waiting(u64),
     /// A probe is out.
     Out,
@@ -55,7 +56,8 @@ pub struct Prober {
 }
 
 impl Prober {
-    /// A prober whose first probe is due after the first delay.
+    /// A prober whose first probe is due at `now` plus the first delay. Moments are milliseconds of
+    /// one clock of the caller's choice, here and below.
     pub fn begin(delays: Delays, now: u64) -> Prober
         ensures { result ≡ begun delays now }
     {
@@ -127,7 +129,7 @@ impl Prober {
     }
 }
 
-/// When the probe that follows so many results is due.
+/// When the probe that follows `results` results is due, where the last one came at `now`.
 fn due(delays: Delays, results: u64, now: u64) -> u64
     ensures { result ≡ due_after delays results now }
 {

@@ -6,11 +6,11 @@ ghost use Rattle.tko_route.specs.Trail.{Attempts, CutShort, IsCutTrail, IsTrail,
 ghost use Rattle.tko_text.specs.SentRequests.{without_noreply};
 
 use crate::attempt::Trail;
-use crate::health::Health;
 use crate::routed::{RouteFault, Routed};
 use crate::routing::{Routing, Step};
 use std::alloc::Global;
 use tko_bytes::NoMemory;
+use tko_health::Health;
 use tko_links::{IoRuntime, Links};
 use tko_text::Request;
 

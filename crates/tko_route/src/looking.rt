@@ -5,8 +5,9 @@ ghost use Rattle.tko_route.specs.Trail.{IsRecorded, NoneAnswered, answer_of, for
 ghost use Rattle.tko_text.specs.declared.request.Request.{Request};
 
 use crate::attempt::Attempt;
-use crate::health::Health;
-use tko_links::{IoRuntime, Outcome};
+use std::sync::Wait;
+use tko_health::Health;
+use tko_links::Outcome;
 use tko_model::{Clear, Look, Reply};
 use tko_text::Request;
 
@@ -28,7 +29,7 @@ fn prepare(request: &mut Request, place: usize, exptime: u32)
 }
 
 /// Looks up the targets after those tried, in order, until one is up. Marked ones are skipped.
-pub(crate) fn look_on<R: IoRuntime, H: Health>(
+pub(crate) fn look_on<R: Wait, H: Health>(
     rt: &R,
     health: &mut H,
     targets: &[usize],
@@ -66,7 +67,7 @@ pub(crate) fn look_on<R: IoRuntime, H: Health>(
 }
 
 /// Records the outcome of a send at the tracker. This is the table of outcomes.
-fn record_outcome<R: IoRuntime, H: Health>(
+fn record_outcome<R: Wait, H: Health>(
     rt: &R,
     health: &mut H,
     server: usize,
@@ -85,7 +86,7 @@ fn record_outcome<R: IoRuntime, H: Health>(
 }
 
 /// Records what came of a send, which makes this attempt.
-pub(crate) fn conclude<R: IoRuntime, H: Health>(
+pub(crate) fn conclude<R: Wait, H: Health>(
     rt: &R,
     health: &mut H,
     server: usize,

@@ -1,4 +1,5 @@
-//! The routing of one request as a value, which waits for nobody: its caller sends.
+//! The routing of one request as a value that sends nothing itself: its caller sends. A look-up or a
+//! record of an outcome may wait for a lock of the health.
 //!
 //! - `Routing`: nothing is sent. `next` looks for a server that is up.
 //! - `Waiting`: a request was sent. `record` takes what came of it.
@@ -9,13 +10,14 @@ ghost use Rattle.tko_text.specs.SentRequests.{without_noreply};
 ghost use Rattle.tko_text.specs.declared.request.Request.{Request};
 
 use crate::attempt::{Attempt, Trail};
-use crate::health::Health;
 use crate::looking::{conclude, is_answered, look_on};
 use crate::routed::{RouteFault, Routed};
 use std::alloc::Global;
 use std::marker::Model;
+use std::sync::Wait;
 use tko_bytes::NoMemory;
-use tko_links::{IoRuntime, Outcome};
+use tko_health::Health;
+use tko_links::Outcome;
 use tko_model::Clear;
 use tko_text::Request;
 
@@ -77,7 +79,7 @@ impl Routing {
 
     /// Looks for the next server to send to. Brings the request into the form in which that server
     /// gets it: from the second target of the list on, its expiry is replaced.
-    pub fn next<R: IoRuntime, H: Health>(
+    pub fn next<R: Wait, H: Health>(
         self,
         rt: &R,
         health: &mut H,
@@ -116,12 +118,7 @@ impl Waiting {
     }
 
     /// Records what came of the send.
-    pub fn record<R: IoRuntime, H: Health>(
-        self,
-        rt: &R,
-        health: &mut H,
-        outcome: Outcome,
-    ) -> Routing
+    pub fn record<R: Wait, H: Health>(self, rt: &R, health: &mut H, outcome: Outcome) -> Routing
         requires { self.server < H.servers health.old }
         ensures recorded { Recorded H.steps health.old self outcome result health.new }
         ensures underway { (targets : List ℕ) → IsAwaited targets self → IsUnderway targets result }

@@ -2,7 +2,6 @@
 ghost use Rattle.std.specs.Prelude.{◌≡◌, IfOk, length};
 
 mod limits;
-mod shared;
 
 use crate::{Attempt, Health, PlainHealth, RouteFault, Routed, Trail, route};
 use std::alloc::Global;

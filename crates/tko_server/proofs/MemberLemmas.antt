@@ -4,7 +4,8 @@ use Rattle.std.proofs.lemmas.Grind.{length_at_push}
 use Rattle.std.proofs.lemmas.List.Elements.{All-push}
 use Rattle.tko_desk.specs.Ledger.{fresh_share, fresh_shares}
 use Rattle.tko_server.specs.declared.pooling.Member.{Member}
-use Rattle.tko_server.specs.Workers.{AreReady, IsEquipped, IsReady}
+use Rattle.tko_server.specs.declared.running.Options.{Options}
+use Rattle.tko_server.specs.Workers.{AreReady, HasOptions, IsEquipped, IsReady}
 
 -- one member more
 pub one_more_ready : {C P S L M : Type 0} (own : S → P → Type 0) (seated : S → ℕ) (linked : L → ℕ)
@@ -16,6 +17,15 @@ one_more_ready {C} {P} {S} {L} {M} own seated linked before after member pushed 
     let R : Member C P S L M → Type 0 = λ m. IsReady own seated linked m in
     let one : R member = record { seat = seat; equipped = equipped } in
     subst (All R) (sym pushed) (All-push R before member ready one)
+
+-- one member more, with what the options ask for
+pub one_more_asked : {C P S L M : Type 0} (options : Options) (before after : List (Member C P S L M))
+    (member : Member C P S L M) → after ≡ before ++ member ∷ []
+    → All (λ m. HasOptions options m.parts) before → HasOptions options member.parts
+    → All (λ m. HasOptions options m.parts) after
+one_more_asked {C} {P} {S} {L} {M} options before after member pushed asked one =
+    let A : Member C P S L M → Type 0 = λ m. HasOptions options m.parts in
+    subst (All A) (sym pushed) (All-push A before member asked one)
 
 -- one member more, and one seat and one share less to come
 pub one_seat_less : {P H D : Type 0} (seats later : List P) (seat : P) (shares left : List H)

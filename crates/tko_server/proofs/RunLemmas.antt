@@ -54,6 +54,28 @@ ended_well opened ended first value totals is told ends fault = (
   λ h. let cause : opened ≡ Err (opening.Settings fault) = (told fault).1 h in cc,
 )
 
+-- a fault is passed on
+pub passed_on : {T U : Type 0} (one : Result T RunFault) (other : Result U RunFault)
+    (first : Option SettingsFault) (cause : RunFault) → one ≡ Err cause → other ≡ Err cause
+    → ((fault : SettingsFault) → (one ≡ Err (run.Settings fault)) ↔ (first ≡ Some fault))
+    → (fault : SettingsFault) → (other ≡ Err (run.Settings fault)) ↔ (first ≡ Some fault)
+passed_on one other first cause is ends told fault = (
+  λ e. let same : cause ≡ run.Settings fault = cc in (told fault).0 (rw (← same) is),
+  λ h.
+      let named : one ≡ Err (run.Settings fault) = (told fault).1 h in
+      let same : cause ≡ run.Settings fault = cc in rw (← same) ends,
+)
+
+-- it ended well, and a part of what it came to is passed on
+pub done_well : {T U : Type 0} (one : Result T RunFault) (other : Result U RunFault)
+    (first : Option SettingsFault) (value : T) (part : U) → one ≡ Ok value → other ≡ Ok part
+    → ((fault : SettingsFault) → (one ≡ Err (run.Settings fault)) ↔ (first ≡ Some fault))
+    → (fault : SettingsFault) → (other ≡ Err (run.Settings fault)) ↔ (first ≡ Some fault)
+done_well one other first value part is ends told fault = (
+  λ e. cc,
+  λ h. let named : one ≡ Err (run.Settings fault) = (told fault).1 h in cc,
+)
+
 -- the same of an equal number of servers
 pub of_servers : {U : Type 0} (ended : Result U RunFault) (settings : Settings) (one other : ℕ)
     → one ≡ other

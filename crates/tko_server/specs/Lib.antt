@@ -1,2 +1,7 @@
+pub mod Accounts
+pub mod Accepting
+pub mod Allotments
+pub mod Reports
+pub mod Rounds
 pub mod Runs
 pub mod Workers

@@ -3,7 +3,9 @@ use Rattle.std.specs.Prelude.{◌≡◌, ◌<◌, ℕ, List, All, length}
 use Rattle.tko_links.specs.Wired.{WiredState}
 use Rattle.tko_model.specs.declared.settings.Settings.{Settings}
 use Rattle.tko_server.specs.declared.pooling.Member.{Member}
+use Rattle.tko_server.specs.declared.running.Options.{Options}
 use Rattle.tko_server.specs.declared.working.WorkerParts.{WorkerParts}
+use Rattle.tko_session.specs.Probers.{no_probers}
 
 -- the seating, the links and the probers have the servers of the configuration
 pub record IsEquipped {S L M : Type 0} (seated : S → ℕ) (linked : L → ℕ)
@@ -23,10 +25,19 @@ abbrev pub AreReady : {C P S L M : Type 0} → (S → P → Type 0) → (S → �
     → List (Member C P S L M) → Type 0
 AreReady own seated linked members = All (λ member. IsReady own seated linked member) members
 
--- as many as these settings have threads, ready at a seating in a lock with these settings, and by
--- links over a wire
-abbrev pub AreMembersOf : {C S W M : Type 0} → Settings
-    → List (Member C ℕ S (WiredState W) M) → Type 0
-AreMembersOf settings members = (length members ≡ settings.threads)
-    × AreReady (λ _ idle. idle < settings.threads) (λ _. settings.servers)
+-- what a worker works with is what the options ask for
+pub record HasOptions {S L M : Type 0} (options : Options) (parts : WorkerParts S L M) : Type 0 where
+  pub config : parts.config ≡ options.config
+  pub probers : parts.probers ≡ no_probers options.delays (length options.config.addresses)
+
+-- ready at a seating in a lock with these settings, and by links over a wire
+abbrev pub AreReadyAt : {C S W M : Type 0} → Settings → List (Member C ℕ S (WiredState W) M) → Type 0
+AreReadyAt settings members = AreReady (λ _ idle. idle < settings.threads) (λ _. settings.servers)
     (λ links. length links.sends) members
+
+-- as many as the options ask for, each with what they ask for, and ready at these settings
+pub record AreMembersOf {C S W M : Type 0} (options : Options) (settings : Settings)
+    (members : List (Member C ℕ S (WiredState W) M)) : Type 0 where
+  pub number : length members ≡ options.settings.threads
+  pub ready : AreReadyAt settings members
+  pub asked : All (λ member. HasOptions options member.parts) members

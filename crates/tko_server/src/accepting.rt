@@ -1,62 +1,92 @@
 //! The thread that accepts connections.
+ghost use Rattle.std.specs.Prelude.{◌≡◌, false};
+ghost use Rattle.tko_server.specs.Accepting.{HasAccepted};
 
+use crate::Patience;
 use crate::clients::Client;
+use crate::listening::{AcceptStop, Listening};
+use crate::room::{Place, Room};
 use crossbeam_channel::Sender;
-use std::io::ErrorKind;
-use std::net::{TcpListener, TcpStream};
-use std::sync::Wait;
-use std::thread;
-use std::time::{Clock, Duration};
+use std::alloc::{AllocError, Global};
+use std::net::TcpStream;
+use std::sync::{Arc, Wait};
 
-/// How often in a row an accept may fail.
-const ACCEPT_TRIES: u32 = 100;
+/// Why accepting ended.
+#[derive(Clone, Copy, Debug, PartialEq, Eq)]
+pub(crate) enum AcceptEnd {
+    /// As many connections were accepted as were asked for.
+    Enough,
+    /// No worker takes connections any more.
+    NoWorker,
+    /// The listener is broken.
+    Broken,
+}
 
-/// How many milliseconds to wait after an accept failed, as where the process has too many open
-/// files.
-const ACCEPT_PAUSE: u64 = 100;
+/// The way of a connection to the workers.
+#[derive(Drop)]
+pub(crate) struct Entrance {
+    pub(crate) room: Arc<Room, Global>,
+    pub(crate) clients: Sender<Client>,
+    pub(crate) patience: Patience,
+}
 
-/// Accepts connections and sends each to the workers, until there were so many, where 0 is no limit,
-/// or until no worker is left. Returns false if accepting failed. A connection whose socket cannot be
-/// set up is closed at once.
-pub(crate) fn accept_all<R: Wait + Clock>(
+/// Accepts connections while there is room for them, and sends each to the workers, until there were
+/// so many, where 0 is no limit, or until no worker is left. An accept that failed is made again once
+/// a client has left, or after a tenth of a second.
+pub(crate) fn accept_all<R: Wait>(
     rt: &R,
-    listener: &TcpListener,
-    clients: Sender<Client>,
+    alloc: Global,
+    listening: &mut Listening<'_>,
+    entrance: Entrance,
     connections: u64,
-) -> bool {
-    let mut accepted = 0u64;
+) -> AcceptEnd
+    requires none { listening.old.accepted ≡ 0 }
+    requires whole { listening.old.is_broken ≡ false }
+    ensures { HasAccepted connections listening.new result }
+{
+    let mut left = connections;
     for _ in rt.forever() {
-        let Some(stream) = accept(rt, listener) else {
-            return false;
-        };
-        if let Ok(client) = Client::new(stream) {
-            if clients.send(rt, client).is_err() {
-                return true;
-            }
+        if entrance.room.is_closed() {
+            return AcceptEnd::NoWorker;
         }
-        accepted = accepted.saturating_add(1);
-        if accepted == connections {
-            return true;
+        if !entrance.room.has_place(rt) {
+            continue;
+        }
+        match listening.accept() {
+            Ok(stream) => {
+                if !entrance.admit(rt, alloc, stream) {
+                    return AcceptEnd::NoWorker;
+                }
+                if left == 1 {
+                    return AcceptEnd::Enough;
+                }
+                left = left.saturating_sub(1);
+            }
+            Err(AcceptStop::Nobody) => {}
+            Err(AcceptStop::Aborted) => {}
+            Err(AcceptStop::Failed) => entrance.room.wait(rt),
+            Err(AcceptStop::Broken) => return AcceptEnd::Broken,
         }
     }
     unreachable!()
 }
 
-/// The next connection, or none if accepting failed too often in a row.
-fn accept<R: Clock>(rt: &R, listener: &TcpListener) -> Option<TcpStream> {
-    for _ in 0..ACCEPT_TRIES {
-        match listener.accept() {
-            Ok((stream, _)) => return Some(stream),
-            Err(error) => pause(rt, error.kind()),
+impl Entrance {
+    /// Sends a connection to the workers, and returns whether there is one. A connection whose socket
+    /// cannot be set up is closed at once.
+    fn admit<R: Wait>(&self, rt: &R, alloc: Global, stream: TcpStream) -> bool {
+        match self.client(alloc, stream) {
+            Ok(Some(client)) => self.clients.send(rt, client).is_ok(),
+            Ok(None) | Err(_) => true,
         }
     }
-    None
-}
 
-/// Waits after an accept failed, unless the next one may succeed at once.
-fn pause<R: Clock>(rt: &R, kind: ErrorKind) {
-    match kind {
-        ErrorKind::Interrupted | ErrorKind::ConnectionAborted => {}
-        _ => thread::sleep(rt, Duration::from_millis(ACCEPT_PAUSE)),
+    /// The client at the other end of a connection, which has its place in the room.
+    fn client(&self, alloc: Global, stream: TcpStream) -> Result<Option<Client>, AllocError> {
+        if self.patience.set(&stream).is_err() {
+            return Ok(None);
+        }
+        let place = Place::take(&self.room)?;
+        Ok(Some(Client::new(alloc, stream, place, self.patience)?))
     }
 }

@@ -1,4 +1,6 @@
 //! A worker's account with the ledger of all workers.
+ghost use Rattle.std.specs.Prelude.{◌≡◌};
+ghost use Rattle.tko_server.specs.Accounts.{amount_of};
 
 use std::sync::{Mutex, Wait};
 use tko_desk::{Book, Kind, Share};
@@ -22,16 +24,24 @@ impl Account<'_> {
 
 /// Adds the number of each kind, and returns whether the ledger was full for one.
 fn add_counts(book: &mut Book, share: &mut Share, counts: &Counts, probes: u64) -> bool {
-    let requests = book.add_many(share, Kind::Request, counts.requests);
-    let attempts = book.add_many(share, Kind::Attempt, counts.attempts);
-    let skips = book.add_many(share, Kind::Skip, counts.skips);
-    let replies = book.add_many(share, Kind::Reply, counts.replies);
-    let no_server = book.add_many(share, Kind::NoServer, counts.no_server);
-    let probes = book.add_many(share, Kind::Probe, probes);
-    requests.is_err()
-        || attempts.is_err()
-        || skips.is_err()
-        || replies.is_err()
-        || no_server.is_err()
-        || probes.is_err()
+    let mut full = false;
+    for kind in Kind::ALL {
+        let amount = amount_of(kind, counts, probes);
+        full |= book.add_many(share, kind, amount).is_err();
+    }
+    full
+}
+
+/// How many of a kind were counted.
+fn amount_of(kind: Kind, counts: &Counts, probes: u64) -> u64
+    ensures { result ≡ amount_of kind counts.now probes }
+{
+    match kind {
+        Kind::Request => counts.requests,
+        Kind::Attempt => counts.attempts,
+        Kind::Skip => counts.skips,
+        Kind::Reply => counts.replies,
+        Kind::NoServer => counts.no_server,
+        Kind::Probe => probes,
+    }
 }

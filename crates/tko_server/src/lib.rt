@@ -5,25 +5,35 @@
 //! - `WorkerParts`: what a worker works with; `worker` works until its source is closed, and
 //!   `WorkerReport` says what it met.
 //! - `Member`: what one worker of a `pool` is started with.
-//! - `run`: accepts connections over TCP and serves them by a pool, as its `Options` say.
+//! - `run`: accepts connections over TCP and serves them by a pool, as its `Options` say;
+//!   `run_to_end` says what the workers met too.
+//! - `Allotment`: how many workers and clients the process has descriptors for; `Patience`: how long
+//!   a server waits for a client.
 #![tactic(auto)]
 
 mod accepting;
 mod account;
+mod allotment;
 mod clients;
+mod listening;
 mod members;
+mod patience;
 mod pooling;
 mod report;
+mod room;
 mod run_fault;
 mod running;
+mod silence;
 mod source;
 mod working;
 
 pub use account::Account;
+pub use allotment::Allotment;
+pub use patience::Patience;
 pub use pooling::{Member, pool};
 pub use report::WorkerReport;
 pub use run_fault::RunFault;
-pub use running::{Options, run};
+pub use running::{Ended, Options, run, run_to_end};
 pub use source::{Next, Source};
 pub use working::{WorkerParts, worker};
 

@@ -1,6 +1,7 @@
 //! The members of a server's pool.
-ghost use Rattle.std.specs.Prelude.{◌≡◌, ◌<◌, All, IfOk, length};
-ghost use Rattle.tko_server.specs.Workers.{AreMembersOf, IsEquipped};
+ghost use Rattle.std.specs.Prelude.{◌≡◌, ◌<◌, ◌↔◌, All, IfOk, IsTrue, is_some, length};
+ghost use Rattle.tko_server.specs.Runs.{tracker_settings};
+ghost use Rattle.tko_server.specs.Workers.{AreMembersOf, HasOptions, IsEquipped};
 
 use crate::clients::{Client, Clients};
 use crate::{Account, Member, Options, WorkerParts};
@@ -9,8 +10,8 @@ use std::alloc::Global;
 use std::sync::Mutex;
 use tko_bytes::NoMemory;
 use tko_desk::{Book, Share};
+use tko_health::{LockedIdle, LockedSeating, Seating, TrackerSettings};
 use tko_links::{IoRuntime, Links, TcpLinks, TcpWire};
-use tko_route::{LockedIdle, LockedSeating, Seating, TrackerSettings};
 use tko_session::{Elapsed, Probers};
 
 /// What all workers of a server share.
@@ -19,6 +20,8 @@ pub(crate) struct Shared<'o, S: TrackerSettings> {
     pub(crate) options: &'o Options,
     pub(crate) seating: LockedSeating<S>,
     pub(crate) book: Mutex<Book>,
+    /// How many workers serve clients; the others end at once.
+    pub(crate) workers: u32,
 }
 
 /// What one worker of a server is started with.
@@ -45,20 +48,32 @@ impl<S: TrackerSettings> Shared<'_, S> {
         requires own { All (λ idle. idle < S.settings.threads) seats.items }
         requires seats { length seats.items ≡ S.settings.threads }
         requires shares { length shares.old ≡ S.settings.threads }
-        requires servers { S.settings.servers ≡ length self.now.options.now.config.addresses }
-        ensures ready { IfOk result (λ members. AreMembersOf S.settings members.items) }
+        requires asked { S.settings ≡ tracker_settings self.now.options.now }
+        ensures ready { IfOk result (λ members.
+            AreMembersOf self.now.options.now S.settings members.items) }
     {
         let mut members = Vec::new(alloc);
         for (idle, share) in seats.into_iter().zip(shares.iter_mut()) {
             members.push(Member {
-                source: Clients {
-                    accepted: accepted.clone()?,
-                },
+                source: self.source(&idle, accepted)?,
                 idle,
                 parts: self.parts(rt, alloc, share)?,
             })?;
         }
         Ok(members)
+    }
+
+    /// The clients of the worker with this seat.
+    fn source(&self, idle: &LockedIdle<S>, accepted: &Receiver<Client>) -> Result<Clients, NoMemory>
+        ensures { IfOk result (λ source.
+            IsTrue (is_some source.accepted) ↔ (idle.now < self.now.workers)) }
+    {
+        let accepted = if idle.thread() < self.workers {
+            Some(accepted.clone()?)
+        } else {
+            None
+        };
+        Ok(Clients { accepted })
     }
 
     /// What one worker works with, which has this share.
@@ -68,9 +83,10 @@ impl<S: TrackerSettings> Shared<'_, S> {
         alloc: Global,
         share: &'a mut Share,
     ) -> Result<WorkerParts<'a, LockedSeating<S>, TcpLinks, Elapsed>, NoMemory>
-        requires servers { S.settings.servers ≡ length self.now.options.now.config.addresses }
+        requires asked { S.settings ≡ tracker_settings self.now.options.now }
         ensures equipped { IfOk result (λ parts.
             IsEquipped ⟦<LockedSeating<S> as Seating>⟧.servers ⟦<TcpLinks as Links>⟧.servers parts) }
+        ensures asked { IfOk result (HasOptions self.now.options.now) }
     {
         let addresses = self.options.config.addresses();
         let wire = TcpWire::new(alloc, addresses, self.options.timeout)?;

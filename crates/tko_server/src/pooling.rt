@@ -8,8 +8,8 @@ use std::net::TcpListener;
 use std::thread;
 use std::thread::Threads;
 use tko_bytes::NoMemory;
+use tko_health::{Health, Seating};
 use tko_links::{IoRuntime, Links};
-use tko_route::{Health, Seating};
 use tko_session::{Inlet, Moments, Outlet};
 
 /// What one worker of a pool is started with.

@@ -2,27 +2,27 @@
 ghost use Rattle.std.specs.Prelude.{◌≡◌, ◌<◌, ◌↔◌, All, Err, IfErr, Some, length};
 ghost use Rattle.tko_model.specs.Ranges.{first_fault};
 ghost use Rattle.tko_server.specs.Runs.{IsAfterOpening, tracker_settings};
-ghost use Rattle.tko_server.specs.Workers.{AreMembersOf};
+ghost use Rattle.tko_server.specs.Workers.{AreReadyAt};
 
-use crate::accepting::accept_all;
+use crate::accepting::{AcceptEnd, Entrance, accept_all};
+use crate::allotment::WAITING;
+use crate::listening::Listening;
 use crate::members::Shared;
-use crate::{RunFault, pool};
+use crate::room::Room;
+use crate::{Allotment, Patience, RunFault, WorkerReport, pool};
 use crossbeam_channel::bounded;
 use std::alloc::Global;
 use std::marker::Brand;
 use std::net::TcpListener;
-use std::sync::Mutex;
+use std::sync::{Arc, Mutex};
 use std::thread;
 use std::thread::Threads;
 use tko_desk::{Book, Share, Totals, gather};
+use tko_health::{LockedIdle, LockedSeating, TrackerSettings};
 use tko_links::IoRuntime;
 use tko_model::{Settings, SettingsFault};
 use tko_pools::Config;
 use tko_prober::Delays;
-use tko_route::{LockedIdle, LockedSeating, TrackerSettings};
-
-/// How many accepted connections may wait for a worker.
-const WAITING: usize = 64;
 
 /// What a server is started with.
 #[derive(Drop)]
@@ -33,8 +33,27 @@ pub struct Options {
     pub delays: Delays,
     /// How long a server may take to answer, in milliseconds.
     pub timeout: u32,
+    pub patience: Patience,
+    /// How many files the process may have open, where that is known.
+    pub open_files: Option<u64>,
     /// How many connections are accepted; 0 is no limit.
     pub connections: u64,
+}
+
+/// What a server came to.
+#[derive(Clone, Copy, Debug, PartialEq, Eq)]
+pub struct Ended {
+    pub totals: Totals,
+    /// What all workers met.
+    pub report: WorkerReport,
+}
+
+impl Options {
+    /// What the process has descriptors for.
+    pub fn allotment(&self) -> Allotment {
+        let threads = self.settings.threads.max(1);
+        Allotment::of(self.open_files, threads, self.config.servers())
+    }
 }
 
 /// Accepts connections and serves each over TCP links by one of the workers, who share the health
@@ -45,6 +64,22 @@ pub fn run<R: IoRuntime<Listener = TcpListener> + Threads + Sync>(
     listener: &TcpListener,
     options: &Options,
 ) -> Result<Totals, RunFault>
+    ensures settings { (fault : SettingsFault) → (result ≡ Err (RunFault.Settings fault))
+        ↔ (first_fault (tracker_settings options.now) ≡ Some fault) }
+{
+    match run_to_end(rt, alloc, listener, options) {
+        Ok(ended) => Ok(ended.totals),
+        Err(fault) => Err(fault),
+    }
+}
+
+/// The same, with what the workers met.
+pub fn run_to_end<R: IoRuntime<Listener = TcpListener> + Threads + Sync>(
+    rt: &R,
+    alloc: Global,
+    listener: &TcpListener,
+    options: &Options,
+) -> Result<Ended, RunFault>
     ensures settings { (fault : SettingsFault) → (result ≡ Err (RunFault.Settings fault))
         ↔ (first_fault (tracker_settings options.now) ≡ Some fault) }
 {
@@ -65,9 +100,9 @@ fn run_with<
     listener: &TcpListener,
     options: &Options,
     settings: Settings,
-) -> Result<Totals, RunFault>
-    requires settings { settings ≡ S.settings }
-    requires servers { settings.servers ≡ length options.now.config.addresses }
+) -> Result<Ended, RunFault>
+    requires named { settings ≡ S.settings }
+    requires asked { settings ≡ tracker_settings options.now }
     ensures settings { (fault : SettingsFault) → (result ≡ Err (RunFault.Settings fault))
         ↔ (first_fault settings ≡ Some fault) }
 {
@@ -77,12 +112,17 @@ fn run_with<
         options,
         seating,
         book: Mutex::new(book),
+        workers: options.allotment().workers,
     };
-    serve_all(rt, alloc, listener, &shared, seats, &mut shares)?;
-    Ok(totals_of(shared.book.into_inner(), shares))
+    let report = serve_all(rt, alloc, listener, &shared, seats, &mut shares)?;
+    Ok(Ended {
+        totals: totals_of(shared.book.into_inner(), shares),
+        report,
+    })
 }
 
 /// Accepts connections and serves each by one of the workers, who take these seats and shares.
+/// Returns what they met.
 fn serve_all<
     S: TrackerSettings + Send + Sync,
     R: IoRuntime<Listener = TcpListener> + Threads + Sync,
@@ -93,29 +133,45 @@ fn serve_all<
     shared: &Shared<'_, S>,
     seats: Vec<LockedIdle<S>>,
     shares: &mut [Share],
-) -> Result<(), RunFault>
+) -> Result<WorkerReport, RunFault>
     requires own { All (λ idle. idle < S.settings.threads) seats.items }
     requires seats { length seats.items ≡ S.settings.threads }
     requires shares { length shares.old ≡ S.settings.threads }
-    requires servers { S.settings.servers ≡ length shared.now.options.now.config.addresses }
+    requires asked { S.settings ≡ tracker_settings shared.now.options.now }
     ensures fault { IfErr result IsAfterOpening }
 {
-    let (sender, receiver) = bounded(alloc, WAITING)?;
+    let options = shared.options;
+    let (sender, receiver) = bounded(alloc, WAITING as usize)?;
     let members = shared.members(rt, alloc, seats, shares, &receiver)?;
     drop(receiver);
-    let connections = shared.options.connections;
+    let room = Room::open(alloc, options.allotment().clients)?;
+    let entrance = Entrance {
+        room: Arc::try_clone(&room)?,
+        clients: sender,
+        patience: options.patience,
+    };
     let (ended, accepted) = thread::join(
         rt,
         ||
-            requires { AreMembersOf S.settings members.items }
-        { pool(rt, alloc, members) },
-        || accept_all(rt, listener, sender, connections),
+            requires { AreReadyAt S.settings members.items }
+        {
+            let ended = pool(rt, alloc, members);
+            room.close();
+            ended
+        },
+        || accept_all(
+            rt,
+            alloc,
+            &mut Listening::new(listener),
+            entrance,
+            options.connections,
+        ),
     );
-    ended?;
-    if !accepted {
-        return Err(RunFault::Accept);
+    let report = WorkerReport::of_all(&ended?);
+    match accepted {
+        AcceptEnd::Enough | AcceptEnd::NoWorker => Ok(report),
+        AcceptEnd::Broken => Err(RunFault::Accept),
     }
-    Ok(())
 }
 
 /// The totals of the book. Each worker gave its share back, so `gather` does not refuse them; what

@@ -3,10 +3,10 @@ ghost use Rattle.std.specs.Prelude.{◌≡◌, IfOk, length};
 
 use std::alloc::Global;
 use std::test::Fail;
+use tko_health::TrackerSettings;
 use tko_model::Settings;
 use tko_pools::Config;
 use tko_prober::Delays;
-use tko_route::TrackerSettings;
 
 mod gate;
 mod pools;

@@ -1,14 +1,16 @@
 //! A worker: one thread that serves one connection after another.
 ghost use Rattle.std.specs.Prelude.{◌≡◌, ◌≤◌, length};
+ghost use Rattle.tko_server.specs.Rounds.{IsRoundNoted};
+ghost use Rattle.tko_server.specs.Reports.{IsSessionCounted};
 ghost use Rattle.tko_server.specs.Workers.{IsEquipped};
 ghost use Rattle.tko_session.specs.SessionState.{Reaches};
 
 use crate::{Account, Next, Source, WorkerReport};
 use std::alloc::Global;
 use std::sync::Wait;
+use tko_health::{Health, Seating};
 use tko_links::{IoRuntime, Links};
 use tko_pools::Config;
-use tko_route::{Health, Seating};
 use tko_session::{
     Counts, Inlet, Moments, Outlet, Parts, Probers, Report, SessionFault, round, serve,
 };
@@ -94,6 +96,7 @@ impl<H: Health, L: Links, M: Moments> Working<H, L, M> {
     )
         requires reach { Reaches H.servers L.servers self.old.parts }
         ensures reach { Reaches H.servers L.servers self.new.parts }
+        ensures report { IsSessionCounted self.old.report self.new.report }
     {
         let served = serve(rt, alloc, reader, writer, &mut self.parts);
         self.report.count(&served);
@@ -103,10 +106,11 @@ impl<H: Health, L: Links, M: Moments> Working<H, L, M> {
     fn round<R: IoRuntime>(&mut self, rt: &R)
         requires reach { Reaches H.servers L.servers self.old.parts }
         ensures reach { Reaches H.servers L.servers self.new.parts }
+        ensures round { IsRoundNoted H.steps H.grants L.exchanges L.probed M.reads
+            self.old.parts self.old.report self.new.parts self.new.report }
     {
-        if round(rt, &mut self.parts).is_err() {
-            self.report.memory = true;
-        }
+        let rounded = round(rt, &mut self.parts);
+        self.report.note_round(rounded.is_err());
     }
 
     /// Adds what was counted since the last time to the account.

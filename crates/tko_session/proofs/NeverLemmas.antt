@@ -12,7 +12,7 @@ use Rattle.tko_text.specs.declared.request.Request.{Request}
 use Rattle.tko_text.specs.declared.request.Request.TheVariants as request
 use Rattle.tko_text.specs.declared.request.Verb.{Verb}
 use Rattle.tko_text.specs.declared.request.Verb.TheVariants.{Set, Add, Replace, Append, Prepend}
-use Rattle.tko_text.specs.Commands.{ParsedLine, Asks, AwaitsData, Refused, announced, asked_of, bad_line, compared, noreply, with_key, with_data, parsed_alone, parsed_compared, parsed_counted, parsed_deleted, parsed_keys, parsed_stats, parsed_stored, parsed_touched, parsed_known, parsed_words, parsed, form_of}
+use Rattle.tko_text.specs.Commands.{ParsedLine, Asks, AwaitsData, Refused, announced, asked_of, bad_line, cas_words, noreply, with_key, with_data, parsed_bare, parsed_cas, parsed_counter, parsed_delete, parsed_keys, parsed_stats, parsed_storage, parsed_touch, parsed_known, parsed_words, parsed, form_of}
 use Rattle.tko_text.specs.Keys.{is_key}
 use Rattle.tko_text.specs.Limits.{data_limit, number_limit}
 use Rattle.tko_text.specs.Numbers.{expiry_of}
@@ -67,32 +67,32 @@ keys_ordinary asked [] = bad_line_ordinary
 keys_ordinary asked (key ∷ keys) =
     elim (list_all is_key (key ∷ keys)) as (λ v. IsOrdinary (asked_of asked (cond v (Ok (key ∷ keys)) (Err BadKey)))) [ true ↦ tt | false ↦ bad_key_ordinary ]
 
-stored_ordinary : (verb : Verb) (arguments : List (List ℕ)) → IsOrdinary (unwrap_or (parsed_stored verb arguments) bad_line)
+stored_ordinary : (verb : Verb) (arguments : List (List ℕ)) → IsOrdinary (unwrap_or (parsed_storage verb arguments) bad_line)
 stored_ordinary verb arguments =
     and_then (announced arguments) _ (λ a. and_then (noreply a.1) _ (λ quiet. data_ordinary a.0.key a.0.size _))
 
-compared_ordinary : (arguments : List (List ℕ)) → IsOrdinary (unwrap_or (parsed_compared arguments) bad_line)
+compared_ordinary : (arguments : List (List ℕ)) → IsOrdinary (unwrap_or (parsed_cas arguments) bad_line)
 compared_ordinary arguments =
-    and_then (announced arguments) _ (λ a. and_then (compared a.1) _ (λ c. data_ordinary a.0.key a.0.size _))
+    and_then (announced arguments) _ (λ a. and_then (cas_words a.1) _ (λ c. data_ordinary a.0.key a.0.size _))
 
-deleted_ordinary : (arguments : List (List ℕ)) → IsOrdinary (unwrap_or (parsed_deleted arguments) bad_line)
+deleted_ordinary : (arguments : List (List ℕ)) → IsOrdinary (unwrap_or (parsed_delete arguments) bad_line)
 deleted_ordinary [] = bad_line_ordinary
 deleted_ordinary (key ∷ rest) = and_then (noreply rest) _ (λ quiet. key_ordinary key _)
 
 counted_ordinary : (asked : List ℕ → ℕ → Bool → Request) (arguments : List (List ℕ))
-    → IsOrdinary (unwrap_or (parsed_counted asked arguments) bad_line)
+    → IsOrdinary (unwrap_or (parsed_counter asked arguments) bad_line)
 counted_ordinary asked [] = bad_line_ordinary
 counted_ordinary asked (key ∷ []) = bad_line_ordinary
 counted_ordinary asked (key ∷ amount ∷ rest) =
     and_then (number_of number_limit amount) _ (λ n. and_then (noreply rest) _ (λ quiet. key_ordinary key _))
 
-touched_ordinary : (arguments : List (List ℕ)) → IsOrdinary (unwrap_or (parsed_touched arguments) bad_line)
+touched_ordinary : (arguments : List (List ℕ)) → IsOrdinary (unwrap_or (parsed_touch arguments) bad_line)
 touched_ordinary [] = bad_line_ordinary
 touched_ordinary (key ∷ []) = bad_line_ordinary
 touched_ordinary (key ∷ until ∷ rest) =
     and_then (expiry_of until) _ (λ e. and_then (noreply rest) _ (λ quiet. key_ordinary key _))
 
-alone_ordinary : (asked : Request) (arguments : List (List ℕ)) → IsOrdinary (parsed_alone asked arguments)
+alone_ordinary : (asked : Request) (arguments : List (List ℕ)) → IsOrdinary (parsed_bare asked arguments)
 alone_ordinary asked [] = tt
 alone_ordinary asked (word ∷ words) = bad_line_ordinary
 

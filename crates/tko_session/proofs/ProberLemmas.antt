@@ -6,21 +6,21 @@ use Rattle.tko_prober.specs.declared.delays.Delays.{Delays}
 use Rattle.tko_prober.specs.declared.prober.Prober.{Prober}
 use Rattle.tko_route.specs.declared.attempt.Attempt.{Attempt}
 use Rattle.tko_route.specs.declared.attempt.Attempt.TheVariants as attempt
-use Rattle.tko_session.specs.declared.probers.Slot.{Slot}
-use Rattle.tko_session.specs.declared.probers.Slot.TheVariants.{Quiet, Marked, Probing}
+use Rattle.tko_session.specs.declared.probers.ProbeSlot.{ProbeSlot}
+use Rattle.tko_session.specs.declared.probers.ProbeSlot.TheVariants.{Quiet, Marked, Probing}
 use Rattle.tko_session.specs.Probers.{ProbersState, begun_slot, is_busy, is_taken, noted, noted_one, prober_in, with_slot}
 
 -- what a slot adds to the number of busy ones
-abbrev part : Slot → ℕ
+abbrev part : ProbeSlot → ℕ
 part slot = cond (is_busy slot) 1 0
 
-begun_one : (delays : Delays) (moment : ℕ) (slot : Slot) → is_busy (begun_slot delays moment slot) ≡ is_busy slot
+begun_one : (delays : Delays) (moment : ℕ) (slot : ProbeSlot) → is_busy (begun_slot delays moment slot) ≡ is_busy slot
 begun_one delays moment Quiet = refl
 begun_one delays moment Marked = refl
 begun_one delays moment (Probing prober) = refl
 
 -- a prober that begins was counted before
-pub busy-begun : (delays : Delays) (moment : ℕ) (slots : List Slot)
+pub busy-begun : (delays : Delays) (moment : ℕ) (slots : List ProbeSlot)
     → count_by is_busy (map (begun_slot delays moment) slots) ≡ count_by is_busy slots
 busy-begun delays moment [] = refl
 busy-begun delays moment (slot ∷ slots) =
@@ -32,17 +32,17 @@ busy-begun delays moment (slot ∷ slots) =
       busy-begun delays moment slots,
     )
 
-busy-tail : (slot : Slot) (slots : List Slot) → count_by is_busy (slot ∷ slots) ≡ 0 → count_by is_busy slots ≡ 0
+busy-tail : (slot : ProbeSlot) (slots : List ProbeSlot) → count_by is_busy (slot ∷ slots) ≡ 0 → count_by is_busy slots ≡ 0
 busy-tail slot slots none = omega (arith, none, sum_by-cons part slot slots)
 
-quiet-head : (slot : Slot) (slots : List Slot) → count_by is_busy (slot ∷ slots) ≡ 0 → slot ≡ Quiet
+quiet-head : (slot : ProbeSlot) (slots : List ProbeSlot) → count_by is_busy (slot ∷ slots) ≡ 0 → slot ≡ Quiet
 quiet-head Quiet slots none = refl
 quiet-head Marked slots none = absurd (omega (arith, none, sum_by-cons part Marked slots))
 quiet-head (Probing prober) slots none =
     absurd (omega (arith, none, sum_by-cons part (Probing prober) slots))
 
 -- where no slot is busy, no prober begins
-pub begun-quiet : (delays : Delays) (moment : ℕ) (slots : List Slot) → count_by is_busy slots ≡ 0
+pub begun-quiet : (delays : Delays) (moment : ℕ) (slots : List ProbeSlot) → count_by is_busy slots ≡ 0
     → map (begun_slot delays moment) slots ≡ slots
 begun-quiet delays moment [] none = refl
 begun-quiet delays moment (slot ∷ slots) none =
@@ -51,13 +51,13 @@ begun-quiet delays moment (slot ∷ slots) none =
     rw (head, tail) refl
 
 -- nor is there one
-pub prober-quiet : (slots : List Slot) (server : ℕ) → count_by is_busy slots ≡ 0 → prober_in (slice_get slots server) ≡ None
+pub prober-quiet : (slots : List ProbeSlot) (server : ℕ) → count_by is_busy slots ≡ 0 → prober_in (slice_get slots server) ≡ None
 prober-quiet [] server none = refl
 prober-quiet (slot ∷ slots) zero none = rw (quiet-head slot slots none) refl
 prober-quiet (slot ∷ slots) (suc server) none = prober-quiet slots server (busy-tail slot slots none)
 
 -- a prober that goes back into its own slot leaves the slots as they were
-pub set-prober : (slots : List Slot) (server : ℕ) (prober : Prober) → prober_in (slice_get slots server) ≡ Some prober
+pub set-prober : (slots : List ProbeSlot) (server : ℕ) (prober : Prober) → prober_in (slice_get slots server) ≡ Some prober
     → slice_set slots server (Probing prober) ≡ slots
 set-prober [] server prober has = refl
 set-prober (Quiet ∷ slots) zero prober has = absurd cc

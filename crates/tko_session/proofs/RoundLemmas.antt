@@ -19,8 +19,8 @@ use Rattle.tko_prober.specs.declared.prober.ProbeTurn.TheVariants.{Rest, Send}
 use Rattle.tko_prober.specs.Probes.{IsDue, asked_after, sent}
 use Rattle.tko_route.specs.Trail.{IsRecorded}
 use Rattle.tko_session.specs.declared.parts.Parts.{Parts}
-use Rattle.tko_session.specs.declared.probers.Slot.{Slot}
-use Rattle.tko_session.specs.declared.probers.Slot.TheVariants.{Quiet, Probing}
+use Rattle.tko_session.specs.declared.probers.ProbeSlot.{ProbeSlot}
+use Rattle.tko_session.specs.declared.probers.ProbeSlot.TheVariants.{Quiet, Probing}
 use Rattle.tko_session.specs.Probers.{AreQuiet, ProbersState, begun_at, begun_slot, op_asked, probed_of, prober_of, slot_after, with_slot}
 use Rattle.tko_session.specs.Round.{Absent, AreVisited, IsProbed, IsRested, IsRound, IsStopped, IsVisit, IsVisited, Probed, Rested, Stopped, Visit, is_probe, probes_in, ran_out, visited}
 use Rattle.tko_session.proofs.ProberLemmas.{begun-quiet, prober-quiet, set-prober}
@@ -35,19 +35,19 @@ or-false true = refl
 or-false false = refl
 
 -- a slot that was emptied first
-set_emptied : (probers : ProbersState) (server : ℕ) (slot : Slot)
+set_emptied : (probers : ProbersState) (server : ℕ) (slot : ProbeSlot)
     → with_slot (with_slot probers server Quiet) server slot ≡ with_slot probers server slot
 set_emptied probers server slot =
-    ap (λ (slots : List Slot). record probers { slots = slots }) (set-set probers.slots server Quiet slot)
+    ap (λ (slots : List ProbeSlot). record probers { slots = slots }) (set-set probers.slots server Quiet slot)
 
 pub rest_is_send : Rest ≡ Send → ⊥
 rest_is_send same = cc
 
-module _ {H L T M : Type 0} {steps : H → HealthItem → H → Type 0} {exchanges : L → LinksItem → L → Type 0}
-    {probed : L → ℕ → ℕ} {reads : M → ℕ → M → Type 0} where
+module _ {H L T M : Type 0} {steps : H → HealthItem → H → Type 0} {grants : H → ℕ → Type 0}
+    {exchanges : L → LinksItem → L → Type 0} {probed : L → ℕ → ℕ} {reads : M → ℕ → M → Type 0} where
   pub visited_absent : (moment : ℕ) (old : Parts H L T M) (server : ℕ) (probers : ProbersState)
       → prober_of old.probers server ≡ None → probers ≡ old.probers
-      → IsVisited steps exchanges probed reads moment old server false (record old { probers = probers })
+      → IsVisited steps grants exchanges probed reads moment old server false (record old { probers = probers })
   visited_absent moment old server probers none same = record {
     visit = Absent server;
     at = refl;
@@ -58,7 +58,7 @@ module _ {H L T M : Type 0} {steps : H → HealthItem → H → Type 0} {exchang
   pub visited_stopped : (moment : ℕ) (old : Parts H L T M) (server : ℕ) (prober : Prober) (health : H) (probers : ProbersState)
       → prober_of old.probers server ≡ Some prober → steps old.health (NoDuty server) health
       → probers ≡ with_slot old.probers server Quiet
-      → IsVisited steps exchanges probed reads moment old server false (record old { health = health; probers = probers })
+      → IsVisited steps grants exchanges probed reads moment old server false (record old { health = health; probers = probers })
   visited_stopped moment old server prober health probers has refused slot = record {
     visit = Stopped server;
     at = refl;
@@ -74,11 +74,11 @@ module _ {H L T M : Type 0} {steps : H → HealthItem → H → Type 0} {exchang
   pub visited_rested : (moment : ℕ) (old : Parts H L T M) (server : ℕ) (prober : Prober) (health : H) (probers : ProbersState)
       → prober_of old.probers server ≡ Some prober → ¬ IsDue prober.stage moment → health ≡ old.health
       → probers ≡ with_slot (with_slot old.probers server Quiet) server (Probing prober)
-      → IsVisited steps exchanges probed reads moment old server false (record old { health = health; probers = probers })
+      → IsVisited steps grants exchanges probed reads moment old server false (record old { health = health; probers = probers })
   visited_rested moment old server prober health probers has early same slot =
       let back : probers ≡ old.probers =
       slot ∙ set_emptied old.probers server (Probing prober)
-      ∙ ap (λ (slots : List Slot). record old.probers { slots = slots }) (set-prober old.probers.slots server prober has) in
+      ∙ ap (λ (slots : List ProbeSlot). record old.probers { slots = slots }) (set-prober old.probers.slots server prober has) in
       record {
         visit = Rested server;
         at = refl;
@@ -94,7 +94,7 @@ module _ {H L T M : Type 0} {steps : H → HealthItem → H → Type 0} {exchang
   pub visited_probed : (moment : ℕ) (old : Parts H L T M) (server : ℕ) (prober : Prober)
       (came : Result Outcome NoMemory) (later : ℕ) (reply : Option Reply)
       (short : Bool) (health : H) (links : L) (moments : M) (probers : ProbersState)
-      → prober_of old.probers server ≡ Some prober → IsDue prober.stage moment
+      → prober_of old.probers server ≡ Some prober → IsDue prober.stage moment → grants old.health server
       → WasProbed exchanges old.links server came links
       → ((came ≡ Ok outcome.Spent) ↔ (probed old.links server ≡ most_sends))
       → ((at : ℕ) → probed links at ≡ probed old.links at + part_of (is_counted came) server at)
@@ -102,9 +102,9 @@ module _ {H L T M : Type 0} {steps : H → HealthItem → H → Type 0} {exchang
       → IsRecorded steps old.health server (op_asked (asked_after (probed_of came))) reply health
       → probers ≡ with_slot (with_slot old.probers server Quiet) server (slot_after (sent prober) later (probed_of came))
       → short ≡ is_err came
-      → IsVisited steps exchanges probed reads moment old server short
+      → IsVisited steps grants exchanges probed reads moment old server short
       (record old { health = health; links = links; probers = probers; moments = moments })
-  visited_probed moment old server prober came later reply short health links moments probers has due probe spent counted read recorded slot ran =
+  visited_probed moment old server prober came later reply short health links moments probers has due right probe spent counted read recorded slot ran =
       let settled = slot ∙ set_emptied old.probers server (slot_after (sent prober) later (probed_of came)) in
       record {
         visit = Probed server came later reply;
@@ -113,6 +113,7 @@ module _ {H L T M : Type 0} {steps : H → HealthItem → H → Type 0} {exchang
           prober = prober;
           has = has;
           due = due;
+          right = right;
           probe = probe;
           spent = spent;
           counted = counted;
@@ -124,13 +125,13 @@ module _ {H L T M : Type 0} {steps : H → HealthItem → H → Type 0} {exchang
         memory = ran;
       }
 
-  pub visited_none : (moment : ℕ) (at : Parts H L T M) → AreVisited steps exchanges probed reads moment at 0 false at
+  pub visited_none : (moment : ℕ) (at : Parts H L T M) → AreVisited steps grants exchanges probed reads moment at 0 false at
   visited_none moment at = record { visits = []; each = gains_none at; servers = refl; memory = refl }
 
   pub visited_more : {moment : ℕ} {old mid new : Parts H L T M} {count : ℕ} {short next : Bool}
-      → AreVisited steps exchanges probed reads moment old count short mid
-      → IsVisited steps exchanges probed reads moment mid count next new
-      → AreVisited steps exchanges probed reads moment old (count + 1) (short || next) new
+      → AreVisited steps grants exchanges probed reads moment old count short mid
+      → IsVisited steps grants exchanges probed reads moment mid count next new
+      → AreVisited steps grants exchanges probed reads moment old (count + 1) (short || next) new
   visited_more {count} front last = record {
     visits = front.visits ++ last.visit ∷ [];
     each = gains_push front.each last.is;
@@ -141,11 +142,11 @@ module _ {H L T M : Type 0} {steps : H → HealthItem → H → Type 0} {exchang
         refl;
   }
 
-module _ {H L T M : Type 0} (steps : H → HealthItem → H → Type 0) (exchanges : L → LinksItem → L → Type 0)
-    (probed : L → ℕ → ℕ) (reads : M → ℕ → M → Type 0) where
+module _ {H L T M : Type 0} (steps : H → HealthItem → H → Type 0) (grants : H → ℕ → Type 0)
+    (exchanges : L → LinksItem → L → Type 0) (probed : L → ℕ → ℕ) (reads : M → ℕ → M → Type 0) where
   -- what a visit adds to the probes of a server
   visit_probes : (moment : ℕ) (old new : Parts H L T M) (visit : Visit)
-      → IsVisit steps exchanges probed reads moment old visit new → (server : ℕ)
+      → IsVisit steps grants exchanges probed reads moment old visit new → (server : ℕ)
       → probed new.links server ≡ probed old.links server + cond (is_probe server visit) 1 0
   visit_probes moment old new (Absent at) (none, same) server =
       omega (arith, ap (λ (p : Parts H L T M). probed p.links server) same)
@@ -157,7 +158,7 @@ module _ {H L T M : Type 0} (steps : H → HealthItem → H → Type 0) (exchang
 
   -- the probes of a server are those of the visits
   probes_gained : (moment : ℕ) (old new : Parts H L T M) (visits : List Visit)
-      → Lead (IsVisit steps exchanges probed reads moment) old visits new → (server : ℕ)
+      → Lead (IsVisit steps grants exchanges probed reads moment) old visits new → (server : ℕ)
       → probed new.links server ≡ probed old.links server + probes_in server visits
   probes_gained moment old new [] same server = omega (arith, ap (λ (p : Parts H L T M). probed p.links server) same)
   probes_gained moment old new (visit ∷ visits) (mid, step, rest) server =
@@ -168,14 +169,14 @@ module _ {H L T M : Type 0} (steps : H → HealthItem → H → Type 0) (exchang
         sum_by-cons (λ (x : Visit). cond {A = ℕ} (is_probe server x) 1 0) visit visits,
       )
 
-module _ {H L T M : Type 0} {steps : H → HealthItem → H → Type 0} {exchanges : L → LinksItem → L → Type 0}
-    {probed : L → ℕ → ℕ} {reads : M → ℕ → M → Type 0} where
+module _ {H L T M : Type 0} {steps : H → HealthItem → H → Type 0} {grants : H → ℕ → Type 0}
+    {exchanges : L → LinksItem → L → Type 0} {probed : L → ℕ → ℕ} {reads : M → ℕ → M → Type 0} where
   -- a moment was read, the probers began, and all servers were visited
   pub round_of : (moment : ℕ) (old : Parts H L T M) (clock : M) (short : Bool) (new : Parts H L T M)
       → reads old.moments moment clock
-      → AreVisited steps exchanges probed reads moment
+      → AreVisited steps grants exchanges probed reads moment
       (record old { moments = clock; probers = begun_at moment old.probers }) (length old.probers.slots) short new
-      → IsRound steps exchanges probed reads old short new
+      → IsRound steps grants exchanges probed reads old short new
   round_of moment old clock short new read all = record {
     moment = moment;
     clock = clock;
@@ -183,45 +184,45 @@ module _ {H L T M : Type 0} {steps : H → HealthItem → H → Type 0} {exchang
     visits = all.visits;
     each = all.each;
     servers = all.servers;
-    probes = probes_gained steps exchanges probed reads moment _ new all.visits all.each.leads;
+    probes = probes_gained steps grants exchanges probed reads moment _ new all.visits all.each.leads;
     memory = all.memory;
   }
 
   -- the same where the probers are given by an equation
   pub round_after : (moment : ℕ) (old : Parts H L T M) (clock : M) (probers : ProbersState) (short : Bool) (new : Parts H L T M)
       → reads old.moments moment clock → probers ≡ begun_at moment old.probers
-      → AreVisited steps exchanges probed reads moment
+      → AreVisited steps grants exchanges probed reads moment
       (record old { moments = clock; probers = probers }) (length probers.slots) short new
-      → IsRound steps exchanges probed reads old short new
+      → IsRound steps grants exchanges probed reads old short new
   round_after moment old clock probers short new read began all =
       let len : length probers.slots ≡ length old.probers.slots =
       ap (λ (p : ProbersState). length p.slots) began
       ∙ length-map old.probers.slots (begun_slot old.probers.delays moment) in
-      let moved : AreVisited steps exchanges probed reads moment
+      let moved : AreVisited steps grants exchanges probed reads moment
       (record old { moments = clock; probers = begun_at moment old.probers }) (length probers.slots) short new =
-      subst (λ (p : ProbersState). AreVisited steps exchanges probed reads moment
+      subst (λ (p : ProbersState). AreVisited steps grants exchanges probed reads moment
       (record old { moments = clock; probers = p }) (length probers.slots) short new) began all in
       round_of moment old clock short new read
-      (subst (λ n. AreVisited steps exchanges probed reads moment
+      (subst (λ n. AreVisited steps grants exchanges probed reads moment
       (record old { moments = clock; probers = begun_at moment old.probers }) n short new) len moved)
 
   visited_quiet : (moment : ℕ) (at : Parts H L T M) → AreQuiet at.probers → (count : ℕ)
-      → AreVisited steps exchanges probed reads moment at count false at
+      → AreVisited steps grants exchanges probed reads moment at count false at
   visited_quiet moment at quiet zero = visited_none moment at
   visited_quiet moment at quiet (suc count) =
       let none = prober-quiet at.probers.slots count quiet in
       let all = visited_more (visited_quiet moment at quiet count) (visited_absent moment at count at.probers none refl) in
-      subst (λ n. AreVisited steps exchanges probed reads moment at n false at) (add-one count) all
+      subst (λ n. AreVisited steps grants exchanges probed reads moment at n false at) (add-one count) all
 
   -- where no server is probed or going to be, a round reads its moment and changes nothing else
   pub round_quiet : (moment : ℕ) (old : Parts H L T M) (clock : M) → reads old.moments moment clock → AreQuiet old.probers
-      → IsRound steps exchanges probed reads old false (record old { moments = clock })
+      → IsRound steps grants exchanges probed reads old false (record old { moments = clock })
   round_quiet moment old clock read quiet =
       let at = record old { moments = clock; probers = begun_at moment old.probers } in
       let same : begun_at moment old.probers ≡ old.probers =
-      ap (λ (slots : List Slot). record old.probers { slots = slots })
+      ap (λ (slots : List ProbeSlot). record old.probers { slots = slots })
       (begun-quiet old.probers.delays moment old.probers.slots quiet) in
       let all = visited_quiet moment (record old { moments = clock }) quiet (length old.probers.slots) in
       round_of moment old clock false (record old { moments = clock }) read
-      (subst (λ (p : ProbersState). AreVisited steps exchanges probed reads moment (record old { moments = clock; probers = p })
+      (subst (λ (p : ProbersState). AreVisited steps grants exchanges probed reads moment (record old { moments = clock; probers = p })
       (length old.probers.slots) false (record old { moments = clock })) (sym same) all)

@@ -411,13 +411,13 @@ module _ {I O W : Type 0} {gives : I → List ℕ → I → Type 0} {idled : I �
   so_far_reads {at} so_far =
       reading_goes_on so_far.bytes (items_of (turns_of so_far.delivered.events)) at.reading so_far.delivered.turned.gives so_far.delivered.progress_is.0
 
-module _ {I O H L T M : Type 0} {gives : I → List ℕ → I → Type 0} {idled : I → ℕ} {takes : O → List ℕ → O → Type 0} {steps : H → HealthItem → H → Type 0} {exchanges : L → LinksItem → L → Type 0} {sent probed : L → ℕ → ℕ} {records : T → TrailEvent → T → Type 0} {reads : M → ℕ → M → Type 0} where
+module _ {I O H L T M : Type 0} {gives : I → List ℕ → I → Type 0} {idled : I → ℕ} {takes : O → List ℕ → O → Type 0} {steps : H → HealthItem → H → Type 0} {grants : H → ℕ → Type 0} {exchanges : L → LinksItem → L → Type 0} {sent probed : L → ℕ → ℕ} {records : T → TrailEvent → T → Type 0} {reads : M → ℕ → M → Type 0} where
   -- the reader was idle, and a round was run
   pub so_far_idle : ((x y z : I) (bytes more : List ℕ) → gives x bytes y → gives y more z → gives x (bytes ++ more) z)
       → {reader reader' reader'' : I} {writer writer' : O} {written : ℕ} {parts parts' parts'' : Parts H L T M} {at : SessionState}
-      → ServedSoFar gives idled takes (IsEvent steps exchanges sent probed records reads) (sent_by sent) (probed_by probed) NeedsInput reader writer parts at reader' writer' written parts'
-      → gives reader' [] reader'' → idled reader'' ≡ idled reader' + 1 → Rounded steps exchanges sent probed reads parts' parts''
-      → ServedSoFar gives idled takes (IsEvent steps exchanges sent probed records reads) (sent_by sent) (probed_by probed) NeedsInput reader writer parts at reader'' writer' written parts''
+      → ServedSoFar gives idled takes (IsEvent steps grants exchanges sent probed records reads) (sent_by sent) (probed_by probed) NeedsInput reader writer parts at reader' writer' written parts'
+      → gives reader' [] reader'' → idled reader'' ≡ idled reader' + 1 → Rounded steps grants exchanges sent probed reads parts' parts''
+      → ServedSoFar gives idled takes (IsEvent steps grants exchanges sent probed records reads) (sent_by sent) (probed_by probed) NeedsInput reader writer parts at reader'' writer' written parts''
   so_far_idle goes_in {reader} {reader'} {reader''} {writer} {writer'} {written} {parts} {parts'} {parts''} {at} so_far read idle rounded =
       let before = so_far.delivered in
       let last : List Event = IdleRound rounded.round.visits ∷ [] in

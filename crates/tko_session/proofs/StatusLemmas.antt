@@ -6,7 +6,7 @@ use Rattle.std.proofs.lemmas.List.{length-map, length-take-le, map-append, take_
 use Rattle.tko_model.specs.declared.look.Look.{Look}
 use Rattle.tko_model.specs.Records.{HealthItem, Gains}
 use Rattle.tko_model.proofs.RecordLemmas.{gains_none, gains_one, gains_append}
-use Rattle.tko_route.specs.Health.{look_item}
+use Rattle.tko_health.specs.Health.{look_item}
 use Rattle.tko_session.specs.Answering.{Extends}
 use Rattle.tko_session.specs.Status.{IsStatusAfter, Looked, addresses_in, looks_from, mark_line, mark_of, status_line}
 

@@ -288,13 +288,13 @@ module _ {W : Type 0} {step : W → Event → W → Type 0} {sent probed : W →
     outbox = answered.outbox;
   }
 
-module _ {H L T M : Type 0} {steps : H → HealthItem → H → Type 0} {exchanges : L → LinksItem → L → Type 0} {sent probed : L → ℕ → ℕ} {records : T → TrailEvent → T → Type 0} {reads : M → ℕ → M → Type 0} where
+module _ {H L T M : Type 0} {steps : H → HealthItem → H → Type 0} {grants : H → ℕ → Type 0} {exchanges : L → LinksItem → L → Type 0} {sent probed : L → ℕ → ℕ} {records : T → TrailEvent → T → Type 0} {reads : M → ℕ → M → Type 0} where
   -- a fault is answered, which changes nothing but the outbox
   pub answered_fault : (old mid new : SessionState) (world : Parts H L T M) (fault : TextFault) (progress : Progress)
       → Emits old.reading (item.Fault fault) mid.reading → mid ≡ record old { reading = mid.reading }
       → new ≡ record mid { outbox = mid.outbox ++ fault_text fault } → progress ≡ progress_after fault
       → old.owes ≡ false → length old.outbox < reply_bound
-      → Answered (IsEvent steps exchanges sent probed records reads) (sent_by sent) (probed_by probed) progress old world new world
+      → Answered (IsEvent steps grants exchanges sent probed records reads) (sent_by sent) (probed_by probed) progress old world new world
   answered_fault old mid new world fault progress told same e is none room = record {
     events = Answer (record { item = item.Fault fault; routed = []; text = fault_text fault }) ∷ [];
     turned = record {
@@ -323,7 +323,7 @@ module _ {H L T M : Type 0} {steps : H → HealthItem → H → Type 0} {exchang
       → Emits old.reading (item.Request it) mid.reading → mid ≡ record old { reading = mid.reading }
       → Replied steps exchanges sent probed records mid before it new after → progress ≡ progress_of it
       → old.owes ≡ false → length old.outbox < reply_bound
-      → Answered (IsEvent steps exchanges sent probed records reads) (sent_by sent) (probed_by probed) progress old before new after
+      → Answered (IsEvent steps grants exchanges sent probed records reads) (sent_by sent) (probed_by probed) progress old before new after
   answered_request old mid new before after it progress told same replied is none room = record {
     events = Answer (record { item = item.Request it; routed = replied.routed; text = replied.text }) ∷ [];
     turned = record {
@@ -347,8 +347,8 @@ module _ {H L T M : Type 0} {steps : H → HealthItem → H → Type 0} {exchang
 
   -- the round that was owed is an event
   turned_round : {mid new : SessionState} {between after : Parts H L T M} → mid.owes ≡ true
-      → (rounded : Rounded steps exchanges sent probed reads between after) → new ≡ record mid { owes = false }
-      → Turned (IsEvent steps exchanges sent probed records reads) (sent_by sent) (probed_by probed) mid between
+      → (rounded : Rounded steps grants exchanges sent probed reads between after) → new ≡ record mid { owes = false }
+      → Turned (IsEvent steps grants exchanges sent probed records reads) (sent_by sent) (probed_by probed) mid between
       (RoundAfter rounded.round.visits ∷ []) new after
   turned_round {mid} {new} {between} {after} owed rounded paid = record {
     gives = subst (Gives mid.reading []) (sym (ap (λ s. s.reading) paid)) (Gives-none mid.reading);
@@ -365,9 +365,9 @@ module _ {H L T M : Type 0} {steps : H → HealthItem → H → Type 0} {exchang
 
   -- the round that was owed was run
   pub answered_round : {progress : Progress} {old mid new : SessionState} {before between after : Parts H L T M}
-      → Answered (IsEvent steps exchanges sent probed records reads) (sent_by sent) (probed_by probed) progress old before mid between
-      → mid.owes ≡ true → Rounded steps exchanges sent probed reads between after → new ≡ record mid { owes = false }
-      → Answered (IsEvent steps exchanges sent probed records reads) (sent_by sent) (probed_by probed) progress old before new after
+      → Answered (IsEvent steps grants exchanges sent probed records reads) (sent_by sent) (probed_by probed) progress old before mid between
+      → mid.owes ≡ true → Rounded steps grants exchanges sent probed reads between after → new ≡ record mid { owes = false }
+      → Answered (IsEvent steps grants exchanges sent probed records reads) (sent_by sent) (probed_by probed) progress old before new after
   answered_round {progress} {old} {mid} {new} {before} {between} {after} front owed rounded paid =
       let visits = rounded.round.visits in
       let items : items_of (turns_of (front.events ++ RoundAfter visits ∷ [])) ≡ items_of (turns_of front.events) =
@@ -387,11 +387,11 @@ module _ {H L T M : Type 0} {steps : H → HealthItem → H → Type 0} {exchang
 
   -- the round that was owed, if one was
   pub answered_paid : {progress : Progress} {old mid new : SessionState} {before between after : Parts H L T M}
-      → Answered (IsEvent steps exchanges sent probed records reads) (sent_by sent) (probed_by probed) progress old before mid between
-      → IsRun steps exchanges sent probed reads mid.owes between after → new ≡ record mid { owes = false }
-      → Answered (IsEvent steps exchanges sent probed records reads) (sent_by sent) (probed_by probed) progress old before new after
+      → Answered (IsEvent steps grants exchanges sent probed records reads) (sent_by sent) (probed_by probed) progress old before mid between
+      → IsRun steps grants exchanges sent probed reads mid.owes between after → new ≡ record mid { owes = false }
+      → Answered (IsEvent steps grants exchanges sent probed records reads) (sent_by sent) (probed_by probed) progress old before new after
   answered_paid {progress} {old} {mid} {new} {before} {between} {after} front run paid =
-      let P : Bool → Type 0 = λ owes. MatchBool owes (Rounded steps exchanges sent probed reads between after) (after ≡ between) in
+      let P : Bool → Type 0 = λ owes. MatchBool owes (Rounded steps grants exchanges sent probed reads between after) (after ≡ between) in
       elim (cases_Bool mid.owes) [
         | inl owed ↦ answered_round front owed (subst P owed run.ran) paid
         | inr none ↦
@@ -402,8 +402,8 @@ module _ {H L T M : Type 0} {steps : H → HealthItem → H → Type 0} {exchang
 
   -- the round at an idle turn is an event
   pub turned_idle : {at : SessionState} {between after : Parts H L T M} → at.owes ≡ false
-      → (rounded : Rounded steps exchanges sent probed reads between after)
-      → Turned (IsEvent steps exchanges sent probed records reads) (sent_by sent) (probed_by probed) at between
+      → (rounded : Rounded steps grants exchanges sent probed reads between after)
+      → Turned (IsEvent steps grants exchanges sent probed records reads) (sent_by sent) (probed_by probed) at between
       (IdleRound rounded.round.visits ∷ []) at after
   turned_idle {at} {between} {after} none rounded = record {
     gives = Gives-none at.reading;

@@ -73,10 +73,11 @@ module _ {H L T M : Type 0} (steps : H → HealthItem → H → Type 0)
     pub probes : (server : ℕ) → probed new.links server ≡ probed old.links server
     pub appended : outbox' ≡ outbox ++ text
 
-  -- the next of several keys was routed by this request, after so many bytes waited before the
+  -- the next of several keys was routed by this request, and `waiting` bytes waited before the
   -- first key: its values are at the end of the outbox, or its whole reply follows those bytes
   pub record IsNext (request : Request) (key : List ℕ) (waiting : ℕ) (listed : Bool)
-      (old : Parts H L T M) (outbox : List ℕ) (new : Parts H L T M) (outbox' : List ℕ) : Type 0 where
+      (old : Parts H L T M) (outbox : List ℕ) (new : Parts H L T M) (outbox' : List ℕ)
+      : Type 0 where
     pub trail : List Attempt
     pub routed : IsKeyRouted steps exchanges sent records request old
         (record { key = key; trail = trail }) new

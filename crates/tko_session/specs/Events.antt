@@ -3,8 +3,8 @@ use Rattle.std.specs.Prelude.{◌≡◌, ℕ, ◌+◌, Bool, true, false, List, 
 use Rattle.tko_model.specs.Records.{HealthItem}
 use Rattle.tko_links.specs.Links.{LinksItem}
 use Rattle.tko_session.specs.declared.parts.Parts.{Parts}
-use Rattle.tko_session.specs.declared.probers.Slot.{Slot}
-use Rattle.tko_session.specs.declared.probers.Slot.TheVariants.{Quiet, Marked, Probing}
+use Rattle.tko_session.specs.declared.probers.ProbeSlot.{ProbeSlot}
+use Rattle.tko_session.specs.declared.probers.ProbeSlot.TheVariants.{Quiet, Marked, Probing}
 use Rattle.tko_session.specs.Probers.{ProbersState}
 use Rattle.tko_session.specs.Round.{IsRound, Visit, probes_in}
 use Rattle.tko_session.specs.TrailEvents.{TrailEvent}
@@ -61,13 +61,13 @@ owed_from (Some owed) (event ∷ events) = owed_from (owed_then owed event) even
 abbrev pub owed_after : Bool → List Event → Option Bool
 owed_after owed events = owed_from (Some owed) events
 
-module _ {H L T M : Type 0} (steps : H → HealthItem → H → Type 0)
+module _ {H L T M : Type 0} (steps : H → HealthItem → H → Type 0) (grants : H → ℕ → Type 0)
     (exchanges : L → LinksItem → L → Type 0) (sent probed : L → ℕ → ℕ)
     (records : T → TrailEvent → T → Type 0) (reads : M → ℕ → M → Type 0) where
   -- a round with these visits
   pub record IsRoundOf (visits : List Visit) (old new : Parts H L T M) : Type 0 where
     pub short : Bool
-    pub round : IsRound steps exchanges probed reads old short new
+    pub round : IsRound steps grants exchanges probed reads old short new
     pub visited : round.visits ≡ visits
 
   -- what an event changes
@@ -78,20 +78,20 @@ module _ {H L T M : Type 0} (steps : H → HealthItem → H → Type 0)
 
 -- a round was run, and nothing was sent to a server but its probes
 pub record Rounded {H L T M : Type 0} (steps : H → HealthItem → H → Type 0)
-    (exchanges : L → LinksItem → L → Type 0) (sent probed : L → ℕ → ℕ)
+    (grants : H → ℕ → Type 0) (exchanges : L → LinksItem → L → Type 0) (sent probed : L → ℕ → ℕ)
     (reads : M → ℕ → M → Type 0) (old new : Parts H L T M) : Type 0 where
   pub short : Bool
-  pub round : IsRound steps exchanges probed reads old short new
+  pub round : IsRound steps grants exchanges probed reads old short new
   pub sends : (server : ℕ) → sent new.links server ≡ sent old.links server
 
 -- a round was run where one was owed, and else nothing was done
 pub record IsRun {H L T M : Type 0} (steps : H → HealthItem → H → Type 0)
-    (exchanges : L → LinksItem → L → Type 0) (sent probed : L → ℕ → ℕ)
+    (grants : H → ℕ → Type 0) (exchanges : L → LinksItem → L → Type 0) (sent probed : L → ℕ → ℕ)
     (reads : M → ℕ → M → Type 0) (owes : Bool) (old new : Parts H L T M) : Type 0 where
-  pub ran : MatchBool owes (Rounded steps exchanges sent probed reads old new) (new ≡ old)
+  pub ran : MatchBool owes (Rounded steps grants exchanges sent probed reads old new) (new ≡ old)
 
 -- no server waits for its prober
-abbrev pub AreBegun : List Slot → Type 0
+abbrev pub AreBegun : List ProbeSlot → Type 0
 AreBegun [] = Unit {0}
 AreBegun (Quiet ∷ slots) = AreBegun slots
 AreBegun (Marked ∷ slots) = ⊥

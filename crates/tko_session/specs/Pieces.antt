@@ -15,7 +15,7 @@ idle_in (piece.Bytes count) = 0
 idle_in piece.Idle = 1
 idle_in piece.Failed = 0
 
--- so many bytes were read, and where it is none the input ended
+-- `count` bytes were read, and where that is none the input ended
 pub record IsRead {I : Type 0} (gives : I → List ℕ → I → Type 0) (is_ended : I → Type 0)
     (old : I) (count : ℕ) (buffer : List ℕ) (new : I) : Type 0 where
   pub within : count ≤ length buffer
@@ -25,6 +25,7 @@ pub record IsRead {I : Type 0} (gives : I → List ℕ → I → Type 0) (is_end
 -- bytes were read to the front of the buffer, or none
 abbrev pub IsPiece : {I : Type 0} → (I → List ℕ → I → Type 0) → (I → Type 0)
     → I → Piece → List ℕ → I → Type 0
-IsPiece gives is_ended old (piece.Bytes count) buffer new = IsRead gives is_ended old count buffer new
+IsPiece gives is_ended old (piece.Bytes count) buffer new =
+    IsRead gives is_ended old count buffer new
 IsPiece gives is_ended old piece.Idle buffer new = gives old [] new
 IsPiece gives is_ended old piece.Failed buffer new = gives old [] new

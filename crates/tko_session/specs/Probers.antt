@@ -1,4 +1,4 @@
--- The probers of a session, one slot for each server.
+-- The probers of a worker, one slot for each server.
 use Rattle.std.specs.Prelude.{◌≡◌, ℕ, Bool, true, false, if◌then◌else◌, List, [], ◌∷◌, map, replicate, count_by, slice_get, slice_set, Option, Some, None, Result, Ok, Err}
 use Rattle.tko_model.specs.declared.mark.Op.{Op}
 use Rattle.tko_model.specs.declared.mark.Op.TheVariants.{HardFailure, Success}
@@ -16,20 +16,20 @@ use Rattle.tko_prober.specs.declared.prober.Prober.{Prober}
 use Rattle.tko_prober.specs.Probes.{begun, with_result}
 use Rattle.tko_route.specs.declared.attempt.Attempt.{Attempt}
 use Rattle.tko_route.specs.declared.attempt.Attempt.TheVariants as attempt
-use Rattle.tko_session.specs.declared.probers.Slot.{Slot}
-use Rattle.tko_session.specs.declared.probers.Slot.TheVariants.{Quiet, Marked, Probing}
+use Rattle.tko_session.specs.declared.probers.ProbeSlot.{ProbeSlot}
+use Rattle.tko_session.specs.declared.probers.ProbeSlot.TheVariants.{Quiet, Marked, Probing}
 
 -- the delays of all probers, and a slot for each server
 pub record ProbersState : Type 0 where
   pub delays : Delays
-  pub slots : List Slot
+  pub slots : List ProbeSlot
 
--- so many servers, none of which is probed
+-- the probers of `servers` servers, none of which is probed
 abbrev pub no_probers : Delays → ℕ → ProbersState
 no_probers delays servers = record { delays = delays; slots = replicate servers Quiet }
 
 -- whether a server is probed, or is going to be
-abbrev pub is_busy : Slot → Bool
+abbrev pub is_busy : ProbeSlot → Bool
 is_busy Quiet = false
 is_busy Marked = true
 is_busy (Probing prober) = true
@@ -38,7 +38,7 @@ is_busy (Probing prober) = true
 abbrev pub AreQuiet : ProbersState → Type 0
 AreQuiet probers = count_by is_busy probers.slots ≡ 0
 
-abbrev pub prober_in : Option Slot → Option Prober
+abbrev pub prober_in : Option ProbeSlot → Option Prober
 prober_in (Some (Probing prober)) = Some prober
 prober_in (Some Quiet) = None
 prober_in (Some Marked) = None
@@ -48,7 +48,7 @@ prober_in None = None
 abbrev pub prober_of : ProbersState → ℕ → Option Prober
 prober_of probers server = prober_in (slice_get probers.slots server)
 
-abbrev pub with_slot : ProbersState → ℕ → Slot → ProbersState
+abbrev pub with_slot : ProbersState → ℕ → ProbeSlot → ProbersState
 with_slot probers server slot = record probers { slots = slice_set probers.slots server slot }
 
 -- whether this is the answer to a failure that made the mark
@@ -70,7 +70,7 @@ noted [] probers = probers
 noted (it ∷ trail) probers = noted trail (noted_one it probers)
 
 -- a server that was marked gets a prober that begins at this moment
-abbrev pub begun_slot : Delays → ℕ → Slot → Slot
+abbrev pub begun_slot : Delays → ℕ → ProbeSlot → ProbeSlot
 begun_slot delays moment Quiet = Quiet
 begun_slot delays moment Marked = Probing (begun delays moment)
 begun_slot delays moment (Probing prober) = Probing prober
@@ -95,7 +95,7 @@ probed_of (Err fault) = probe.Failed
 
 -- the slot of a server whose probe, which was out, came to this: after an answer it is no longer
 -- probed
-abbrev pub slot_after : Prober → ℕ → Probed → Slot
+abbrev pub slot_after : Prober → ℕ → Probed → ProbeSlot
 slot_after prober moment probe.Answered = Quiet
 slot_after prober moment probe.Refused = Probing (with_result prober moment probe.Refused)
 slot_after prober moment probe.Failed = Probing (with_result prober moment probe.Failed)

@@ -13,7 +13,7 @@ use Rattle.tko_prober.specs.declared.prober.Prober.{Prober}
 use Rattle.tko_prober.specs.Probes.{IsDue, asked_after, sent}
 use Rattle.tko_route.specs.Trail.{IsRecorded}
 use Rattle.tko_session.specs.declared.parts.Parts.{Parts}
-use Rattle.tko_session.specs.declared.probers.Slot.TheVariants.{Quiet}
+use Rattle.tko_session.specs.declared.probers.ProbeSlot.TheVariants.{Quiet}
 use Rattle.tko_session.specs.Probers.{begun_at, op_asked, probed_of, prober_of, slot_after, with_slot}
 
 -- what a round did at a server: it has no prober; its prober was stopped; its prober rests; or it
@@ -50,7 +50,7 @@ ran_out (Stopped server) = false
 ran_out (Rested server) = false
 ran_out (Probed server came moment reply) = is_err came
 
-module _ {H L T M : Type 0} (steps : H → HealthItem → H → Type 0)
+module _ {H L T M : Type 0} (steps : H → HealthItem → H → Type 0) (grants : H → ℕ → Type 0)
     (exchanges : L → LinksItem → L → Type 0) (probed : L → ℕ → ℕ)
     (reads : M → ℕ → M → Type 0) where
   -- the server is not this thread's to probe: its prober is stopped
@@ -71,14 +71,16 @@ module _ {H L T M : Type 0} (steps : H → HealthItem → H → Type 0)
     pub early : ¬ IsDue prober.stage moment
     pub same : new ≡ old
 
-  -- the prober was due at the moment of the round, and its server was probed once: the links have
-  -- the probe, one more moment was read, and what the prober asks for was recorded
+  -- the prober was due at the round's moment, the health granted the right to probe its server,
+  -- and it was probed once: the links have the probe, one more moment was read, and what the prober
+  -- asks for was recorded
   pub record IsProbed (moment : ℕ) (old : Parts H L T M) (server : ℕ)
       (came : Result Outcome NoMemory) (later : ℕ) (reply : Option Reply) (new : Parts H L T M)
       : Type 0 where
     pub prober : Prober
     pub has : prober_of old.probers server ≡ Some prober
     pub due : IsDue prober.stage moment
+    pub right : grants old.health server
     pub probe : WasProbed exchanges old.links server came new.links
     pub spent : (came ≡ Ok outcome.Spent) ↔ (probed old.links server ≡ most_sends)
     pub counted : (at : ℕ)
@@ -122,7 +124,7 @@ module _ {H L T M : Type 0} (steps : H → HealthItem → H → Type 0)
     pub is : IsVisit moment old visit new
     pub memory : short ≡ ran_out visit
 
-  -- the first so many servers were visited, in number order
+  -- the first `count` servers were visited, in number order
   pub record AreVisited (moment : ℕ) (old : Parts H L T M) (count : ℕ) (short : Bool)
       (new : Parts H L T M) : Type 0 where
     pub visits : List Visit

@@ -19,7 +19,8 @@ pub data Ending (is_ended : Type 0) (items : List Item) (left : Reading) (unfini
   at_quit : EndsWith quit items → unfinished ≡ 0 → Ending is_ended items left unfinished
 
 module _ {I O W : Type 0} (gives : I → List ℕ → I → Type 0) (idled : I → ℕ)
-    (takes : O → List ℕ → O → Type 0) (step : W → Event → W → Type 0) (sent probed : W → ℕ → ℕ) where
+    (takes : O → List ℕ → O → Type 0) (step : W → Event → W → Type 0)
+    (sent probed : W → ℕ → ℕ) where
   -- all that was read, each item of it and what became of it, the rounds, and all that was written:
   -- each request is followed by its round, and there is a round for each idle turn of the reader
   pub record Transcript (reader : I) (writer : O) (parts : W)
@@ -79,7 +80,7 @@ module _ {I O W : Type 0} (gives : I → List ℕ → I → Type 0) (idled : I �
     pub text : text_of (turns_of events) ≡ front ++ unwritten
     pub output : takes writer front writer'
 
-  -- the writer failed after so many bytes
+  -- the writer failed after `written` bytes
   pub record StoppedByWrite (reader : I) (writer : O) (parts : W) (written : ℕ)
       (reader' : I) (writer' : O) : Type 0 where
     pub early : StoppedEarly reader writer parts reader' writer'
@@ -95,7 +96,7 @@ pub record CameTooLong {I : Type 0} (gives : I → List ℕ → I → Type 0)
   pub reads : Reads bytes items left
   pub ends : EndsWith line_too_long items
 
--- events went from the one state to the other, so many of them rounds at idle turns, all their text
+-- events went from the one state to the other, `idles` of them rounds at idle turns, all their text
 -- was written and counted, and no round is owed
 pub record Delivered {O W : Type 0} (takes : O → List ℕ → O → Type 0)
     (step : W → Event → W → Type 0) (sent probed : W → ℕ → ℕ) (idles : ℕ) (progress : Progress)

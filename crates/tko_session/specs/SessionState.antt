@@ -37,7 +37,7 @@ fresh = record { reading = start; outbox = []; requests = 0; owes = false }
 abbrev pub fed_state : SessionState → List ℕ → SessionState
 fed_state old piece = record old { reading = fed old.reading piece }
 
--- so many bytes of replies are enough to be written
+-- the number of bytes of replies that is enough to be written
 abbrev pub reply_bound : ℕ
 reply_bound = 65536
 
@@ -104,7 +104,7 @@ abbrev pub progress_after : TextFault → Progress
 progress_after LineTooLong = progress.LineTooLong
 progress_after _ = progress.More
 
--- where so many bytes wait, each of these turns begins while fewer than the bound wait
+-- after `waiting` bytes, each of these turns begins while fewer bytes than the bound wait
 abbrev pub BeginBelowBound : ℕ → List Turn → Type 0
 BeginBelowBound waiting [] = Unit {0}
 BeginBelowBound waiting (turn ∷ turns) =

@@ -6,7 +6,7 @@ use Rattle.tko_model.specs.declared.mark.Mark.{Mark}
 use Rattle.tko_model.specs.declared.mark.Mark.TheVariants as mark
 use Rattle.tko_model.specs.Records.{HealthItem, Gains}
 use Rattle.tko_model.specs.Texts.{mark_text}
-use Rattle.tko_route.specs.Health.{look_item}
+use Rattle.tko_health.specs.Health.{look_item}
 
 -- the address of a server, and what its look-up found
 pub record Looked : Type 0 where

@@ -46,7 +46,7 @@ write_stop_of Idle = Again
 write_stop_of Again = Again
 write_stop_of Fault = Fault
 
--- a write of so many bytes either stops, as the list says, or moves as many as it may; it fails
+-- a write of `len` bytes either stops, as the list says, or moves as many as it may; it fails
 -- without a stop only where memory ran out
 abbrev pub WriteIs : Option Stop → Tape → ℕ → Result ℕ Stop → Type 0
 WriteIs (Some stop) old len result = result ≡ Err (write_stop_of stop)

@@ -10,7 +10,7 @@ use tko_text::FeedFault;
 pub enum SessionFault {
     #[error("read")]
     Read,
-    /// So many bytes of the session were written; the greatest number means that many or more.
+    /// This number of bytes of the session was written; the greatest number stands for more, too.
     #[error("write after {0} bytes")]
     Write(u64),
     #[error("line too long")]

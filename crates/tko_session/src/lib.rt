@@ -4,7 +4,7 @@
 //! - `Piped` and `Taped`: ends over std's readers and writers, and over memory.
 //! - `Parts`: what a session works on; `Trails` records each request and each trail. `Kept` keeps
 //!   the trails, and `Counts` counts what is in them.
-//! - `Probers`: which servers the session's failures marked, and when each is probed; `Moments` is
+//! - `Probers`: which servers the worker's failures marked, and when each is probed; `Moments` is
 //!   their clock, and `round` sends the probes that are due.
 //! - `Session`: one client's session between two pieces, and `Progress`, how far it answered. It
 //!   knows no socket.
@@ -42,7 +42,7 @@ pub use moments::{Listed, Moments, Still};
 pub use parts::Parts;
 pub use pieces::{Piece, piece_buffer, read_piece, wait_for_piece};
 pub use piped::Piped;
-pub use probers::{Probers, Slot};
+pub use probers::{ProbeSlot, Probers};
 pub use rounds::round;
 pub use serving::serve;
 pub use session::{Progress, Report, Session};
@@ -51,7 +51,5 @@ pub use taped::Taped;
 pub use trails::{Kept, Trails};
 pub use writing::write_all;
 
-#[cfg(test)]
-mod round_tests;
 #[cfg(test)]
 mod tests;

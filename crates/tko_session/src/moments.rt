@@ -30,8 +30,8 @@ impl Moments for Still {
     }
 }
 
-/// Moments from a list, and then the last of them again; an empty list gives 0. Contracts see what is
-/// left of the list, and the last moment.
+/// Moments from a list, and then the last of them again; an empty list gives 0. Contracts see what
+/// is left of the list, and the last moment.
 #[derive(Drop)]
 pub struct Listed {
     moments: Vec<u64>,

@@ -9,12 +9,12 @@ ghost use Rattle.tko_session.specs.Status.{IsStatusAfter};
 use crate::status_text::append_status;
 use std::alloc::Global;
 use std::marker::Model;
+use std::sync::Wait;
 use tko_bytes::{NoMemory, clear};
-use tko_links::IoRuntime;
 use tko_route::Health;
 use tko_text::Response;
 
-/// So many bytes of replies are enough to be written. A single reply may be longer.
+/// This number of bytes of replies is enough to be written. A single reply may be longer.
 const REPLY_BOUND: usize = 65_536;
 
 /// The room that an empty outbox keeps at most.
@@ -127,7 +127,7 @@ impl Outbox {
     }
 
     /// Appends the values of a response that is a list of values, and returns whether it is one. If
-    /// it is none, it takes the place of all but the first so many bytes.
+    /// it is none, it takes the place of all but the first `waiting` bytes.
     pub(crate) fn append_next(
         &mut self,
         waiting: usize,
@@ -150,7 +150,7 @@ impl Outbox {
     }
 
     /// Appends the status of the servers.
-    pub(crate) fn append_status<R: IoRuntime, H: Health>(
+    pub(crate) fn append_status<R: Wait, H: Health>(
         &mut self,
         rt: &R,
         health: &mut H,
@@ -165,7 +165,7 @@ impl Outbox {
         append_status(rt, health, addresses, &mut self.bytes)
     }
 
-    /// Drops all but the first so many bytes.
+    /// Drops all but the first `len` bytes.
     pub(crate) fn truncate(&mut self, len: usize)
         ensures { self.new ≡ take len self.old }
     {

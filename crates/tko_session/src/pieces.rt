@@ -12,7 +12,7 @@ const PIECE: usize = 16_384;
 /// What a read came to.
 #[derive(Clone, Copy, Debug, PartialEq, Eq)]
 pub enum Piece {
-    /// So many bytes are at the front of the buffer; 0 is the end of input.
+    /// This number of bytes is at the front of the buffer; 0 is the end of input.
     Bytes(usize),
     /// There is nothing to read now.
     Idle,

@@ -1,7 +1,7 @@
-//! The probers of a session: which servers it marked, and when each is probed.
+//! The probers of a worker: which servers its failures marked, and when each is probed.
 ghost use Rattle.std.specs.Prelude.{◌≡◌, ◌<◌, ◌↔◌, IfOk, IsTrue, MatchOption, Some, count_by, is_some, length, map, replicate, slice_get, slice_set};
 ghost use Rattle.tko_session.specs.Probers.{AreQuiet, begun_at, begun_slot, is_busy, no_probers, noted, noted_one, prober_in, prober_of, with_slot};
-ghost use Rattle.tko_session.specs.declared.probers.Slot.TheVariants.{Quiet};
+ghost use Rattle.tko_session.specs.declared.probers.ProbeSlot.TheVariants.{Quiet};
 
 use std::alloc::Global;
 use std::marker::Model;
@@ -13,21 +13,21 @@ use tko_route::Attempt;
 
 /// What a server is to the probers.
 #[derive(Debug, Drop)]
-pub enum Slot {
+pub enum ProbeSlot {
     /// It is not probed: no failure marked it, or its prober has ended.
     Quiet,
-    /// A failure of this session marked it. Its prober begins with the next round.
+    /// A failure of this worker marked it. Its prober begins with the next round.
     Marked,
     Probing(Prober),
 }
 
-impl Slot {
+impl ProbeSlot {
     fn is_busy(&self) -> bool
         ensures { result ≡ is_busy self.now }
     {
         match self {
-            Slot::Quiet => false,
-            Slot::Marked | Slot::Probing(_) => true,
+            ProbeSlot::Quiet => false,
+            ProbeSlot::Marked | ProbeSlot::Probing(_) => true,
         }
     }
 
@@ -35,18 +35,18 @@ impl Slot {
     fn begin(&mut self, delays: Delays, moment: u64)
         ensures { self.new ≡ begun_slot delays moment self.old }
     {
-        if let Slot::Marked = self {
-            *self = Slot::Probing(Prober::begin(delays, moment));
+        if let ProbeSlot::Marked = self {
+            *self = ProbeSlot::Probing(Prober::begin(delays, moment));
         }
     }
 }
 
-/// The probers of all servers, a slot each. All memory is taken by `new`. Contracts see the delays and
-/// the slots.
+/// The probers of all servers, a slot each. All memory is taken by `new`. Contracts see the delays
+/// and the slots.
 #[derive(Debug, Drop)]
 pub struct Probers {
     delays: Delays,
-    slots: Vec<Slot>,
+    slots: Vec<ProbeSlot>,
     busy: usize,
 }
 
@@ -62,7 +62,7 @@ impl Model for Probers {
 }
 
 impl Probers {
-    /// Room for the probers of so many servers, none of which is probed.
+    /// Room for the probers of `servers` servers, none of which is probed.
     pub fn new(alloc: Global, delays: Delays, servers: usize) -> Result<Probers, NoMemory>
         ensures { IfOk result (λ probers. probers ≡ no_probers delays servers) }
     {
@@ -87,8 +87,8 @@ impl Probers {
         ensures { self.new ≡ noted_one attempt.now self.old }
     {
         match attempt {
-            Attempt::Sent(server, _, Reply::TookSoft) => self.put(*server, Slot::Marked),
-            Attempt::Sent(server, _, Reply::TookHard) => self.put(*server, Slot::Marked),
+            Attempt::Sent(server, _, Reply::TookSoft) => self.put(*server, ProbeSlot::Marked),
+            Attempt::Sent(server, _, Reply::TookHard) => self.put(*server, ProbeSlot::Marked),
             _ => {}
         }
     }
@@ -123,14 +123,14 @@ impl Probers {
         if !is_probing(&self.slots, server) {
             return None;
         }
-        match replace_slot(&mut self.slots, &mut self.busy, server, Slot::Quiet) {
-            Slot::Probing(prober) => Some(prober),
-            Slot::Quiet | Slot::Marked => None,
+        match replace_slot(&mut self.slots, &mut self.busy, server, ProbeSlot::Quiet) {
+            ProbeSlot::Probing(prober) => Some(prober),
+            ProbeSlot::Quiet | ProbeSlot::Marked => None,
         }
     }
 
     /// Puts this into the slot of a server.
-    pub(crate) fn put(&mut self, server: usize, slot: Slot)
+    pub(crate) fn put(&mut self, server: usize, slot: ProbeSlot)
         ensures { self.new ≡ with_slot self.old server slot }
     {
         if server < self.slots.len() {
@@ -140,7 +140,7 @@ impl Probers {
 }
 
 /// Begins the prober of each server that was marked.
-fn begin_all(slots: &mut [Slot], delays: Delays, moment: u64)
+fn begin_all(slots: &mut [ProbeSlot], delays: Delays, moment: u64)
     ensures { slots.new ≡ map (begun_slot delays moment) slots.old }
 {
     for place in 0..slots.len() {
@@ -148,26 +148,31 @@ fn begin_all(slots: &mut [Slot], delays: Delays, moment: u64)
     }
 }
 
-/// So many slots without a prober.
-fn quiet_slots(alloc: Global, servers: usize) -> Result<Vec<Slot>, NoMemory>
+/// `servers` slots without a prober.
+fn quiet_slots(alloc: Global, servers: usize) -> Result<Vec<ProbeSlot>, NoMemory>
     ensures { IfOk result (λ slots. slots.items ≡ replicate servers Quiet) }
 {
     let mut slots = Vec::with_capacity(alloc, servers)?;
     for _ in 0..servers {
-        slots.push(Slot::Quiet)?;
+        slots.push(ProbeSlot::Quiet)?;
     }
     Ok(slots)
 }
 
 /// Whether a server has a prober.
-fn is_probing(slots: &[Slot], server: usize) -> bool
+fn is_probing(slots: &[ProbeSlot], server: usize) -> bool
     ensures { result ≡ is_some (prober_in (slice_get slots.now server)) }
 {
-    matches!(slots.get(server), Some(Slot::Probing(_)))
+    matches!(slots.get(server), Some(ProbeSlot::Probing(_)))
 }
 
 /// Puts this into a slot, and returns what was there. `busy` counts the slots that are not quiet.
-fn replace_slot(slots: &mut [Slot], busy: &mut usize, server: usize, slot: Slot) -> Slot
+fn replace_slot(
+    slots: &mut [ProbeSlot],
+    busy: &mut usize,
+    server: usize,
+    slot: ProbeSlot,
+) -> ProbeSlot
     requires within { server < length slots.old }
     requires counted { busy.old ≡ count_by is_busy slots.old }
     ensures was { slice_get slots.old server ≡ Some result }

@@ -1,16 +1,18 @@
 //! A round: each marked server gets its prober, and each prober is stopped, rests or probes once.
-ghost use Rattle.std.specs.Prelude.{◌≡◌, ◌<◌, ℕ, is_err, length};
+ghost use Rattle.std.specs.Prelude.{◌≡◌, ◌+◌, ◌<◌, ◌↔◌, ℕ, Ok, is_err, length};
+ghost use Rattle.tko_links.specs.Links.{WasProbed, is_counted, most_sends, part_of};
 ghost use Rattle.tko_prober.specs.Probes.{asked_after};
 ghost use Rattle.tko_route.specs.Trail.{IsRecorded};
 ghost use Rattle.tko_session.specs.Probers.{op_asked, probed_of, slot_after};
 ghost use Rattle.tko_session.specs.Round.{AreVisited, IsRound, IsVisited};
 ghost use Rattle.tko_session.specs.SessionState.{Reaches};
 
-use crate::probers::Slot;
+use crate::probers::ProbeSlot;
 use crate::{Moments, Parts};
+use std::sync::Wait;
 use tko_bytes::NoMemory;
 use tko_links::{IoRuntime, Links, Outcome};
-use tko_model::Reply;
+use tko_model::{Duty, Reply};
 use tko_prober::{AfterProbe, ProbeTurn, Probed, Prober, Stage};
 use tko_route::Health;
 
@@ -21,7 +23,7 @@ pub fn round<R: IoRuntime, H: Health, L: Links, T, M: Moments>(
     parts: &mut Parts<H, L, T, M>,
 ) -> Result<(), NoMemory>
     requires reach { Reaches H.servers L.servers parts.old }
-    ensures round { IsRound H.steps L.exchanges L.probed M.reads
+    ensures round { IsRound H.steps H.grants L.exchanges L.probed M.reads
         parts.old (is_err result) parts.new }
     ensures sends { (server : ℕ) → L.sent parts.new.links server ≡ L.sent parts.old.links server }
     ensures reach { Reaches H.servers L.servers parts.new }
@@ -33,7 +35,7 @@ impl<H: Health, L: Links, T, M: Moments> Parts<H, L, T, M> {
     /// The same as a method.
     pub(crate) fn round<R: IoRuntime>(&mut self, rt: &R) -> Result<(), NoMemory>
         requires reach { Reaches H.servers L.servers self.old }
-        ensures round { IsRound H.steps L.exchanges L.probed M.reads
+        ensures round { IsRound H.steps H.grants L.exchanges L.probed M.reads
             self.old (is_err result) self.new }
         ensures sends { (server : ℕ) → L.sent self.new.links server ≡ L.sent self.old.links server }
         ensures reach { Reaches H.servers L.servers self.new }
@@ -52,7 +54,7 @@ impl<H: Health, L: Links, T, M: Moments> Parts<H, L, T, M> {
     /// Visits each server in number order, and returns whether memory ran out.
     fn visit_all<R: IoRuntime>(&mut self, rt: &R, moment: u64) -> bool
         requires reach { Reaches H.servers L.servers self.old }
-        ensures visits { AreVisited H.steps L.exchanges L.probed M.reads moment
+        ensures visits { AreVisited H.steps H.grants L.exchanges L.probed M.reads moment
             self.old (length self.old.probers.slots) result self.new }
         ensures sends { (server : ℕ) → L.sent self.new.links server ≡ L.sent self.old.links server }
         ensures reach { Reaches H.servers L.servers self.new }
@@ -64,12 +66,12 @@ impl<H: Health, L: Links, T, M: Moments> Parts<H, L, T, M> {
         short
     }
 
-    /// Stops the prober of a server that is not this thread's to probe, or probes the server where its
-    /// prober is due. Returns whether memory ran out.
+    /// Stops the prober of a server that is not this thread's to probe, or probes the server where
+    /// its prober is due. Returns whether memory ran out.
     fn visit<R: IoRuntime>(&mut self, rt: &R, server: usize, moment: u64) -> bool
         requires reach { Reaches H.servers L.servers self.old }
         requires within { server < length self.old.probers.slots }
-        ensures visit { IsVisited H.steps L.exchanges L.probed M.reads moment
+        ensures visit { IsVisited H.steps H.grants L.exchanges L.probed M.reads moment
             self.old server result self.new }
         ensures sends { (at : ℕ) → L.sent self.new.links at ≡ L.sent self.old.links at }
         ensures slots { length self.new.probers.slots ≡ length self.old.probers.slots }
@@ -84,11 +86,11 @@ impl<H: Health, L: Links, T, M: Moments> Parts<H, L, T, M> {
         match prober.turn(moment) {
             ProbeTurn::Send => {}
             ProbeTurn::Rest => {
-                self.probers.put(server, Slot::Probing(prober));
+                self.probers.put(server, ProbeSlot::Probing(prober));
                 return false;
             }
         }
-        let came = self.links.probe(rt, duty);
+        let came = send_probe(rt, &self.health, &mut self.links, duty);
         let later = self.moments.next(rt);
         let (asked, slot) = take_result(prober, later, probed_of(&came));
         record_asked(rt, &mut self.health, server, asked);
@@ -97,17 +99,36 @@ impl<H: Health, L: Links, T, M: Moments> Parts<H, L, T, M> {
     }
 }
 
+/// Probes the server that a right names, where this health granted the right.
+fn send_probe<R: IoRuntime, H: Health, L: Links>(
+    rt: &R,
+    _health: &H,
+    links: &mut L,
+    duty: Duty,
+) -> Result<Outcome, tko_links::NoMemory>
+    requires right { H.grants _health.now duty }
+    requires within { duty < L.servers links.old }
+    ensures record { WasProbed L.exchanges links.old duty result links.new }
+    ensures spent { (result ≡ Ok Outcome.Spent) ↔ (L.probed links.old duty ≡ most_sends) }
+    ensures probes { (server : ℕ) → L.probed links.new server
+        ≡ L.probed links.old server + part_of (is_counted result) duty server }
+    ensures sends { (server : ℕ) → L.sent links.new server ≡ L.sent links.old server }
+    ensures servers { L.servers links.new ≡ L.servers links.old }
+{
+    links.probe(rt, duty)
+}
+
 /// Gives its result to the probe that is out. Returns what the prober asks for, and the slot of its
 /// server from then on.
-fn take_result(mut prober: Prober, moment: u64, probed: Probed) -> (AfterProbe, Slot)
+fn take_result(mut prober: Prober, moment: u64, probed: Probed) -> (AfterProbe, ProbeSlot)
     requires { prober.stage ≡ Stage.Out }
     ensures asked { result.0 ≡ asked_after probed }
     ensures slot { result.1 ≡ slot_after prober moment probed }
 {
     let asked = prober.result(moment, probed);
     let slot = match asked {
-        AfterProbe::Recover => Slot::Quiet,
-        AfterProbe::Harden | AfterProbe::Again => Slot::Probing(prober),
+        AfterProbe::Recover => ProbeSlot::Quiet,
+        AfterProbe::Harden | AfterProbe::Again => ProbeSlot::Probing(prober),
     };
     (asked, slot)
 }
@@ -125,7 +146,7 @@ fn probed_of(came: &Result<Outcome, tko_links::NoMemory>) -> Probed
 }
 
 /// Records what a prober asks for.
-fn record_asked<R: IoRuntime, H: Health>(
+fn record_asked<R: Wait, H: Health>(
     rt: &R,
     health: &mut H,
     server: usize,

@@ -24,26 +24,27 @@ pub fn serve<R: IoRuntime, I: Inlet, O: Outlet, H: Health, L: Links, T: Trails, 
 ) -> Result<Report, SessionFault>
     requires reach { Reaches H.servers L.servers parts.old }
     ensures ok { IfOk result (λ report. Served I.gives I.idles O.takes
-        (IsEvent H.steps L.exchanges L.sent L.probed T.records M.reads)
+        (IsEvent H.steps H.grants L.exchanges L.sent L.probed T.records M.reads)
         (sent_by L.sent) (probed_by L.probed) I.is_ended
         reader.old writer.old parts.old report reader.new writer.new parts.new) }
     ensures read { IsErrOf result SessionFault.Read → StoppedByRead I.gives I.idles O.takes
-        (IsEvent H.steps L.exchanges L.sent L.probed T.records M.reads)
+        (IsEvent H.steps H.grants L.exchanges L.sent L.probed T.records M.reads)
         (sent_by L.sent) (probed_by L.probed)
         reader.old writer.old parts.old reader.new writer.new parts.new }
     ensures write { (written : ℕ) → IsErrOf result (SessionFault.Write written)
         → StoppedByWrite I.gives I.idles O.takes
-        (IsEvent H.steps L.exchanges L.sent L.probed T.records M.reads)
+        (IsEvent H.steps H.grants L.exchanges L.sent L.probed T.records M.reads)
         (sent_by L.sent) (probed_by L.probed)
         reader.old writer.old parts.old written reader.new writer.new }
     ensures too_long { IsErrOf result SessionFault.LineTooLong
         → CameTooLong I.gives reader.old reader.new }
-    ensures answered { IsErrOf result SessionFault.LineTooLong → StoppedByLine I.gives I.idles O.takes
-        (IsEvent H.steps L.exchanges L.sent L.probed T.records M.reads)
+    ensures answered { IsErrOf result SessionFault.LineTooLong
+        → StoppedByLine I.gives I.idles O.takes
+        (IsEvent H.steps H.grants L.exchanges L.sent L.probed T.records M.reads)
         (sent_by L.sent) (probed_by L.probed)
         reader.old writer.old parts.old reader.new writer.new parts.new }
     ensures memory { IsErrOf result SessionFault.Memory → StoppedEarly I.gives I.idles O.takes
-        (IsEvent H.steps L.exchanges L.sent L.probed T.records M.reads)
+        (IsEvent H.steps H.grants L.exchanges L.sent L.probed T.records M.reads)
         (sent_by L.sent) (probed_by L.probed)
         reader.old writer.old parts.old reader.new writer.new }
     // Each server that the session marked gets its prober, also where it ends by a fault.
@@ -103,17 +104,17 @@ fn serve_piece<R: IoRuntime, O: Outlet, H: Health, L: Links, T: Trails, M: Momen
     requires owes { session.old.owes ≡ false }
     requires reads { session.old.reading.after ≢ Never }
     ensures ok { IfOk result (λ quit. Delivered O.takes
-        (IsEvent H.steps L.exchanges L.sent L.probed T.records M.reads)
+        (IsEvent H.steps H.grants L.exchanges L.sent L.probed T.records M.reads)
         (sent_by L.sent) (probed_by L.probed) 0 (pause_of quit)
         (fed_state session.old piece.now) writer.old written.old parts.old
         session.new writer.new written.new parts.new) }
     ensures too_long { IsErrOf result SessionFault.LineTooLong → Delivered O.takes
-        (IsEvent H.steps L.exchanges L.sent L.probed T.records M.reads)
+        (IsEvent H.steps H.grants L.exchanges L.sent L.probed T.records M.reads)
         (sent_by L.sent) (probed_by L.probed) 0 Progress.LineTooLong
         (fed_state session.old piece.now) writer.old written.old parts.old
         session.new writer.new written.new parts.new }
     ensures err { OnErr result (DeliveredPart O.takes
-        (IsEvent H.steps L.exchanges L.sent L.probed T.records M.reads)
+        (IsEvent H.steps H.grants L.exchanges L.sent L.probed T.records M.reads)
         (fed_state session.old piece.now) writer.old written.old parts.old
         writer.new written.new) }
     ensures calm { OnOk result (O.failures writer.new ≡ O.failures writer.old) }
@@ -136,8 +137,8 @@ fn serve_piece<R: IoRuntime, O: Outlet, H: Health, L: Links, T: Trails, M: Momen
     unreachable!()
 }
 
-/// Answers items until the replies reach their bound, a round is owed or no item is left, writes the
-/// replies, and then runs the owed round, since a probe may take long. The round is run after a
+/// Answers items until the replies reach their bound, a round is owed or no item is left, writes
+/// the replies, and then runs the owed round, since a probe may take long. The round is run after a
 /// fault too. A write error takes precedence over running out of memory.
 fn deliver<R: IoRuntime, O: Outlet, H: Health, L: Links, T: Trails, M: Moments>(
     rt: &R,
@@ -151,12 +152,12 @@ fn deliver<R: IoRuntime, O: Outlet, H: Health, L: Links, T: Trails, M: Moments>(
     requires outbox { session.old.outbox ≡ [] }
     requires owes { session.old.owes ≡ false }
     ensures ok { IfOk result (λ progress. Delivered O.takes
-        (IsEvent H.steps L.exchanges L.sent L.probed T.records M.reads)
+        (IsEvent H.steps H.grants L.exchanges L.sent L.probed T.records M.reads)
         (sent_by L.sent) (probed_by L.probed) 0 progress
         session.old writer.old written.old parts.old
         session.new writer.new written.new parts.new) }
     ensures err { OnErr result (DeliveredPart O.takes
-        (IsEvent H.steps L.exchanges L.sent L.probed T.records M.reads)
+        (IsEvent H.steps H.grants L.exchanges L.sent L.probed T.records M.reads)
         session.old writer.old written.old parts.old writer.new written.new) }
     ensures calm { OnOk result (O.failures writer.new ≡ O.failures writer.old) }
     ensures counted { (n : ℕ) → IsErrOf result (SessionFault.Write n) → n ≡ capped written.new }

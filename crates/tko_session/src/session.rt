@@ -38,8 +38,8 @@ pub enum Progress {
     Quit,
 }
 
-/// One client's session: the reader of its bytes, the replies that wait to be written, the number of
-/// its requests, and whether it owes the round after the last one. It keeps the room for a key's
+/// One client's session: the reader of its bytes, the replies that wait to be written, the number
+/// of its requests, and whether it owes the round after the last one. It keeps the room for a key's
 /// targets, which contracts do not see.
 #[derive(Drop)]
 pub struct Session {
@@ -122,9 +122,9 @@ impl Session {
         self.reader.feed(piece)
     }
 
-    /// Answers the items that are decided, in order, until none is left, until the replies that wait
-    /// reach their bound, or until a round is owed that may take long. The round after a request is
-    /// run at once while no prober is at work.
+    /// Answers the items that are decided, in order, until none is left, until the replies that
+    /// wait reach their bound, or until a round is owed that may take long. The round after a
+    /// request is run at once while no prober is at work.
     pub fn answer<R: IoRuntime, H: Health, L: Links, T: Trails, M: Moments>(
         &mut self,
         rt: &R,
@@ -134,13 +134,13 @@ impl Session {
         requires reach { Reaches H.servers L.servers parts.old }
         requires owes { self.old.owes ≡ false }
         ensures ok { IfOk result (λ progress. Answered
-            (IsEvent H.steps L.exchanges L.sent L.probed T.records M.reads)
+            (IsEvent H.steps H.grants L.exchanges L.sent L.probed T.records M.reads)
             (sent_by L.sent) (probed_by L.probed) progress
             self.old parts.old self.new parts.new) }
         ensures full { result ≡ Ok Progress.More → self.new.owes ≡ false
             → reply_bound ≤ length self.new.outbox }
         ensures err { OnErr result (AnsweredPart
-            (IsEvent H.steps L.exchanges L.sent L.probed T.records M.reads)
+            (IsEvent H.steps H.grants L.exchanges L.sent L.probed T.records M.reads)
             self.old parts.old self.new) }
         ensures begun { NoneMarked parts.old.probers → self.new.owes ≡ false
             → NoneMarked parts.new.probers }
@@ -170,7 +170,7 @@ impl Session {
         parts: &mut Parts<H, L, T, M>,
     ) -> Result<(), NoMemory>
         requires reach { Reaches H.servers L.servers parts.old }
-        ensures round { IsRun H.steps L.exchanges L.sent L.probed M.reads self.old.owes
+        ensures round { IsRun H.steps H.grants L.exchanges L.sent L.probed M.reads self.old.owes
             parts.old parts.new }
         ensures none_owed { self.new ≡ record self.old { owes = false } }
         ensures begun { self.old.owes ≡ true → NoneMarked parts.new.probers }
@@ -194,12 +194,12 @@ impl Session {
         requires owes { self.old.owes ≡ false }
         requires room { length self.old.outbox < reply_bound }
         ensures ok { IfOk result (λ progress. Answered
-            (IsEvent H.steps L.exchanges L.sent L.probed T.records M.reads)
+            (IsEvent H.steps H.grants L.exchanges L.sent L.probed T.records M.reads)
             (sent_by L.sent) (probed_by L.probed) progress
             self.old parts.old self.new parts.new) }
         ensures more { result ≡ Ok Progress.More → ¬ NeedsMore self.old.reading }
         ensures err { OnErr result (AnsweredPart
-            (IsEvent H.steps L.exchanges L.sent L.probed T.records M.reads)
+            (IsEvent H.steps H.grants L.exchanges L.sent L.probed T.records M.reads)
             self.old parts.old self.new) }
         ensures begun { NoneMarked parts.old.probers → self.new.owes ≡ false
             → NoneMarked parts.new.probers }

@@ -4,13 +4,13 @@ ghost use Rattle.tko_session.specs.Answering.{Extends};
 ghost use Rattle.tko_session.specs.Status.{IsStatus, IsStatusAfter, mark_of, mark_line};
 
 use std::alloc::Global;
+use std::sync::Wait;
 use tko_bytes::{NoMemory, append};
-use tko_links::IoRuntime;
 use tko_model::{Look, Mark, append_mark};
 use tko_route::Health;
 
 /// A line for each server in number order, from one look-up each, and `END`.
-pub fn status<R: IoRuntime, H: Health>(
+pub fn status<R: Wait, H: Health>(
     rt: &R,
     alloc: Global,
     health: &mut H,
@@ -27,7 +27,7 @@ pub fn status<R: IoRuntime, H: Health>(
 }
 
 /// Puts the same text at the end of a buffer.
-pub(crate) fn append_status<R: IoRuntime, H: Health>(
+pub(crate) fn append_status<R: Wait, H: Health>(
     rt: &R,
     health: &mut H,
     addresses: &[String],

@@ -4,6 +4,7 @@ ghost use Rattle.tko_session.specs.Io.{is_fault, is_idle};
 
 use crate::Stop;
 use std::sync::Wait;
+use tko_links::raise;
 
 /// The two counts of an end.
 #[derive(Drop)]
@@ -35,17 +36,4 @@ impl StopCounts {
         }
         stop
     }
-}
-
-/// Raises a count by 1. It blocks forever at 2^64 - 1, which no run reaches.
-pub(crate) fn raise<R: Wait>(rt: &R, count: &mut u64)
-    ensures { count.new ≡ count.old + 1 }
-{
-    for _ in rt.forever() {
-        if *count < u64::MAX {
-            *count += 1;
-            return;
-        }
-    }
-    unreachable!()
 }

@@ -3,10 +3,10 @@ ghost use Rattle.std.specs.Prelude.{◌≡◌, ◌<◌, ◌≤◌, ◌+◌, ◌�
 ghost use Rattle.tko_session.specs.Io.{faults_in, idles_in, moved, refusals_in};
 ghost use Rattle.tko_session.specs.Tape.{first_stop};
 
-use crate::stop_counts::{StopCounts, raise};
+use crate::stop_counts::StopCounts;
 use crate::{Inlet, Outlet, Stop};
 use std::marker::Model;
-use tko_links::IoRuntime;
+use tko_links::{IoRuntime, raise};
 
 /// Bytes in memory: an inlet that gives them, and an outlet that appends to them. A call moves at
 /// most `greatest` bytes, and a call whose number is in `stops` comes to that Stop.

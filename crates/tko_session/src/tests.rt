@@ -1,66 +1,56 @@
-//! Sessions over memory and scripted servers.
+//! Sessions over memory and one scripted server: ends that stop and fail, and rounds at given
+//! moments. What a command shows is in tests/rows.
 ghost use Rattle.std.specs.Prelude.{◌≡◌, IfOk, length};
 ghost use Rattle.tko_session.specs.SessionState.{Reaches};
 
-use crate::{Inlet, Kept, Outlet, Parts, Probers, Report, SessionFault, Still, Stop, Taped, serve};
+use crate::{Kept, Listed, Parts, Probers, Stop, Taped, round, serve};
 use std::alloc::Global;
 use std::net::{Net, TcpStream};
 use std::sync::Wait;
 use std::test::Fail;
 use std::time::Clock;
-use tko_links::{Links, Script, Scripted};
-use tko_model::{Plain, Settings};
+use tko_links::{Links, Outcome, Script, Scripted};
+use tko_model::{Plain, Reply, Settings};
 use tko_pools::Config;
 use tko_prober::Delays;
-use tko_route::{Health, PlainHealth};
+use tko_route::{Attempt, Health, PlainHealth};
 
-mod bounds;
 mod clocks;
-mod faults;
-pub(crate) mod one_server;
-mod pipes;
-mod probes;
-mod rows;
 
+/// The first failure marks the server.
 const SETTINGS: Settings = Settings {
-    servers: 2,
+    servers: 1,
     threads: 1,
-    failures: 2,
+    failures: 1,
     limit: 40,
     tries: 8,
     opening_stamp: 0,
 };
 
-const ONCE: &[u8] = b"get a\r\n";
+type OneServer = Parts<PlainHealth, Scripted, Kept, Listed>;
 
-const TWICE: &[u8] = b"get a\r\nget a\r\n";
-
-const MISS: &[u8] = b"END\r\n";
-
-const MISSES: &[u8] = b"END\r\nEND\r\n";
-
-type TwoServers = Parts<PlainHealth, Scripted, Kept, Still>;
-
-/// What a session came to, how often each server was sent to, the bytes of all requests sent, and
-/// the trails.
-#[derive(Drop)]
-struct Ran {
-    result: Result<Report, SessionFault>,
-    sends: Vec<u64>,
-    sent: Vec<u8>,
-    trails: Kept,
+fn delays() -> Result<Delays, Fail> {
+    Ok(Delays::new(10_000, 60_000).ok_or("delays")?)
 }
 
-/// The script of a text: bytes, or a refused connection if there are none.
-pub(crate) fn script(alloc: Global, text: &str) -> Result<Script, Fail> {
-    if text.is_empty() {
-        return Ok(Script::Refused);
-    }
-    Ok(Script::Bytes(text.as_bytes().to_vec(alloc)?))
+fn config(alloc: Global) -> Result<Config, Fail>
+    ensures { IfOk result (λ config. length config.addresses ≡ 1) }
+{
+    let mut addresses = Vec::new(alloc);
+    addresses.push(String::from_str(alloc, "dry:0")?)?;
+    Ok(Config::in_order(alloc, addresses)?)
+}
+
+fn script(alloc: Global, text: &str) -> Result<Script, Fail> {
+    Ok(match text {
+        "timeout" => Script::Timeout,
+        "refused" => Script::Refused,
+        _ => Script::Bytes(text.as_bytes().to_vec(alloc)?),
+    })
 }
 
 /// The scripts of texts that bars part.
-pub(crate) fn scripts(alloc: Global, texts: &str) -> Result<Vec<Script>, Fail> {
+fn scripts(alloc: Global, texts: &str) -> Result<Vec<Script>, Fail> {
     let mut scripts = Vec::new(alloc);
     for text in texts.split('|') {
         scripts.push(script(alloc, text)?)?;
@@ -68,108 +58,175 @@ pub(crate) fn scripts(alloc: Global, texts: &str) -> Result<Vec<Script>, Fail> {
     Ok(scripts)
 }
 
-/// The first send is refused, and the next two find nothing.
-fn refused_and_misses(alloc: Global) -> Result<Vec<Script>, Fail> {
-    scripts(alloc, "|END\r\n|END\r\n")
-}
-
-/// Two servers, both of them targets of every key.
-fn config(alloc: Global) -> Result<Config, Fail>
-    ensures { IfOk result (λ config. length config.addresses ≡ 2) }
-{
-    let first = String::from_str(alloc, "dry:0")?;
-    let second = String::from_str(alloc, "dry:1")?;
-    Ok(Config::in_order(alloc, vec![in alloc; first, second]?)?)
-}
-
-/// The delays of the probers.
-pub(crate) fn delays() -> Result<Delays, Fail> {
-    Ok(Delays::new(10_000, 60_000).ok_or("delays")?)
-}
-
-/// Two servers with these scripts.
-fn two_servers(alloc: Global, scripts: Vec<Script>) -> Result<TwoServers, Fail>
+/// One server with these answers, and a clock with these moments.
+fn one_server(alloc: Global, answers: &str, moments: &[u64]) -> Result<OneServer, Fail>
     ensures { IfOk result (λ parts. Reaches
         ⟦<PlainHealth as Health>⟧.servers ⟦<Scripted as Links>⟧.servers parts) }
 {
     Ok(Parts {
         health: PlainHealth::new(Plain::open(alloc, SETTINGS)?, 0),
-        links: Scripted::new(alloc, 2, scripts)?,
+        links: Scripted::new(alloc, 1, scripts(alloc, answers)?)?,
         trails: Kept::new(alloc),
         config: config(alloc)?,
-        probers: Probers::new(alloc, delays()?, 2)?,
-        moments: Still,
+        probers: Probers::new(alloc, delays()?, 1)?,
+        moments: Listed::new(moments.to_vec(alloc)?),
     })
 }
 
-/// A session over two servers with these scripts, both targets.
-fn run<R: Wait + Net<Stream = TcpStream> + Clock, I: Inlet, O: Outlet>(
-    rt: &R,
-    alloc: Global,
-    reader: &mut I,
-    writer: &mut O,
-    scripts: Vec<Script>,
-) -> Result<Ran, Fail> {
-    let mut parts = two_servers(alloc, scripts)?;
-    let result = serve(rt, alloc, reader, writer, &mut parts);
-    Ok(Ran {
-        result,
-        sends: sends(alloc, &parts)?,
-        sent: sent(alloc, &parts.links)?,
-        trails: parts.trails,
-    })
-}
-
-/// How often each target of a key was sent to.
-fn sends(alloc: Global, parts: &TwoServers) -> Result<Vec<u64>, Fail>
-    requires { length parts.now.links.sends ≡ length parts.now.config.addresses }
+/// How often the server was sent to and probed, its mark, and whether no prober is at work.
+fn look_at(alloc: Global, parts: &OneServer) -> Result<String, Fail>
+    requires { Reaches ⟦<PlainHealth as Health>⟧.servers ⟦<Scripted as Links>⟧.servers parts.now }
 {
-    let mut sends = Vec::new(alloc);
-    for target in &parts.config.targets(alloc, b"a".as_slice())? {
-        sends.push(parts.links.sends(*target))?;
+    for target in &parts.config.targets(alloc, b"a")? {
+        let (sends, probes) = (parts.links.sends(*target), parts.links.probes(*target));
+        let (mark, quiet) = (
+            parts.health.tracker().mark(*target),
+            parts.probers.is_quiet(),
+        );
+        return Ok(format!(in alloc; "{sends} {probes} {mark:?} {quiet}")?);
     }
-    Ok(sends)
+    Err("no target".into())
 }
 
-/// The bytes of all requests that were sent.
-fn sent(alloc: Global, links: &Scripted) -> Result<Vec<u8>, Fail> {
-    let mut sent = Vec::new(alloc);
-    for request in links.requests() {
-        sent.extend_from_slice(request.as_bytes())?;
-    }
-    Ok(sent)
-}
-
-/// A session over tapes, and the bytes that it wrote.
-fn run_taped<R: Wait + Net<Stream = TcpStream> + Clock>(
+/// What a session over these ends comes to and writes, and the server after one more round.
+fn run<R: Wait + Net<Stream = TcpStream> + Clock>(
     rt: &R,
     alloc: Global,
     mut reader: Taped,
     mut writer: Taped,
-    scripts: Vec<Script>,
-) -> Result<(Ran, Vec<u8>), Fail> {
-    let ran = run(rt, alloc, &mut reader, &mut writer, scripts)?;
-    Ok((ran, writer.bytes().to_vec(alloc)?))
+    mut parts: OneServer,
+) -> Result<Vec<u8>, Fail>
+    requires { Reaches ⟦<PlainHealth as Health>⟧.servers ⟦<Scripted as Links>⟧.servers parts }
+{
+    let came = match serve(rt, alloc, &mut reader, &mut writer, &mut parts) {
+        Ok(report) => format!(in alloc; "{} and {}: ", report.requests, report.unfinished)?,
+        Err(fault) => format!(in alloc; "{fault}: ")?,
+    };
+    round(rt, &mut parts)?;
+    let mut text = Vec::from_slice(alloc, came.as_bytes())?;
+    text.extend_from_slice(writer.bytes())?;
+    text.extend_from_slice(look_at(alloc, &parts)?.as_bytes())?;
+    Ok(text)
 }
 
-/// A tape with these bytes, of which a call moves at most so many.
-pub(crate) fn tape(alloc: Global, bytes: &[u8], greatest: usize) -> Result<Taped, Fail> {
-    Ok(Taped::new(bytes.to_vec(alloc)?, greatest.max(1), Vec::new(alloc)))
+/// A tape with these bytes, of which a call moves at most `greatest`, and one stop.
+fn stopping(alloc: Global, bytes: &str, greatest: usize, stop: (u64, Stop)) -> Result<Taped, Fail> {
+    let stops = vec![in alloc; stop]?;
+    Ok(Taped::new(bytes.as_bytes().to_vec(alloc)?, greatest.max(1), stops))
 }
 
-/// A tape to write on.
-pub(crate) fn blank(alloc: Global) -> Taped {
+fn blank(alloc: Global) -> Taped {
     Taped::new(Vec::new(alloc), 4096, Vec::new(alloc))
 }
 
-/// A tape with these bytes and one stop.
-pub(crate) fn stopping(
-    alloc: Global,
-    bytes: &[u8],
-    greatest: usize,
-    stop: (u64, Stop),
-) -> Result<Taped, Fail> {
-    let mut stops = Vec::new(alloc);
-    stops.push(stop)?;
-    Ok(Taped::new(bytes.to_vec(alloc)?, greatest.max(1), stops))
+#[test]
+fn a_reader_may_stop(rt: HostRuntime) -> Result<(), Fail> {
+    let _stream: Option<TcpStream> = None;
+    let alloc = rt.alloc();
+    for (stop, text) in [
+        ((0, Stop::Again), "1 and 3: END\r\n1 0 Up(0) true"),
+        ((1, Stop::Idle), "1 and 3: END\r\n1 0 Up(0) true"),
+        ((0, Stop::Fault), "read: 0 0 Up(0) true"),
+        ((1, Stop::Fault), "read: END\r\n1 0 Up(0) true"),
+    ] {
+        let reader = stopping(alloc, "get a\r\nget", 8, stop)?;
+        let given = run(
+            &rt,
+            alloc,
+            reader,
+            blank(alloc),
+            one_server(alloc, "END\r\n", &[])?,
+        )?;
+        assert_eq!(rt; given.as_slice(), text.as_bytes());
+    }
+    Ok(())
+}
+
+/// The two replies are written together, three bytes a call.
+#[test]
+fn a_failed_write_reports_how_much_was_written(rt: HostRuntime) -> Result<(), Fail> {
+    let _stream: Option<TcpStream> = None;
+    let alloc = rt.alloc();
+    for (stop, text) in [
+        ((0, Stop::Fault), "write after 0 bytes: 2 0 Up(0) true"),
+        ((1, Stop::Fault), "write after 3 bytes: END2 0 Up(0) true"),
+        (
+            (3, Stop::Fault),
+            "write after 9 bytes: END\r\nEND\r2 0 Up(0) true",
+        ),
+        ((3, Stop::Again), "2 and 0: END\r\nEND\r\n2 0 Up(0) true"),
+    ] {
+        let reader = stopping(alloc, "get a\r\nget a\r\n", 4096, (9, Stop::Again))?;
+        let parts = one_server(alloc, "END\r\n|END\r\n", &[])?;
+        let given = run(&rt, alloc, reader, stopping(alloc, "", 3, stop)?, parts)?;
+        assert_eq!(rt; given.as_slice(), text.as_bytes());
+    }
+    Ok(())
+}
+
+/// The first prober is due at moment 10,000. Each round takes a moment, and so does each probe.
+const DUE: &[u64] = &[0, 10_000, 10_001, 10_002];
+
+/// Two requests, and an idle turn of the reader after the first.
+#[test]
+fn a_marked_server_is_probed_when_it_is_due(rt: HostRuntime) -> Result<(), Fail> {
+    let _stream: Option<TcpStream> = None;
+    let alloc = rt.alloc();
+    let gone = "SERVER_ERROR no server\r\n";
+    for (probe, moments, text) in [
+        ("VERSION 1.6\r\n", DUE, "END\r\n2 1 Up(0) true"),
+        (
+            "refused",
+            DUE,
+            "SERVER_ERROR no server\r\n1 1 Hard(0) false",
+        ),
+        (
+            "timeout",
+            DUE,
+            "SERVER_ERROR no server\r\n1 1 Soft(0) false",
+        ),
+        (
+            "VERSION 1.6\r\n",
+            &[0, 9_999],
+            "SERVER_ERROR no server\r\n1 0 Soft(0) false",
+        ),
+    ] {
+        let reader = stopping(alloc, "get a\r\nget a\r\n", 7, (1, Stop::Idle))?;
+        let answers = format!(in alloc; "timeout|{probe}|END\r\n")?;
+        let parts = one_server(alloc, answers.as_str(), moments)?;
+        let given = run(&rt, alloc, reader, blank(alloc), parts)?;
+        let wanted = format!(in alloc; "2 and 0: {gone}{text}")?;
+        assert_eq!(rt; given.as_slice(), wanted.as_bytes());
+    }
+    Ok(())
+}
+
+/// The prober begins at moment 0, in the round of the session, so it is due in the round after it.
+#[test]
+fn a_marked_server_gets_its_prober_after_a_failed_write(rt: HostRuntime) -> Result<(), Fail> {
+    let _stream: Option<TcpStream> = None;
+    let alloc = rt.alloc();
+    let reader = stopping(alloc, "get a\r\n", 4096, (9, Stop::Again))?;
+    let writer = stopping(alloc, "", 4096, (0, Stop::Fault))?;
+    let parts = one_server(alloc, "timeout|VERSION 1.6\r\n", &[0, 10_000, 10_001])?;
+    let given = run(&rt, alloc, reader, writer, parts)?;
+    assert_eq!(rt;
+        given.as_slice(),
+        b"write after 0 bytes: 1 1 Up(0) true".as_slice()
+    );
+    Ok(())
+}
+
+/// Its reader has nothing, so that its one round is the only one.
+#[test]
+fn a_server_without_an_own_mark_is_not_probed(rt: HostRuntime) -> Result<(), Fail> {
+    let _stream: Option<TcpStream> = None;
+    let alloc = rt.alloc();
+    let mut parts = one_server(alloc, "VERSION 1.6\r\n", DUE)?;
+    parts
+        .probers
+        .note(&[Attempt::Sent(0, Outcome::Timeout, Reply::TookSoft)]);
+    let given = run(&rt, alloc, blank(alloc), blank(alloc), parts)?;
+    assert_eq!(rt; given.as_slice(), b"0 and 0: 0 0 Up(0) true".as_slice());
+    Ok(())
 }

@@ -2,6 +2,7 @@
 #![tactic(auto)]
 
 use std::alloc::Global;
+use std::fs::Files;
 use std::io::{Read, Write};
 use std::net::{Net, TcpListener, TcpStream};
 use std::process::ExitCode;
@@ -31,7 +32,7 @@ fn words_of(rt: &(impl Env + AllocGlobal)) -> io::Result<Vec<String>> {
 /// Runs the command over std's readers and writers. The bounds of `IoRuntime` are written out,
 /// since the prover covers only those at the runtime itself.
 fn run<
-    R: Wait + Net<Stream = TcpStream, Listener = TcpListener> + Clock + Threads + Sync,
+    R: Wait + Net<Stream = TcpStream, Listener = TcpListener> + Clock + Threads + Sync + Files,
     I: Read + Drop,
     O: Write + Drop,
     F: Write + Drop,

@@ -20,6 +20,7 @@ pub(crate) fn text_of(letter: char) -> &'static [u8] {
     match letter {
         'e' => b"EN",
         'h' => b"VALUE a 0",
+        'R' => b" 1\r\nx\r\nEND\r\n",
         'm' => b"END\r\n",
         'M' => b"END\r\nEND\r\n",
         'k' => b"STORED\r\n",
@@ -27,15 +28,16 @@ pub(crate) fn text_of(letter: char) -> &'static [u8] {
     }
 }
 
-/// Plays the acts, and closes what is open: `a` accepts a connection, `c` closes it, and `w` waits
-/// for longer than the shortest limit.
+/// Plays the acts, and closes what is open: `a` accepts a connection, `c` closes it, `t` waits 5
+/// milliseconds, and `w` 400.
 pub(crate) fn play<R: Clock>(rt: &R, listener: &TcpListener, acts: &str) -> io::Result<()> {
     let mut stream = None;
     for act in acts.chars() {
         match (act, &mut stream) {
             ('a', _) => stream = Some(listener.accept()?.0),
             ('c', _) => stream = None,
-            ('w', _) => thread::sleep(rt, Duration::from_millis(350)),
+            ('t', _) => thread::sleep(rt, Duration::from_millis(5)),
+            ('w', _) => thread::sleep(rt, Duration::from_millis(400)),
             (_, Some(stream)) => {
                 let _done = play_on(rt, stream, act);
             }
@@ -51,7 +53,7 @@ fn play_on<R: Clock>(rt: &R, stream: &mut TcpStream, act: char) -> io::Result<()
     match act {
         'q' => read(stream),
         'd' => drip(rt, stream, 1),
-        'D' => drip(rt, stream, 30),
+        'D' => drip(rt, stream, 40),
         'L' => send_large(stream),
         _ => stream.write_all(text_of(act)),
     }
@@ -62,7 +64,7 @@ fn read(stream: &mut TcpStream) -> io::Result<()> {
     Ok(())
 }
 
-/// Sends each byte of a value by itself, with so many milliseconds before it.
+/// Sends each byte of a value by itself, `millis` milliseconds after the one before.
 fn drip<R: Clock>(rt: &R, stream: &mut TcpStream, millis: u64) -> io::Result<()> {
     stream.set_nodelay(true)?;
     for byte in text_of('v') {

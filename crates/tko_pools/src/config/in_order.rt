@@ -27,8 +27,7 @@ impl Config {
     }
 }
 
-/// So many children, each of one server.
-
+/// Children of one server each, `count` of them.
 fn children_in_order(alloc: Global, count: usize) -> Result<Vec<Vec<usize>>, NoMemory>
     ensures { IfOk result (λ children. map (λ child. child.items) children.items
         ≡ map (λ number. number ∷ []) (numbers_below count)) }

@@ -13,8 +13,8 @@ use std::test::Fail;
 use std::thread::Threads;
 use std::time::Clock;
 use tko_desk::{Book, Share};
+use tko_health::{LockedIdle, LockedSeating};
 use tko_links::{Script, Scripted};
-use tko_route::{LockedIdle, LockedSeating};
 use tko_session::{Probers, Still};
 
 /// Each member has one client.

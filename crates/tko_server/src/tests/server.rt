@@ -1,10 +1,11 @@
 //! The server over loopback.
 
 use super::{SERVER_ERROR, SETTINGS, config, delays};
-use crate::{Options, RunFault, run};
+use crate::{Options, Patience, RunFault, run};
 use std::alloc::Global;
 use std::io::{Read, Write};
 use std::net::{Ipv4Addr, Net, SocketAddr, TcpListener, TcpStream};
+use std::os::fd::OwnedFd;
 use std::sync::Wait;
 use std::test::Fail;
 use std::thread::Threads;
@@ -12,6 +13,11 @@ use std::time::{Clock, Duration};
 use std::{io, thread};
 use tko_desk::{Kind, Totals};
 use tko_model::Settings;
+
+const PATIENCE: Patience = Patience {
+    write_timeout: 5_000,
+    idle_timeout: 0,
+};
 
 fn listen<R: Net<Stream = TcpStream, Listener = TcpListener>>(rt: &R) -> io::Result<TcpListener> {
     TcpListener::bind(rt, SocketAddr::from((Ipv4Addr::LOCALHOST, 0)))
@@ -52,6 +58,8 @@ fn options(alloc: Global, port: u16) -> Result<Options, Fail> {
         },
         delays: delays()?,
         timeout: 1_000,
+        patience: PATIENCE,
+        open_files: None,
         connections: 2,
     })
 }
@@ -73,5 +81,18 @@ fn totals_of_two_connections(rt: HostRuntime) -> Result<(), Fail> {
     assert_eq!(rt; read.1?.as_slice(), SERVER_ERROR);
     let numbers = totals.map_err(|_| "run")?.numbers;
     assert_eq!(rt; Kind::ALL.map(|kind| numbers.of(kind)), [4, 1, 1, 0, 2, 0]);
+    Ok(())
+}
+
+/// A connected socket does not listen.
+#[test]
+fn a_broken_listener_is_a_fault(rt: HostRuntime) -> Result<(), Fail> {
+    let alloc = rt.alloc();
+    let listener = listen(&rt)?;
+    let stream = TcpStream::connect(&rt, listener.local_addr()?)?;
+    let broken = TcpListener::from(OwnedFd::from(stream));
+    let options = options(alloc, 1)?;
+    let ended = serve(&rt, alloc, &broken, &options);
+    assert_eq!(rt; ended.err(), Some(RunFault::Accept));
     Ok(())
 }

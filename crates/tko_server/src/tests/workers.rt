@@ -9,8 +9,8 @@ use std::sync::{Mutex, Wait};
 use std::test::Fail;
 use std::time::Clock;
 use tko_desk::{Book, Kind, Numbers};
+use tko_health::LockedSeating;
 use tko_links::{Script, Scripted};
-use tko_route::LockedSeating;
 use tko_session::{Listed, Probers};
 
 /// What one worker left.
@@ -115,5 +115,17 @@ fn faults_and_a_full_ledger_are_reported(rt: HostRuntime) -> Result<(), Fail> {
     assert_eq!(rt; left.report, report);
     assert_eq!(rt; left.numbers.of(Kind::Request), u64::MAX);
     assert_eq!(rt; left.numbers.of(Kind::Attempt), 1);
+    Ok(())
+}
+
+/// The probe of a server that the last client's request marked.
+#[test]
+fn probes_after_the_last_client_are_counted(rt: HostRuntime) -> Result<(), Fail> {
+    let _stream: Option<TcpStream> = None;
+    let alloc = rt.alloc();
+    let visits = [Visit::Client(b"get a\r\n"), Visit::Idle, Visit::Idle];
+    let moments = vec![in alloc; 0, 9_999, 10_000, 10_001]?;
+    let left = work(&rt, alloc, &visits, moments, outage(alloc)?, 0)?;
+    assert_eq!(rt; left.numbers.of(Kind::Probe), 1);
     Ok(())
 }

@@ -1,9 +1,11 @@
-use Rattle.tko_server.proofs.RunLemmas.{of_servers}
+use Rattle.std.proofs.Common.{refl}
+use Rattle.tko_server.proofs.RunLemmas.{done_well, passed_on}
 use Rattle.tko_server.proofs.running.run.Goals as goal
 
-pub returns : goal.returns
-returns g c =
-    record {
-      settings = of_servers _ c.args.options.now.settings _ _ c.servers.ensures
-          c.run_with.ensures.settings;
-    }
+pub returns-in-Ok : goal.returns-in-Ok
+returns-in-Ok g c =
+    record { settings = done_well _ _ _ _ _ c.in-Ok.is refl c.run_to_end.ensures.settings }
+
+pub returns-in-Err : goal.returns-in-Err
+returns-in-Err g c =
+    record { settings = passed_on _ _ _ _ c.in-Err.is refl c.run_to_end.ensures.settings }

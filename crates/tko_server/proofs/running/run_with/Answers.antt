@@ -22,13 +22,13 @@ returns-in_err-book g c =
           (p.1 ∙ ap Err p.2) tt;
     }
 
-pub returns-in_err-serve_all : goal.returns-in_err-serve_all
-returns-in_err-serve_all g c =
-    let p = err_from_is_err_and c.from_residual-in_err-serve_all.result
-    c.from_residual-in_err-serve_all.ensures.1 in
+pub returns-in_err-report : goal.returns-in_err-report
+returns-in_err-report g c =
+    let p = err_from_is_err_and c.from_residual-in_err-report.result
+    c.from_residual-in_err-report.ensures.1 in
     record {
-      settings = ended_later _ _ _ _ c.in_err-serve_all.field-0.0 refl
-          c.in_ok-seating.ensures.settings (p.1 ∙ ap Err p.2) c.in_err-serve_all.ensures.fault;
+      settings = ended_later _ _ _ _ c.in_err-report.field-0.0 refl
+          c.in_ok-seating.ensures.settings (p.1 ∙ ap Err p.2) c.in_err-report.ensures.fault;
     }
 
 pub returns : goal.returns
@@ -38,9 +38,9 @@ returns g c =
 pub serve_all-requires-clause-seats : goal.serve_all-requires-clause-seats
 serve_all-requires-clause-seats g c κs within =
     ap length c.in_ok-seating.ensures.seats ∙ length-range_with_len 0 _
-    ∙ ap (λ settings. settings.threads) c.requires.settings
+    ∙ ap (λ settings. settings.threads) c.requires.named
 
 pub serve_all-requires-clause-shares : goal.serve_all-requires-clause-shares
 serve_all-requires-clause-shares g c κs within =
     ap length c.deref_mut.ensures.value ∙ ap length c.in_ok-book.ensures.list_is
-    ∙ number_of_shares 0 _ ∙ ap (λ settings. settings.threads) c.requires.settings
+    ∙ number_of_shares 0 _ ∙ ap (λ settings. settings.threads) c.requires.named

@@ -1,5 +1,5 @@
 use Rattle.std.proofs.Common.{◌≡◌, replicate}
-use Rattle.tko_session.specs.declared.probers.Slot.TheVariants.{Quiet}
+use Rattle.tko_session.specs.declared.probers.ProbeSlot.TheVariants.{Quiet}
 use Rattle.tko_session.proofs.probers.quiet_slots.Given as goal
 
 abbrev pub invariant-loop : goal.invariant-loop

@@ -8,7 +8,7 @@ use Rattle.tko_session.proofs.serving.serve.Given as goal
 abbrev pub invariant-loop : goal.invariant-loop
 invariant-loop g l =
     ServedSoFar g.I.Inlet.gives g.I.Inlet.idles g.O.Outlet.takes
-    (IsEvent g.H.Health.steps g.L.Links.exchanges g.L.Links.sent g.L.Links.probed g.T.Trails.records g.M.Moments.reads)
+    (IsEvent g.H.Health.steps g.H.Health.grants g.L.Links.exchanges g.L.Links.sent g.L.Links.probed g.T.Trails.records g.M.Moments.reads)
     (sent_by g.L.Links.sent) (probed_by g.L.Links.probed) NeedsInput
     l.fn.reader l.fn.writer l.fn.parts l.session l.reader l.writer l.written l.parts
     × (g.I.Inlet.failures l.reader ≡ g.I.Inlet.failures l.fn.reader)

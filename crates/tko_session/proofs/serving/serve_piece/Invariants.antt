@@ -8,7 +8,7 @@ use Rattle.tko_session.proofs.serving.serve_piece.Given as goal
 abbrev pub invariant-loop : goal.invariant-loop
 invariant-loop g l =
     Delivered g.O.Outlet.takes
-    (IsEvent g.H.Health.steps g.L.Links.exchanges g.L.Links.sent g.L.Links.probed g.T.Trails.records g.M.Moments.reads)
+    (IsEvent g.H.Health.steps g.H.Health.grants g.L.Links.exchanges g.L.Links.sent g.L.Links.probed g.T.Trails.records g.M.Moments.reads)
     (sent_by g.L.Links.sent) (probed_by g.L.Links.probed) 0 More
     (fed_state l.fn.session l.piece) l.fn.writer l.fn.written l.fn.parts l.session l.writer l.written l.parts
     × (g.O.Outlet.failures l.writer ≡ g.O.Outlet.failures l.fn.writer)

@@ -8,16 +8,16 @@ pub returns-clause-record : goal.returns-clause-record
 returns-clause-record g c =
     rw c.counted.ensures.same (connect_step _ _ c.args.server _
     (set_open _ _ c.args.server _ _ (ap (λ (s : TcpState). s.connected) c.self.view_is)
-    c.connect-connected.ensures)
+    c.connect-connected.ensures.connected)
     (rose _ _ _ _ c.counted.ensures.failures (ap (λ (s : TcpState). s.failures) c.self.view_is)))
 
 pub returns-clause-connected : goal.returns-clause-connected
 returns-clause-connected g c =
     at_set _ _ _ _ (set_open _ _ c.args.server _ _ (ap (λ (s : TcpState). s.connected) c.self.view_is)
-    c.connect-connected.ensures) c.requires.within
+    c.connect-connected.ensures.connected) c.requires.within
     ∙ ap is_ok (sym c.counted.ensures.same)
 
 pub returns-clause-others : goal.returns-clause-others
 returns-clause-others g c other apart =
     beside_set _ _ _ _ _ (set_open _ _ c.args.server _ _ (ap (λ (s : TcpState). s.connected) c.self.view_is)
-    c.connect-connected.ensures) apart
+    c.connect-connected.ensures.connected) apart

@@ -1,6 +1,6 @@
 use Rattle.std.proofs.Common.{◌<◌, All, ℕ, length, subst, sym}
 use Rattle.std.proofs.lemmas.List.Elements.{All-head, All-tail}
-use Rattle.tko_server.proofs.MemberLemmas.{one_more_ready, one_seat_less}
+use Rattle.tko_server.proofs.MemberLemmas.{one_more_asked, one_more_ready, one_seat_less}
 use Rattle.tko_server.proofs.members.Shared.members.Goals as goal
 
 pub loop-idle-preserved : goal.loop-idle-preserved
@@ -19,4 +19,5 @@ loop-idle-preserved g c =
           seat c.in_ok-parts.ensures.equipped,
       counted.0,
       counted.1,
+      one_more_asked _ _ _ _ c.in_ok-push.ensures.items c.loop-idle.invariant.6 c.in_ok-parts.ensures.asked,
     )

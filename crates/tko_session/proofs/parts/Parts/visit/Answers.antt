@@ -1,6 +1,6 @@
 use Rattle.std.proofs.Common.{◌≡◌, Some, refl, sym, ap, ◌∙◌}
 use Rattle.tko_prober.specs.Probes.{asked_after, sent}
-use Rattle.tko_session.specs.declared.probers.Slot.TheVariants.{Quiet, Probing}
+use Rattle.tko_session.specs.declared.probers.ProbeSlot.TheVariants.{Quiet, Probing}
 use Rattle.tko_session.specs.Probers.{probed_of, prober_of, slot_after, with_slot}
 use Rattle.tko_session.proofs.RoundLemmas.{rest_is_send, visited_absent, visited_probed, visited_rested, visited_stopped}
 use Rattle.tko_session.proofs.parts.Parts.visit.Goals as goal
@@ -26,7 +26,7 @@ pub returns-clause-visit : goal.returns-clause-visit
 returns-clause-visit g c =
     let has : prober_of c.args.self.now.probers c.args.server ≡ Some c.in-Some.prober = sym c.in-Some.ensures.prober in
     let (names, same) = c.in-Some-duty.ensures.some in
-    let came = c.probe-came.result in
+    let came = c.send_probe-came.result in
     let later = c.next-later.result in
     let sends : c.turn.new.self ≡ sent c.in-Some.prober = c.in-Send.ensures.send refl in
     let asked : c.take_result-asked.result.0 ≡ asked_after (probed_of came) =
@@ -38,10 +38,10 @@ returns-clause-visit g c =
     (slot_after (sent c.in-Some.prober) later (probed_of came)) =
     rw (after, c.in-Some.ensures.slot) at c.put-2.ensures in
     visited_probed c.args.moment c.args.self.now c.args.server c.in-Some.prober came later c.record_asked.result
-    _ _ _ _ _ has (c.in-Send.ensures.when.0 refl)
-    (rw names at c.probe-came.ensures.«record»)
-    (rw names at c.probe-came.ensures.spent)
-    (rw names at c.probe-came.ensures.probes)
+    _ _ _ _ _ has (c.in-Send.ensures.when.0 refl) (c.in-Some-duty.ensures.right)
+    (rw names at c.send_probe-came.ensures.«record»)
+    (rw names at c.send_probe-came.ensures.spent)
+    (rw names at c.send_probe-came.ensures.probes)
     c.next-later.ensures
     (rw (same, asked) at c.record_asked.ensures.recorded)
     slot c.is_err.ensures.value

@@ -5,7 +5,7 @@ use Rattle.tko_session.proofs.parts.Parts.visit_all.Given as goal
 
 abbrev pub invariant-loop-server : goal.invariant-loop-server
 invariant-loop-server g l =
-    AreVisited g.H.Health.steps g.L.Links.exchanges g.L.Links.probed g.M.Moments.reads l.moment l.fn.self l.server l.short l.self
+    AreVisited g.H.Health.steps g.H.Health.grants g.L.Links.exchanges g.L.Links.probed g.M.Moments.reads l.moment l.fn.self l.server l.short l.self
     × ((server : ℕ) → g.L.Links.sent l.self.links server ≡ g.L.Links.sent l.fn.self.links server)
     × (length l.self.probers.slots ≡ length l.fn.self.probers.slots)
     × Reaches g.H.Health.servers g.L.Links.servers l.self

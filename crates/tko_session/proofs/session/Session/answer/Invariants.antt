@@ -6,7 +6,7 @@ use Rattle.tko_session.proofs.session.Session.answer.Given as goal
 
 abbrev pub invariant-loop : goal.invariant-loop
 invariant-loop g l =
-    Answered (IsEvent g.H.Health.steps g.L.Links.exchanges g.L.Links.sent g.L.Links.probed g.T.Trails.records g.M.Moments.reads)
+    Answered (IsEvent g.H.Health.steps g.H.Health.grants g.L.Links.exchanges g.L.Links.sent g.L.Links.probed g.T.Trails.records g.M.Moments.reads)
     (sent_by g.L.Links.sent) (probed_by g.L.Links.probed) More l.fn.self l.fn.parts l.self l.parts
     × Reaches g.H.Health.servers g.L.Links.servers l.parts
     × (NoneMarked l.fn.parts.probers → l.self.owes ≡ false → NoneMarked l.parts.probers)

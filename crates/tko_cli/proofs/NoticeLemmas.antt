@@ -1,0 +1,19 @@
+-- Notices that were written one after another.
+use Rattle.std.proofs.Common.{ℕ, List, [], ◌∷◌, ◌++◌}
+use Rattle.tko_model.proofs.RecordLemmas.{gains_append, gains_none, gains_one}
+use Rattle.tko_cli.specs.Notices.{HasNotice, HasNotices}
+use Rattle.tko_cli.specs.declared.notice.Notice.{Notice}
+
+pub no_notice : {O : Type 0} (takes : O → List ℕ → O → Type 0) (failures : O → ℕ) (at : O)
+    → HasNotices takes failures at at
+no_notice takes failures at = record { notices = []; each = gains_none at }
+
+pub one_notice : {O : Type 0} (takes : O → List ℕ → O → Type 0) (failures : O → ℕ) (old new : O)
+    (notice : Notice) → HasNotice takes failures old notice new → HasNotices takes failures old new
+one_notice takes failures old new notice has = record { notices = notice ∷ []; each = gains_one has }
+
+pub more_notices : {O : Type 0} (takes : O → List ℕ → O → Type 0) (failures : O → ℕ) (old mid new : O)
+    → HasNotices takes failures old mid → HasNotices takes failures mid new
+    → HasNotices takes failures old new
+more_notices takes failures old mid new front back =
+    record { notices = front.notices ++ back.notices; each = gains_append front.each back.each }

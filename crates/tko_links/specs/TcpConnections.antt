@@ -1,0 +1,33 @@
+-- A connection over TCP: the time limit of the exchange on it.
+use Rattle.std.specs.Prelude.{◌≡◌, ◌≤◌, ℕ, true, false, List, length}
+use Rattle.std.specs.declared.time.Duration.{Duration}
+use Rattle.std.specs.Duration.{as_nanos}
+use Rattle.tko_links.specs.declared.exchange_time.ExchangeTime.{ExchangeTime}
+use Rattle.tko_links.specs.declared.tcp_connection.TcpConnection.{TcpConnection}
+
+-- a new connection belongs to the exchange that it was made for, of whose time connecting took its
+-- part; the socket's limits are those of a whole exchange
+pub record IsOpened (time : ExchangeTime) (connection : TcpConnection) : Type 0 where
+  pub same_time : connection.time ≡ time
+  pub waited : connection.has_waited ≡ true
+  pub reads : connection.socket.read_limit ≡ time.limit
+  pub writes : connection.socket.write_limit ≡ time.limit
+
+-- an exchange begins, of which no call has waited; its limit is that of each exchange
+pub record Begins (old new : TcpConnection) : Type 0 where
+  pub fresh : new.has_waited ≡ false
+  pub limit : new.time.limit ≡ old.time.limit
+  pub socket : new.socket ≡ old.socket
+
+-- what a call may take: the whole limit where no call of the exchange can have waited, and never
+-- more than it
+pub record IsAllowed (connection : TcpConnection) (limit : Duration) : Type 0 where
+  pub whole : connection.has_waited ≡ false → limit ≡ connection.time.limit
+  pub most : as_nanos limit ≤ as_nanos connection.time.limit
+
+-- a write that cannot have waited: the first one of an exchange, of at most 16 KiB, which was taken
+-- whole
+pub record IsQuick (old : TcpConnection) (bytes : List ℕ) (count : ℕ) : Type 0 where
+  pub fresh : old.has_waited ≡ false
+  pub small : length bytes ≤ 16384
+  pub whole : count ≡ length bytes

@@ -1,4 +1,0 @@
-use Rattle.tko_server.proofs.running.run.Given as goal
-
-abbrev pub ghosts-run_with : goal.ghosts-run_with
-ghosts-run_with g a = record { settings = a.settings }
