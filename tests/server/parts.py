@@ -5,6 +5,7 @@ import atexit
 import json
 import os
 import re
+import resource
 import select
 import signal
 import subprocess
@@ -91,12 +92,14 @@ def serve_words(port, config, options):
 
 
 class Proxy:
-    """The running program, from its line `ready` on."""
+    """The running program, from its line `ready` on. It may have so many files open, where `open_files` is given."""
 
-    def __init__(self, config, port=None, **options):
+    def __init__(self, config, port=None, open_files=None, **options):
         self.port = port or free_port()
         self.errors = tempfile.TemporaryFile()
-        self.process = start(serve_words(self.port, config, options), bufsize=0, stdout=subprocess.PIPE,
+        # A limit is set in a shell, since a fork with threads beside it may hang.
+        limited = ["sh", "-c", f'ulimit -S -n {open_files} && exec "$@"', "sh"] if open_files else []
+        self.process = start(limited + serve_words(self.port, config, options), bufsize=0, stdout=subprocess.PIPE,
                              stderr=self.errors)
         ready, _, _ = select.select([self.process.stdout], [], [], 20)
         line = self.process.stdout.readline() if ready else b"nothing"
@@ -114,7 +117,11 @@ class Proxy:
     def marks(self):
         """The mark of each server, by its address, as `stats tko` tells it on a connection of its own."""
         with self.client() as client:
-            lines = client.ask(b"stats tko\r\n").decode().split("\r\n")
+            return self.marks_by(client)
+
+    def marks_by(self, client):
+        """The same, as it tells it this client."""
+        lines = client.ask(b"stats tko\r\n").decode().split("\r\n")
         return dict(line.split()[1:] for line in lines if line.startswith("STAT"))
 
     def status(self, name):
@@ -122,8 +129,24 @@ class Proxy:
         with open(f"/proc/{self.process.pid}/status", encoding="ascii") as file:
             return int(re.search(rf"^{name}:\s+(\d+)", file.read(), re.M).group(1))
 
+    def limit_files(self, count):
+        """From now on it may have so many files open."""
+        _, hard = resource.prlimit(self.process.pid, resource.RLIMIT_NOFILE)
+        resource.prlimit(self.process.pid, resource.RLIMIT_NOFILE, (count, hard))
+
+    def seconds_used(self):
+        """The processor time that it took."""
+        with open(f"/proc/{self.process.pid}/stat", encoding="ascii") as file:
+            fields = file.read().rsplit(")", 1)[1].split()
+        return (int(fields[11]) + int(fields[12])) / os.sysconf("SC_CLK_TCK")
+
     def files(self):
         return len(os.listdir(f"/proc/{self.process.pid}/fd"))
+
+    def lowest_free_file(self):
+        """The number of the descriptor that it would get next: below this limit it gets none."""
+        used = {int(name) for name in os.listdir(f"/proc/{self.process.pid}/fd")}
+        return next(number for number in range(len(used) + 1) if number not in used)
 
     def end(self, seconds=10):
         """Waits until the program ends by itself. Its status, and what it printed after `ready`."""
@@ -140,7 +163,7 @@ class Proxy:
 
 
 class ServerTest(unittest.TestCase):
-    """A test whose servers and proxies are ended after it, and whose proxy keeps running and reports no error."""
+    """A test whose servers and proxies are ended after it, and whose proxy keeps running and reports no fault."""
 
     def memcached(self, *options):
         server = Memcached(*options)
@@ -167,7 +190,7 @@ class ServerTest(unittest.TestCase):
     def close_proxy(self, proxy, may_end):
         running, text = proxy.close()
         self.assertTrue(running or may_end, "the program ended before the test did")
-        self.assertEqual(text, b"")
+        self.assertRegex(text, rb"\A(note: [^\n]+\n)+\Z")
 
     def client(self, port):
         return self.kept(Client(port))

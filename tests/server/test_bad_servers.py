@@ -105,11 +105,24 @@ class BadServers(ServerTest):
         for _ in range(8):
             self.assertEqual(client.ask(b"get a\r\n"), values((b"a", b"near")))
             self.assertEqual(self.mark(proxy), "up:0")
-            time.sleep(0.15)
+            time.sleep(0.02)
         # Without one a request may meet the close and go on to the next pool; the client sees no error.
         replies = {client.ask(b"get a\r\n") for _ in range(50)}
         self.assertLessEqual(replies, {values((b"a", b"near")), values((b"a", b"far"))})
         self.assertRegex(self.mark(proxy), "^up:[01]$")
+
+    def test_one_that_answers_twice(self):
+        def twice(connection, request):
+            connection.sendall(values((key_of(request), b"near")))
+            time.sleep(0.002)
+            return b"ERROR\r\n"
+
+        proxy, client = self.before_memcached(twice)
+        # A second answer that comes by itself is never that of the next request.
+        for _ in range(20):
+            self.assertEqual(client.ask(b"get a\r\n"), values((b"a", b"near")))
+            time.sleep(0.045)
+        self.assertEqual(self.mark(proxy), "up:0")
 
     def test_one_that_answers_too_late(self):
         def late(connection, request):

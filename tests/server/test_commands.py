@@ -94,6 +94,12 @@ class Commands(ServerTest):
                 self.assertEqual((request, client.ask(request)), (request, line))
             self.assertEqual(proxy.marks()[server.address], "up:0")
 
+    def test_the_longest_line_of_a_server(self):
+        for spaces, reply in ((65530, b"ERROR\r\n"), (65531, b"SERVER_ERROR no server\r\n")):
+            server = self.fake(lambda _, request, spaces=spaces: b"ERROR" + b" " * spaces + b"\r\n")
+            client = self.client(self.proxy(configuration(only=[server])).port)
+            self.assertEqual((spaces, client.ask(b"get a\r\n")), (spaces, reply))
+
     def test_what_a_server_is_sent(self):
         server = self.fake(lambda _, request: b"ERROR\r\n")
         client = self.client(self.proxy(configuration(only=[server])).port)

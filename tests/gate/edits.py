@@ -1,0 +1,123 @@
+"""Must-fail edits: which of them are tried in one check, and what came of each.
+
+Edits in the bodies of different functions change no contract, so one check judges each of them by itself. An edit in
+such a batch counts as refused only if a clause in its own function refuses it, and only if no function without an edit
+is refused. Every other edit is tried alone, by the kit's own procedure, and so is each that a batch did not refuse."""
+import os
+import shutil
+import tempfile
+import threading
+import time
+
+from places import changed_function
+from refusals import refusals
+
+
+class Tries:
+    """What this run has found out of the edits."""
+
+    def __init__(self, rt, proved):
+        self.rt = rt
+        # The folder of a crate's proof.
+        self.proved = proved
+        # For each edit whether a clause refuses it, and what to say, as the kit's `must_fail` returns it.
+        self.verdicts = {}
+        self.last = threading.local()
+        self.checked = rt.checked
+        rt.checked = self.recorded
+
+    def recorded(self, *given):
+        """The kit's `checked`, which also leaves what it printed to this thread."""
+        self.last.ran = self.checked(*given)
+        return self.last.ran
+
+    def task(self, crate, batch, proof):
+        """A task of the kit's lanes that tries these edits."""
+
+        def run(given, jobs):
+            if given[proof]:
+                self.try_batch(crate, batch)
+
+        return run
+
+    def try_batch(self, crate, batch):
+        began = time.time()
+        judged = self.together(crate, batch) if len(batch) > 1 else {}
+        self.verdicts.update(judged)
+        self.verdicts.update({edit: self.alone(crate, edit) for edit in batch if edit not in judged})
+        self.rt.say(f"{crate.name}: {len(batch)} must-fail edits, {len(judged)} of them judged in one check, "
+                    f"{time.time() - began:.0f} s")
+
+    def together(self, crate, batch):
+        """Checks all edits of the batch at once. Returns the verdict on each whose own function is refused."""
+        functions = {edit: changed_function(edit, crate.folder) for edit in batch}
+        texts = together(self.rt, crate, batch, functions)[1]
+        ran = self.over_proof(crate, texts)
+        if not is_judged(self.rt, ran, texts):
+            return {}
+        found = refusals(ran.stdout, crate.name)
+        if any(not any(it.is_called(refusal.name) for it in functions.values()) for refusal in found):
+            return {}
+        own = {edit: [it for it in found if functions[edit].is_called(it.name)] for edit in batch}
+        return {edit: verdict(crate, edit, refused) for edit, refused in own.items() if refused}
+
+    def alone(self, crate, edit):
+        """The kit's verdict on one edit; it fails too where no clause at the code refuses it."""
+        well, text = self.over_proof(crate, edit=edit)
+        return verdict(crate, edit, refusals(self.last.ran.stdout, crate.name)) if well else (well, text)
+
+    def over_proof(self, crate, texts=None, edit=None):
+        """A check of the edited crate over a copy of what its proof left. It writes files anew, so links will do."""
+        flags = ["--jobs", "1"]
+        with tempfile.TemporaryDirectory(prefix="gate-edit-") as room:
+            shutil.copytree(self.proved(crate), f"{room}/kept", copy_function=os.link)
+            if edit:
+                return self.rt.must_fail(crate, edit, flags, f"{room}/kept")
+            return self.checked(crate, texts, flags, f"{room}/kept")
+
+
+def verdict(crate, edit, refused):
+    """Returns whether a clause refuses the edit, and what to say, from the functions that were refused."""
+    label = f"must-fail {crate.name}/{os.path.basename(edit)}"
+    by_clause = [it for it in refused if it.at_code]
+    if by_clause:
+        return True, f"{label}: refused, as it must be, in {by_clause[0].name}: {by_clause[0].at_code[0][:220]}"
+    written = [it.in_proofs[0] for it in refused if it.in_proofs] or ["no reason was printed"]
+    return False, (f"{label}: NOT REFUSED BY A CLAUSE: only a written proof no longer fits, which says little of the "
+                   f"contract (change a value, or plant it in a caller): {written[0][:200]}")
+
+
+def is_judged(rt, ran, texts):
+    """Whether the prover read the edited texts and refused the crate, as the kit's `must_fail` asks of one edit."""
+    lines = ran.stdout.rstrip("\n").split("\n")
+    is_read = not any(rt.unread(it, texts) for it in lines) and not rt.rtlib.STALE.search(ran.stdout)
+    return is_read and ran.returncode == 1 and lines[-1].startswith("logic=not-proved")
+
+
+def batches(rt, crate, edits):
+    """Returns lists of edits that are tried together. An edit that changes no body, or none alone, has its own list."""
+    fits = [it for it in edits if not rt.read_edit(it, crate.folder)[1]]
+    whole = {it: changed_function(it, crate.folder) for it in fits}
+    left, found = [it for it in fits if whole[it]], [[it] for it in edits if not whole.get(it)]
+    while left:
+        batch = together(rt, crate, left, whole)[0]
+        found.append(batch)
+        left = [it for it in left if it not in batch]
+    return found
+
+
+def together(rt, crate, edits, whole):
+    """Returns as many of the edits as change different functions and apply to one text, and that text's files."""
+    batch, texts = [], {}
+    with tempfile.TemporaryDirectory(prefix="gate-edits-") as room:
+        shutil.copytree(f"{crate.folder}/src", f"{room}/src")
+        for edit in edits:
+            changed, why = rt.read_edit(edit, room)
+            if why or whole[edit] in [whole[it] for it in batch]:
+                continue
+            batch.append(edit)
+            texts.update(changed)
+            for path, text in changed.items():
+                with open(f"{room}/{path}", "w", encoding="utf-8") as it:
+                    it.write(text)
+    return batch, texts

@@ -1,0 +1,106 @@
+"""The kit's `rt ci` with three changes, all of them about work that `rt ci` does more than once.
+
+1. Each library is proved once, from nothing, into a folder that this run makes and removes. Its tests and its edits are
+   checked over what that proof left there. `rt ci` proves the library for each of the three.
+2. Must-fail edits are tried many in one check (edits.py), and the checks of one crate's edits side by side.
+3. An edit passes only if a clause refuses it, and the gate says which.
+
+Everything else is the kit's own code: the rules on the text, the handles, the last line of each check, the runs."""
+import os
+import re
+import shutil
+import tempfile
+
+import costs
+from edits import Tries, batches
+from kit import stop
+
+KEPT_WORK = "( incremental=trusted)?"
+
+
+def install(rt, with_edits):
+    """Replaces the parts of the kit's `rt` that the changes above are about. Returns the folder of the proofs, which is
+    removed when it is closed."""
+    room = tempfile.TemporaryDirectory(prefix="gate-proved-")
+    spent = costs.install(rt, room.name)
+    accept_kept_work(rt)
+    rt.Crate = crate_proved_once(rt, room.name)
+    if not with_edits:
+        rt.edits_of = lambda crate: ([], [])
+    tried = Tries(rt, lambda crate: proved(room.name, crate))
+    rt.must_fail_all = lambda crate, edits, flags: [tried.verdicts[it] for it in edits]
+    in_lanes = rt.in_lanes
+
+    def proved_once(tasks):
+        given = in_lanes(dict(rearranged(rt, tasks, tried)))
+        print("Processor minutes of the checks:", *costs.table(spent), sep="\n", flush=True)
+        return given
+
+    rt.in_lanes = proved_once
+    return room
+
+
+def accept_kept_work(rt):
+    """Has the last line of a check also name the kept work that it rests on, which is this run's."""
+    end = r" statements=trusted\n\Z"
+    if not rt.rtlib.VERDICT.pattern.endswith(end):
+        stop("the last line of a check is held to another pattern than the one that this gate knows")
+    pattern = rt.rtlib.VERDICT.pattern.removesuffix(end)
+    rt.rtlib.VERDICT = re.compile(f"{pattern} statements=trusted{KEPT_WORK}\\n\\Z", re.M)
+
+
+def crate_proved_once(rt, room):
+    class Crate(rt.Crate):
+        """A crate whose proof is kept in a folder of this run, for its tests and its edits."""
+
+        keeps_proof = False
+
+        def ci(self, flags, tests):
+            self.keeps_proof = not self.is_program
+            status = super().ci(flags, tests)
+            if self.keeps_proof and not tests and not status:
+                shutil.copytree(kept(room, self), proved(room, self), copy_function=os.link)
+            return status
+
+        def words(self, flags, **how):
+            words = super().words(flags, **how)
+            return words + (["--incremental", kept(room, self)] if self.keeps_proof else [])
+
+        def build_rlib(self, flags, anew):
+            # (rattle keeps no statements over kept work)
+            self.cuts_libraries = False
+            return super().build_rlib(flags, anew)
+
+    return Crate
+
+
+def kept(room, crate):
+    """The folder where a crate's checks of this run keep their work."""
+    return f"{room}/{crate.name}"
+
+
+def proved(room, crate):
+    """What the crate's proof left there, before its tests were checked. rattle replaces files and writes into none."""
+    return f"{room}/{crate.name}.proved"
+
+
+def rearranged(rt, tasks, tried):
+    """Has the tests of a crate wait for its proof, and adds a task for each check of its edits."""
+    crates = {it.name: it for it in rt.rtlib.crates_below(os.getcwd())}
+    for (name, what), (waits, lines, needs, call) in tasks.items():
+        proof = (name, "proof")
+        if what == "tests":
+            yield (name, what), ([*waits, proof], lines, needs, call)
+        elif what == "edits":
+            tries = dict(tries_of(rt, crates[name], tried, lines, needs))
+            yield from tries.items()
+            # (what is left to this task is to say what came of them)
+            yield (name, what), ([*waits, *tries], 0, 0, call)
+        else:
+            yield (name, what), (waits, lines, needs, call)
+
+
+def tries_of(rt, crate, tried, lines, needs):
+    proof = (crate.name, "proof")
+    for number, batch in enumerate(batches(rt, crate, rt.edits_of(crate)[0])):
+        yield (crate.name, "edits", number), ([proof], lines, needs, tried.task(crate, batch, proof))
