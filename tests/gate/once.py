@@ -96,8 +96,16 @@ def rearranged(rt, tasks, tried):
             yield from tries.items()
             # (what is left to this task is to say what came of them)
             yield (name, what), ([*waits, *tries], 0, 0, call)
+        elif what == "proof" and rt.processors() >= 4:
+            yield (name, what), (waits, lines, 1.6 * needs, with_two_jobs(call))
         else:
             yield (name, what), (waits, lines, needs, call)
+
+
+def with_two_jobs(call):
+    """A proof's call with two jobs at least: what waits for a proof, another proof above all, is longer than what runs
+    beside it."""
+    return lambda given, jobs: call(given, max(jobs, 2))
 
 
 def tries_of(rt, crate, tried, lines, needs):

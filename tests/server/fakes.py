@@ -15,6 +15,8 @@ class Fake:
         self.behave = behave
         self.requests = []
         self.connections = []
+        # How many connections it has closed itself.
+        self.closed = 0
         self.listener = socket.create_server((HOST, free_port()))
         self.address = "%s:%d" % self.listener.getsockname()
         threading.Thread(target=self.accept, daemon=True).start()
@@ -31,16 +33,20 @@ class Fake:
 
     def serve(self, connection):
         with connection, connection.makefile("rb") as file:
-            try:
-                for request in requests(file):
-                    self.requests.append(request)
-                    answer = self.behave(connection, request)
-                    if answer == b"":
-                        return
-                    if answer is not None:
-                        connection.sendall(answer)
-            except OSError:
-                pass
+            self.answer_all(connection, file)
+        self.closed += 1
+
+    def answer_all(self, connection, file):
+        try:
+            for request in requests(file):
+                self.requests.append(request)
+                answer = self.behave(connection, request)
+                if answer == b"":
+                    return
+                if answer is not None:
+                    connection.sendall(answer)
+        except OSError:
+            pass
 
     def close(self):
         # An accept that waits is not ended by a close alone.

@@ -92,9 +92,11 @@ def serve_words(port, config, options):
 
 
 class Proxy:
-    """The running program, from its line `ready` on. It may have so many files open, where `open_files` is given."""
+    """The running program, from its line `ready` on. It may have `open_files` files open, where that is given. A server
+    may take long to answer, since this machine may be busy, unless a test says otherwise."""
 
     def __init__(self, config, port=None, open_files=None, **options):
+        options = {"timeout": 5000, **options}
         self.port = port or free_port()
         self.errors = tempfile.TemporaryFile()
         # A limit is set in a shell, since a fork with threads beside it may hang.

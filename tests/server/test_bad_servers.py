@@ -1,4 +1,5 @@
 """Servers that accept connections and do not answer as memcached does."""
+import threading
 import time
 
 from fakes import key_of
@@ -6,8 +7,9 @@ from parts import ServerTest, configuration
 from ports import wait_until
 from talk import store, values
 
-TIMEOUT = 0.3
-SLACK = 0.25
+TIMEOUT = 1.0
+# This machine may be busy with other work: what is said of times holds by a wide margin.
+SLACK = 10
 UNREADABLE = [
     b"what\r\n", b"\x80\x00\x00\x00\r\n", b"STORED\r\n", b"VALUE b 0 1\r\nx\r\nEND\r\n", b"VALUE a 0 1\r\nxEND\r\n",
     b"VALUE a 0 2\r\nx\r\nEND\r\n", b"VALUE a 0 1 1\r\nx\r\nEND\r\n", b"VALUE a 0 1048577\r\n",
@@ -37,9 +39,7 @@ class BadServers(ServerTest):
             self.assertLess(seconds, TIMEOUT + SLACK)
             self.assertEqual(self.mark(proxy)[:4], mark)
         for _ in range(20):
-            reply, seconds = client.timed(b"get a\r\n")
-            self.assertEqual(reply, values((b"a", b"far")))
-            self.assertLess(seconds, TIMEOUT * 0.9)
+            self.assertEqual(client.ask(b"get a\r\n"), values((b"a", b"far")))
         self.assertEqual(len(self.server.requests), 3)
 
     def test_failures_of_all_workers_count_together(self):
@@ -50,25 +50,25 @@ class BadServers(ServerTest):
         for client in [first, *others[:2]]:
             self.assertEqual(client.reply(), values((b"a", b"far")))
         self.assertEqual(self.mark(proxy)[:4], "soft")
-        reply, seconds = others[2].timed(b"get a\r\n")
-        self.assertEqual(reply, values((b"a", b"far")))
-        self.assertLess(seconds, TIMEOUT * 0.9)
+        self.assertEqual(others[2].ask(b"get a\r\n"), values((b"a", b"far")))
+        self.assertEqual(len(self.server.requests), 3)
 
     def test_one_that_makes_no_connection(self):
         deaf, far = self.deaf(), self.memcached()
-        proxy = self.proxy(configuration(near=[deaf], far=[far]), timeout=int(TIMEOUT * 1000))
+        limit = 5
+        proxy = self.proxy(configuration(near=[deaf], far=[far]), timeout=limit * 1000)
         client = self.client(proxy.port)
         reply, seconds = client.timed(b"get a\r\n")
         self.assertEqual(reply, b"END\r\n")
-        self.assertGreater(seconds, TIMEOUT * 0.9)
-        self.assertLess(seconds, TIMEOUT + SLACK)
+        self.assertGreater(seconds, limit * 0.9)
         self.assertRegex(proxy.marks()[deaf.address], r"^hard:\d+$")
-        self.assertLess(client.timed(b"get a\r\n")[1], TIMEOUT * 0.9)
+        # It is not waited for again.
+        self.assertLess(client.timed(b"get a\r\n")[1], limit * 0.9)
 
     def test_one_that_answers_byte_by_byte(self):
         def trickle(connection, _):
             for byte in values((b"a", b"near" * 10)):
-                time.sleep(TIMEOUT / 6)
+                time.sleep(TIMEOUT / 3)
                 connection.sendall(bytes([byte]))
 
         _, client = self.before_memcached(trickle)
@@ -101,27 +101,30 @@ class BadServers(ServerTest):
             return b""
 
         proxy, client = self.before_memcached(once)
-        # With a gap between requests each closed connection is seen before it is used.
-        for _ in range(8):
+        # A connection that was closed before the next request is not used for it.
+        for count in range(1, 9):
             self.assertEqual(client.ask(b"get a\r\n"), values((b"a", b"near")))
             self.assertEqual(self.mark(proxy), "up:0")
-            time.sleep(0.02)
+            wait_until(lambda: self.server.closed == count, SLACK, "the server closes the connection")
         # Without one a request may meet the close and go on to the next pool; the client sees no error.
         replies = {client.ask(b"get a\r\n") for _ in range(50)}
         self.assertLessEqual(replies, {values((b"a", b"near")), values((b"a", b"far"))})
         self.assertRegex(self.mark(proxy), "^up:[01]$")
 
     def test_one_that_answers_twice(self):
+        second = threading.Semaphore(0)
+
         def twice(connection, request):
             connection.sendall(values((key_of(request), b"near")))
             time.sleep(0.002)
-            return b"ERROR\r\n"
+            connection.sendall(b"ERROR\r\n")
+            second.release()
 
         proxy, client = self.before_memcached(twice)
         # A second answer that comes by itself is never that of the next request.
         for _ in range(20):
             self.assertEqual(client.ask(b"get a\r\n"), values((b"a", b"near")))
-            time.sleep(0.045)
+            self.assertTrue(second.acquire(timeout=SLACK))
         self.assertEqual(self.mark(proxy), "up:0")
 
     def test_one_that_answers_too_late(self):
@@ -140,16 +143,19 @@ class BadServers(ServerTest):
         self.assertEqual(self.mark(proxy), "up:0")
 
     def test_one_that_says_more_than_it_was_asked(self):
+        said = threading.Semaphore(0)
+
         def chatter(connection, request):
             more = [b"END\r\n", b"ERROR\r\n", b"x"][len(self.server.requests) % 3]
             connection.sendall(values((key_of(request), b"near " + key_of(request))))
             time.sleep(0.02)
             connection.sendall(more)
+            said.release()
 
         proxy, client = self.before_memcached(chatter)
         for key in (b"a", b"b", b"c", b"d"):
             self.assertEqual(client.ask(b"get %s\r\n" % key), values((key, b"near " + key)))
-            time.sleep(0.2)
+            self.assertTrue(said.acquire(timeout=SLACK))
         self.assertEqual(self.mark(proxy), "up:0")
 
     def test_one_that_says_more_in_the_same_piece(self):
@@ -184,7 +190,7 @@ class BadServers(ServerTest):
             # The first after 0.1 s, each later one 0.2 s after the one before.
             seconds = wait_until(lambda: self.server.count(b"version") == 4, 10, "the probes come")
             self.assertGreater(seconds, 0.6)
-            self.assertLess(seconds, 0.7 + 4 * SLACK)
+            self.assertLess(seconds, 0.7 + SLACK)
             wait_until(lambda: self.mark(proxy) == "up:0", SLACK, "the mark is cleared")
             self.assertEqual(self.server.requests, [b"get a\r\n"] + [b"version\r\n"] * 4)
             with proxy.client() as later:

@@ -8,7 +8,7 @@ from talk import store, values
 
 VERSION = b"VERSION tkoproxy 1\r\n"
 # This machine has other work to do.
-SLACK = 2
+SLACK = 10
 
 
 class Descriptors(ServerTest):
@@ -35,7 +35,7 @@ class Descriptors(ServerTest):
             self.assertEqual(client.reply(), VERSION)
         # 32 clients are connected, each with one descriptor; the others wait in the system's queue.
         held = len(clients[:32]) + 4
-        wait_until(lambda: proxy.files() == held, 5, f"{held} files are open: {proxy.files()}")
+        wait_until(lambda: proxy.files() == held, 20, f"{held} files are open: {proxy.files()}")
         for client in clients[:4]:
             self.assertEqual(client.ask(store(b"a", b"x") + b"get a\r\n"), b"STORED\r\n")
             self.assertEqual(client.reply(), values((b"a", b"x")))
@@ -95,7 +95,7 @@ class Patience(ServerTest):
         self.assertIsNone(proxy.process.poll())
 
     def test_a_client_that_reads_slowly_gets_everything(self):
-        proxy = self.proxy(configuration(only=[self.memcached("-I", "2m")]), threads=1, write_timeout=500)
+        proxy = self.proxy(configuration(only=[self.memcached("-I", "2m")]), threads=1, write_timeout=1500)
         with proxy.client() as slow:
             slow.socket.setsockopt(socket.SOL_SOCKET, socket.SO_RCVBUF, 65536)
             self.assertEqual(slow.ask(store(b"a", b"x" * 1000000)), b"STORED\r\n")
@@ -104,24 +104,24 @@ class Patience(ServerTest):
             read, began = 0, time.monotonic()
             while chunk := slow.socket.recv(400000):
                 read += len(chunk)
-                time.sleep(0.05)
+                time.sleep(0.1)
             self.assertEqual(read, 8 * len(values((b"a", b"x" * 1000000))))
-            self.assertGreater(time.monotonic() - began, 0.5)
+            self.assertGreater(time.monotonic() - began, 1.5)
 
     def test_a_silent_client_leaves_its_worker(self):
-        proxy = self.proxy(configuration(only=[self.memcached()]), threads=1, idle_timeout=600)
+        proxy = self.proxy(configuration(only=[self.memcached()]), threads=1, idle_timeout=2000)
         with proxy.client() as silent:
             self.assertEqual(silent.ask(b"version\r\n"), VERSION)
             # What it sends in time keeps it connected.
             for _ in range(4):
-                time.sleep(0.3)
+                time.sleep(0.7)
                 self.assertEqual(silent.ask(b"version\r\n"), VERSION)
             silent.send(b"get ")
             with proxy.client() as other:
                 reply, seconds = other.timed(b"version\r\n")
                 self.assertEqual(reply, VERSION)
-                self.assertGreater(seconds, 0.4)
-                self.assertLess(seconds, 0.6 + SLACK)
+                self.assertGreater(seconds, 1)
+                self.assertLess(seconds, 2 + SLACK)
             self.assertEqual(silent.rest(), b"")
 
     def test_a_silent_client_stays_without_a_limit(self):

@@ -41,14 +41,14 @@ class Workers(ServerTest):
     def test_workers_overlap(self):
         def wait_for_b(_, request):
             if request == b"get a\r\n":
-                wait_until(lambda: b"get b\r\n" in server.requests, 5, "the other client's request comes")
+                wait_until(lambda: b"get b\r\n" in server.requests, 20, "the other client's request comes")
             return b"END\r\n"
 
         server = self.fake(wait_for_b)
-        proxy = self.proxy(configuration(only=[server]), threads=2, timeout=5000)
+        proxy = self.proxy(configuration(only=[server]), threads=2, timeout=30000)
         first, second = self.client(proxy.port), self.client(proxy.port)
         first.send(b"get a\r\n")
-        wait_until(lambda: server.requests, 5, "the first request comes")
+        wait_until(lambda: server.requests, 20, "the first request comes")
         self.assertEqual(second.ask(b"get b\r\n"), b"END\r\n")
         self.assertEqual(first.reply(), b"END\r\n")
 
@@ -98,7 +98,7 @@ class Ends(ServerTest):
                 client.send(b"get a b\r\n")
             for client in clients:
                 self.assertEqual(client.reply(), b"END\r\n")
-        wait_until(lambda: ill.count(b"version") >= 3, 5, "the marked server is probed")
+        wait_until(lambda: ill.count(b"version") >= 3, 20, "the marked server is probed")
         for client in clients:
             client.close()
         status, output = proxy.end()
@@ -142,7 +142,7 @@ class Holds(ServerTest):
         files = proxy.files()
         memory, tasks = proxy.status("VmRSS"), proxy.status("Threads")
         self.connect(proxy, 2000)
-        wait_until(lambda: proxy.files() <= files, 5, f"the files of before, {files}, are open, and no more")
+        wait_until(lambda: proxy.files() <= files, 20, f"the files of before, {files}, are open, and no more")
         self.assertEqual(proxy.status("Threads"), tasks)
         self.assertLess(proxy.status("VmRSS"), memory + 1024)
 
