@@ -63,12 +63,12 @@ def memcached(threads=4):
     return Target("memcached", ["memcached", "-l", HOST, "-p", str(port), "-U", "0", "-t", str(threads), *user], port)
 
 
-def tkoproxy(program, server, connections):
-    """With as many workers as there are connections."""
+def tkoproxy(name, program, server, connections):
+    """The program with as many workers as there are connections."""
     port = free_port()
     config = json.dumps({"pools": {"all": {"servers": [server]}}, "route": "PoolRoute|all"})
-    return Target("tkoproxy", [program, "serve", "--listen", f"{HOST}:{port}", "--config", config, "--threads",
-                               str(connections)], port)
+    return Target(name, [program, "serve", "--listen", f"{HOST}:{port}", "--config", config, "--threads",
+                         str(connections)], port)
 
 
 def nutcracker(server, folder):
