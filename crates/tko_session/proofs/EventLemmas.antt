@@ -1,6 +1,8 @@
 -- Laws of events: these and then those, and what a round leaves.
 use Rattle.std.proofs.Common.{◌≡◌, ℕ, zero, suc, ◌+◌, Bool, true, false, List, [], ◌∷◌, ◌++◌, Option, Some, None, refl, sym, ap, subst, ◌∙◌, cond, map, slice_set}
 use Rattle.std.proofs.lemmas.Grind.{flat_map-append}
+use Rattle.std.specs.List.{list_any}
+use Rattle.std.proofs.lemmas.List.Folds.{list_any-append}
 use Rattle.std.proofs.lemmas.List.Sums.{sum_by-append}
 use Rattle.tko_model.specs.Records.{HealthItem, Gains, Lead}
 use Rattle.tko_links.specs.Links.{LinksItem}
@@ -11,10 +13,10 @@ use Rattle.tko_prober.specs.declared.prober.Probed.TheVariants as probe
 use Rattle.tko_prober.specs.declared.prober.Prober.{Prober}
 use Rattle.tko_session.specs.declared.probers.ProbeSlot.{ProbeSlot}
 use Rattle.tko_session.specs.declared.probers.ProbeSlot.TheVariants.{Quiet, Marked, Probing}
-use Rattle.tko_session.specs.Events.{AreBegun, Event, IsRun, NoneMarked, idle_rounds, is_idle_round, owed_after, owed_from, owed_then, turn_in, turns_of, visits_in, visits_of}
+use Rattle.tko_session.specs.Events.{AreBegun, Event, IsRun, NoneMarked, NoneShort, idle_rounds, is_idle_round, owed_after, owed_from, owed_then, turn_in, turns_of, visits_in, visits_of}
 use Rattle.tko_session.specs.Probers.{begun_at, begun_slot, probed_of, slot_after, with_slot}
 use Rattle.tko_session.specs.Round as at_round
-use Rattle.tko_session.specs.Round.{Absent, IsRound, IsVisit, Rested, Stopped, Visit, is_probe, probes_in}
+use Rattle.tko_session.specs.Round.{Absent, IsRound, IsVisit, Rested, Stopped, Visit, is_probe, probes_in, ran_out}
 use Rattle.tko_session.specs.Turns.{Turn}
 
 pub turns-append : (events more : List Event) → turns_of (events ++ more) ≡ turns_of events ++ turns_of more
@@ -28,6 +30,12 @@ pub probes-append : (server : ℕ) (events more : List Event)
 probes-append server events more =
     ap (probes_in server) (visits-append events more)
     ∙ sum_by-append (λ visit. cond (is_probe server visit) 1 0) (visits_of events) (visits_of more)
+
+-- memory ran out in no round of these, and in none of those
+pub short-append : (events more : List Event) → NoneShort events → NoneShort more → NoneShort (events ++ more)
+short-append events more front back =
+    ap (list_any ran_out) (visits-append events more) ∙ list_any-append ran_out (visits_of events) (visits_of more)
+    ∙ rw (front, back) refl
 
 pub idles-append : (events more : List Event) → idle_rounds (events ++ more) ≡ idle_rounds events + idle_rounds more
 idles-append events more = sum_by-append (λ event. cond (is_idle_round event) 1 0) events more
@@ -102,7 +110,7 @@ module _ {H L T M : Type 0} {steps : H → HealthItem → H → Type 0} {grants 
   }
 
   -- after the round that was owed, if one was
-  pub begun_paid : {sent : L → ℕ → ℕ} {old new : Parts H L T M} (owes : Bool) → (owes ≡ false → NoneMarked old.probers)
-      → IsRun steps grants exchanges sent probed reads owes old new → NoneMarked new.probers
+  pub begun_paid : {sent : L → ℕ → ℕ} {old new : Parts H L T M} {short : Bool} (owes : Bool) → (owes ≡ false → NoneMarked old.probers)
+      → IsRun steps grants exchanges sent probed reads owes short old new → NoneMarked new.probers
   begun_paid true keeps run = round-begun run.ran.round
-  begun_paid false keeps run = rw run.ran (keeps refl)
+  begun_paid false keeps run = rw run.ran.same (keeps refl)

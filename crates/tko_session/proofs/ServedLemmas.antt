@@ -1,10 +1,10 @@
 -- Laws of a whole session: nothing yet, one delivery more, one piece more, the end.
-use Rattle.std.proofs.Common.{◌≡◌, ◌≢◌, ℕ, ◌+◌, ◌<◌, ◌^◌, List, [], ◌∷◌, ◌++◌, length, refl, sym, ap, subst, ◌∙◌, append_assoc, append-nil, length-append, arith, add-zero, Some, false}
+use Rattle.std.proofs.Common.{◌≡◌, ◌≢◌, ℕ, Bool, ◌+◌, ◌<◌, ◌^◌, List, [], ◌∷◌, ◌++◌, length, refl, sym, ap, subst, ◌∙◌, append_assoc, append-nil, length-append, arith, add-zero, Some, false}
 use Rattle.tko_model.specs.Records.{HealthItem}
-use Rattle.tko_model.proofs.RecordLemmas.{gains_append, gains_none}
+use Rattle.tko_model.proofs.RecordLemmas.{gains_append, gains_none, gains_one}
 use Rattle.tko_links.specs.Links.{LinksItem}
 use Rattle.tko_session.specs.declared.parts.Parts.{Parts}
-use Rattle.tko_text.specs.Reading.{Gives, Never, start}
+use Rattle.tko_text.specs.Reading.{Gives, Never, fed, start}
 use Rattle.tko_text.proofs.CuttingLemmas.{fed-fed}
 use Rattle.tko_text.proofs.GivesLemmas.{Gives-append, Gives-fed, Gives-none}
 use Rattle.tko_text.proofs.ReadingLemmas.{NeedsMore-failed}
@@ -14,7 +14,7 @@ use Rattle.tko_session.specs.declared.session.Report.{Report}
 use Rattle.tko_session.specs.Io.{Writes, capped}
 use Rattle.tko_session.specs.Events.{Event, IdleRound, IsEvent, Rounded, turns_of}
 use Rattle.tko_session.specs.TrailEvents.{TrailEvent}
-use Rattle.tko_session.specs.SessionState.{SessionState, Answered, AnsweredPart, ProgressIs, fed_state, fresh, items_of, probed_by, sent_by, text_of}
+use Rattle.tko_session.specs.SessionState.{SessionState, Answered, AnsweredPart, InSession, ProgressIs, fed_state, fresh, items_of, probed_by, sent_by, text_of}
 use Rattle.tko_session.specs.Served.{CameTooLong, Delivered, DeliveredPart, Served, ServedSoFar, StoppedByLine, StoppedByRead, StoppedByWrite, StoppedEarly, Transcript, at_end_of_input, at_quit}
 use Rattle.tko_session.proofs.EventLemmas.{idles-append, order-append}
 use Rattle.tko_session.proofs.NeverLemmas.{reading_goes_on}
@@ -117,6 +117,7 @@ module _ {O W : Type 0} {takes : O → List ℕ → O → Type 0} {step : W → 
           order = answered.turned.order;
           sends = answered.turned.sends;
           probes = answered.turned.probes;
+          memory = answered.turned.memory;
           requests = answered.turned.requests;
         };
         idle = answered.idles;
@@ -158,6 +159,7 @@ module _ {O W : Type 0} {takes : O → List ℕ → O → Type 0} {step : W → 
       order = delivered.turned.order;
       sends = delivered.turned.sends;
       probes = delivered.turned.probes;
+      memory = delivered.turned.memory;
       requests = delivered.turned.requests;
     };
     idle = delivered.idle;
@@ -277,6 +279,7 @@ module _ {I O W : Type 0} {gives : I → List ℕ → I → Type 0} {idled : I �
     idles = so_far.idles ∙ ap (λ n. idled reader + n) (sym so_far.delivered.idle);
     sends = so_far.delivered.turned.sends;
     probes = so_far.delivered.turned.probes;
+    memory = so_far.delivered.turned.memory;
     output = so_far.delivered.output.output;
   }
 
@@ -416,7 +419,7 @@ module _ {I O H L T M : Type 0} {gives : I → List ℕ → I → Type 0} {idled
   pub so_far_idle : ((x y z : I) (bytes more : List ℕ) → gives x bytes y → gives y more z → gives x (bytes ++ more) z)
       → {reader reader' reader'' : I} {writer writer' : O} {written : ℕ} {parts parts' parts'' : Parts H L T M} {at : SessionState}
       → ServedSoFar gives idled takes (IsEvent steps grants exchanges sent probed records reads) (sent_by sent) (probed_by probed) NeedsInput reader writer parts at reader' writer' written parts'
-      → gives reader' [] reader'' → idled reader'' ≡ idled reader' + 1 → Rounded steps grants exchanges sent probed reads parts' parts''
+      → gives reader' [] reader'' → idled reader'' ≡ idled reader' + 1 → Rounded steps grants exchanges sent probed reads false parts' parts''
       → ServedSoFar gives idled takes (IsEvent steps grants exchanges sent probed records reads) (sent_by sent) (probed_by probed) NeedsInput reader writer parts at reader'' writer' written parts''
   so_far_idle goes_in {reader} {reader'} {reader''} {writer} {writer'} {written} {parts} {parts'} {parts''} {at} so_far read idle rounded =
       let before = so_far.delivered in
@@ -441,4 +444,37 @@ module _ {I O H L T M : Type 0} {gives : I → List ℕ → I → Type 0} {idled
           owes = before.owes;
           progress_is = subst (λ xs. ProgressIs NeedsInput xs at.reading) (sym items) before.progress_is;
         };
+      }
+
+  -- the reader was idle, and memory ran out in the round
+  pub stopped_idle : ((x y z : I) (bytes more : List ℕ) → gives x bytes y → gives y more z → gives x (bytes ++ more) z)
+      → {short : Bool} {reader reader' reader'' : I} {writer writer' : O} {written : ℕ} {parts parts' parts'' : Parts H L T M} {at : SessionState}
+      → ServedSoFar gives idled takes (IsEvent steps grants exchanges sent probed records reads) (sent_by sent) (probed_by probed) NeedsInput reader writer parts at reader' writer' written parts'
+      → gives reader' [] reader'' → idled reader'' ≡ idled reader' + 1 → Rounded steps grants exchanges sent probed reads short parts' parts''
+      → StoppedEarly gives idled takes (IsEvent steps grants exchanges sent probed records reads) (sent_by sent) (probed_by probed) reader writer parts reader'' writer'
+  stopped_idle goes_in {short} {reader} {reader'} {reader''} {writer} {writer'} {written} {parts} {parts'} {parts''} {at} so_far read idle rounded =
+      let before = so_far.delivered in
+      let last : List Event = IdleRound rounded.round.visits ∷ [] in
+      let items : items_of (turns_of (before.events ++ last)) ≡ items_of (turns_of before.events) =
+      items-append before.events last ∙ append-nil (items_of (turns_of before.events)) in
+      let text : text_of (turns_of (before.events ++ last)) ≡ text_of (turns_of before.events) =
+      text-append before.events last ∙ append-nil (text_of (turns_of before.events)) in
+      let ended = in_session NeedsInput (items_of (turns_of before.events)) at.reading before.progress_is in
+      record {
+        bytes = so_far.bytes;
+        events = before.events ++ last;
+        left = at.reading;
+        reached = parts'';
+        owed = false;
+        input =
+            let all = goes_in reader reader' reader'' so_far.bytes [] so_far.input read in
+            subst (λ bytes. gives reader bytes reader'') (append-nil so_far.bytes) all;
+        items = subst (λ xs. Gives (fed start so_far.bytes) xs at.reading) (sym items) before.turned.gives;
+        gains = gains_append before.turned.gains (gains_one (record { short = short; round = rounded.round; visited = refl }));
+        order = order-append false at.owes false before.events last before.turned.order (rw before.owes refl);
+        in_session = subst InSession (sym items) ended;
+        front = text_of (turns_of before.events);
+        unwritten = [];
+        text = text ∙ sym (append-nil (text_of (turns_of before.events)));
+        output = before.output.output;
       }

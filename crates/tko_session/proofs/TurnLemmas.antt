@@ -3,6 +3,7 @@ use Rattle.std.proofs.Common.{◌≡◌, ◌≢◌, ℕ, ◌+◌, ◌<◌, lengt
 use Rattle.std.specs.Prelude.{MatchBool}
 use Rattle.std.proofs.lemmas.Bool.{cases_Bool}
 use Rattle.std.proofs.lemmas.Grind.{flat_map-append}
+use Rattle.std.specs.List.{list_any}
 use Rattle.std.proofs.lemmas.List.{map-append}
 use Rattle.std.proofs.lemmas.List.Sums.{sum_by-append}
 use Rattle.std.proofs.lemmas.List.Elements.{All-append, All-cons, All-nil}
@@ -21,8 +22,8 @@ use Rattle.tko_session.specs.TrailEvents.{TrailEvent}
 use Rattle.tko_text.specs.Reading.{Reading, Gives, NeedsMore, Emits}
 use Rattle.tko_route.specs.Trail.{sends_in}
 use Rattle.tko_session.specs.Replies.{trails_in}
-use Rattle.tko_session.specs.Events.{Answer, Event, IdleRound, IsEvent, IsRun, RoundAfter, Rounded, turns_of}
-use Rattle.tko_session.specs.Round.{probes_in}
+use Rattle.tko_session.specs.Events.{Answer, Event, IdleRound, IsEvent, IsRun, NoneRun, RoundAfter, Rounded, turns_of}
+use Rattle.tko_session.specs.Round.{probes_in, ran_out}
 use Rattle.tko_session.specs.Turns.{Turn, is_request}
 use Rattle.tko_session.specs.declared.session.Progress.{Progress}
 use Rattle.tko_session.specs.declared.session.Progress.TheVariants.{More, NeedsInput}
@@ -30,7 +31,7 @@ use Rattle.tko_session.specs.declared.session.Progress.TheVariants as progress
 use Rattle.tko_session.specs.Io.{capped}
 use Rattle.tko_session.specs.SessionState.{SessionState, Turned, Answered, AnsweredPart, Replied, Continues, EndsWith, GoesOn, InSession, ProgressIs, BeginBelowBound, probed_by, progress_after, progress_of, reply_bound, sent_by, items_of, text_of, trails_of, requests_in, sends_to, line_too_long, quit}
 use Rattle.tko_text.proofs.GivesLemmas.{Gives-none, Gives-one, Gives-append}
-use Rattle.tko_session.proofs.EventLemmas.{idles-append, order-append, probes-append, turns-append}
+use Rattle.tko_session.proofs.EventLemmas.{idles-append, order-append, probes-append, short-append, turns-append}
 use Rattle.tko_session.proofs.NeverLemmas.{ends_reading}
 
 pub items-append : (events more : List Event)
@@ -196,6 +197,21 @@ module _ {W : Type 0} {step : W → Event → W → Type 0} where
     outbox = same ∙ sym (append-nil old.outbox);
   }
 
+  -- the same part, of a session with the same outbox
+  part_with : {old mid new : SessionState} {before : W} → new.outbox ≡ mid.outbox
+      → AnsweredPart step old before mid → AnsweredPart step old before new
+  part_with same part = record {
+    events = part.events;
+    left = part.left;
+    reached = part.reached;
+    owed = part.owed;
+    gives = part.gives;
+    gains = part.gains;
+    order = part.order;
+    in_session = part.in_session;
+    outbox = same ∙ part.outbox;
+  }
+
 module _ {W : Type 0} {step : W → Event → W → Type 0} {sent probed : W → ℕ → ℕ} where
   pub turned_none : (at : SessionState) (world : W) → Turned step sent probed at world [] at world
   turned_none at world = record {
@@ -204,6 +220,7 @@ module _ {W : Type 0} {step : W → Event → W → Type 0} {sent probed : W →
     order = refl;
     sends = λ server. sym (add-zero (sent world server));
     probes = λ server. sym (add-zero (probed world server));
+    memory = refl;
     requests = ap capped (sym (add-zero at.requests));
   }
 
@@ -218,6 +235,7 @@ module _ {W : Type 0} {step : W → Event → W → Type 0} {sent probed : W →
     order = order-append old.owes mid.owes new.owes events more front.order back.order;
     sends = λ server. omega (arith, front.sends server, back.sends server, sends-append server events more);
     probes = λ server. omega (arith, front.probes server, back.probes server, probes-append server events more);
+    memory = short-append events more front.memory back.memory;
     requests =
         let more_than = capped-more old.requests mid.requests new.requests _ _ front.requests back.requests in
         more_than ∙ ap (λ n. capped (old.requests + n)) (sym (requests-append events more));
@@ -305,6 +323,7 @@ module _ {H L T M : Type 0} {steps : H → HealthItem → H → Type 0} {grants 
           rw (none, owes) refl;
       sends = λ server. sym (add-zero (sent world.links server));
       probes = λ server. sym (add-zero (probed world.links server));
+      memory = refl;
       requests = ap capped (ap (λ s. s.requests) e ∙ ap (λ s. s.requests) same ∙ sym (add-zero old.requests));
     };
     idles = refl;
@@ -334,6 +353,7 @@ module _ {H L T M : Type 0} {steps : H → HealthItem → H → Type 0} {grants 
           replied.sends server
           ∙ ap (λ trails. sent before.links server + sends_to server trails) (sym (append-nil (trails_in replied.routed)));
       probes = λ server. replied.probes server ∙ sym (add-zero (probed before.links server));
+      memory = refl;
       requests = replied.requests ∙ ap (λ s. capped (s.requests + 1)) same;
     };
     idles = refl;
@@ -347,12 +367,12 @@ module _ {H L T M : Type 0} {steps : H → HealthItem → H → Type 0} {grants 
 
   -- the round that was owed is an event
   turned_round : {mid new : SessionState} {between after : Parts H L T M} → mid.owes ≡ true
-      → (rounded : Rounded steps grants exchanges sent probed reads between after) → new ≡ record mid { owes = false }
+      → (rounded : Rounded steps grants exchanges sent probed reads false between after) → new ≡ record mid { owes = false }
       → Turned (IsEvent steps grants exchanges sent probed records reads) (sent_by sent) (probed_by probed) mid between
       (RoundAfter rounded.round.visits ∷ []) new after
   turned_round {mid} {new} {between} {after} owed rounded paid = record {
     gives = subst (Gives mid.reading []) (sym (ap (λ s. s.reading) paid)) (Gives-none mid.reading);
-    gains = gains_one (record { short = rounded.short; round = rounded.round; visited = refl });
+    gains = gains_one (record { short = false; round = rounded.round; visited = refl });
     order =
         let owes : new.owes ≡ false = ap (λ s. s.owes) paid in
         rw (owed, owes) refl;
@@ -360,13 +380,14 @@ module _ {H L T M : Type 0} {steps : H → HealthItem → H → Type 0} {grants 
     probes = λ server.
         rounded.round.probes server
         ∙ ap (λ visits. probed between.links server + probes_in server visits) (sym (append-nil rounded.round.visits));
+    memory = ap (list_any ran_out) (append-nil rounded.round.visits) ∙ sym rounded.round.memory;
     requests = ap capped (ap (λ s. s.requests) paid ∙ sym (add-zero mid.requests));
   }
 
   -- the round that was owed was run
   pub answered_round : {progress : Progress} {old mid new : SessionState} {before between after : Parts H L T M}
       → Answered (IsEvent steps grants exchanges sent probed records reads) (sent_by sent) (probed_by probed) progress old before mid between
-      → mid.owes ≡ true → Rounded steps grants exchanges sent probed reads between after → new ≡ record mid { owes = false }
+      → mid.owes ≡ true → Rounded steps grants exchanges sent probed reads false between after → new ≡ record mid { owes = false }
       → Answered (IsEvent steps grants exchanges sent probed records reads) (sent_by sent) (probed_by probed) progress old before new after
   answered_round {progress} {old} {mid} {new} {before} {between} {after} front owed rounded paid =
       let visits = rounded.round.visits in
@@ -388,30 +409,68 @@ module _ {H L T M : Type 0} {steps : H → HealthItem → H → Type 0} {grants 
   -- the round that was owed, if one was
   pub answered_paid : {progress : Progress} {old mid new : SessionState} {before between after : Parts H L T M}
       → Answered (IsEvent steps grants exchanges sent probed records reads) (sent_by sent) (probed_by probed) progress old before mid between
-      → IsRun steps grants exchanges sent probed reads mid.owes between after → new ≡ record mid { owes = false }
+      → IsRun steps grants exchanges sent probed reads mid.owes false between after → new ≡ record mid { owes = false }
       → Answered (IsEvent steps grants exchanges sent probed records reads) (sent_by sent) (probed_by probed) progress old before new after
   answered_paid {progress} {old} {mid} {new} {before} {between} {after} front run paid =
-      let P : Bool → Type 0 = λ owes. MatchBool owes (Rounded steps grants exchanges sent probed reads between after) (after ≡ between) in
+      let P : Bool → Type 0 = λ owes. MatchBool owes (Rounded steps grants exchanges sent probed reads false between after) (NoneRun false between after) in
       elim (cases_Bool mid.owes) [
         | inl owed ↦ answered_round front owed (subst P owed run.ran) paid
         | inr none ↦
             let same : new ≡ mid = paid ∙ sym (ap (λ owes. record mid { owes = owes }) none) in
-            let still : after ≡ between = subst P none run.ran in
+            let still : after ≡ between = (subst P none run.ran).same in
             rw (same, still) front
+      ]
+
+  -- the round that was owed was run, and memory ran out in it or did not
+  part_round : {progress : Progress} {short : Bool} {old mid new : SessionState} {before between after : Parts H L T M}
+      → Answered (IsEvent steps grants exchanges sent probed records reads) (sent_by sent) (probed_by probed) progress old before mid between
+      → mid.owes ≡ true → Rounded steps grants exchanges sent probed reads short between after → new.outbox ≡ mid.outbox
+      → AnsweredPart (IsEvent steps grants exchanges sent probed records reads) old before new
+  part_round {progress} {short} {old} {mid} {new} {before} {between} {after} front owed rounded same =
+      let last : List Event = RoundAfter rounded.round.visits ∷ [] in
+      let items : items_of (turns_of (front.events ++ last)) ≡ items_of (turns_of front.events) =
+      items-append front.events last ∙ append-nil (items_of (turns_of front.events)) in
+      let text : text_of (turns_of (front.events ++ last)) ≡ text_of (turns_of front.events) =
+      text-append front.events last ∙ append-nil (text_of (turns_of front.events)) in
+      let ended : InSession (items_of (turns_of front.events)) =
+      in_session progress (items_of (turns_of front.events)) mid.reading front.progress_is in
+      record {
+        events = front.events ++ last;
+        left = mid.reading;
+        reached = after;
+        owed = false;
+        gives = subst (λ xs. Gives old.reading xs mid.reading) (sym items) front.turned.gives;
+        gains = gains_append front.turned.gains (gains_one (record { short = short; round = rounded.round; visited = refl }));
+        order = order-append old.owes mid.owes false front.events last front.turned.order (rw owed refl);
+        in_session = subst InSession (sym items) ended;
+        outbox = same ∙ front.outbox ∙ ap (λ xs. old.outbox ++ xs) (sym text);
+      }
+
+  -- the same where a round was owed or none was
+  pub part_paid : {progress : Progress} {short : Bool} {old mid new : SessionState} {before between after : Parts H L T M}
+      → Answered (IsEvent steps grants exchanges sent probed records reads) (sent_by sent) (probed_by probed) progress old before mid between
+      → IsRun steps grants exchanges sent probed reads mid.owes short between after → new.outbox ≡ mid.outbox
+      → AnsweredPart (IsEvent steps grants exchanges sent probed records reads) old before new
+  part_paid {progress} {short} {old} {mid} {new} {before} {between} {after} front run same =
+      let P : Bool → Type 0 = λ owes. MatchBool owes (Rounded steps grants exchanges sent probed reads short between after) (NoneRun short between after) in
+      elim (cases_Bool mid.owes) [
+        | inl owed ↦ part_round front owed (subst P owed run.ran) same
+        | inr none ↦ part_with same (part_of front)
       ]
 
   -- the round at an idle turn is an event
   pub turned_idle : {at : SessionState} {between after : Parts H L T M} → at.owes ≡ false
-      → (rounded : Rounded steps grants exchanges sent probed reads between after)
+      → (rounded : Rounded steps grants exchanges sent probed reads false between after)
       → Turned (IsEvent steps grants exchanges sent probed records reads) (sent_by sent) (probed_by probed) at between
       (IdleRound rounded.round.visits ∷ []) at after
   turned_idle {at} {between} {after} none rounded = record {
     gives = Gives-none at.reading;
-    gains = gains_one (record { short = rounded.short; round = rounded.round; visited = refl });
+    gains = gains_one (record { short = false; round = rounded.round; visited = refl });
     order = rw none refl;
     sends = λ server. rounded.sends server ∙ sym (add-zero (sent between.links server));
     probes = λ server.
         rounded.round.probes server
         ∙ ap (λ visits. probed between.links server + probes_in server visits) (sym (append-nil rounded.round.visits));
+    memory = ap (list_any ran_out) (append-nil rounded.round.visits) ∙ sym rounded.round.memory;
     requests = ap capped (sym (add-zero at.requests));
   }

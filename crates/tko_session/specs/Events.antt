@@ -1,12 +1,13 @@
 -- What a session does, in order: it answers items, and runs rounds of its probers.
 use Rattle.std.specs.Prelude.{◌≡◌, ℕ, ◌+◌, Bool, true, false, List, [], ◌∷◌, count_by, flat_map, MatchBool, Option, Some, None}
+use Rattle.std.specs.List.{list_any}
 use Rattle.tko_model.specs.Records.{HealthItem}
 use Rattle.tko_links.specs.Links.{LinksItem}
 use Rattle.tko_session.specs.declared.parts.Parts.{Parts}
 use Rattle.tko_session.specs.declared.probers.ProbeSlot.{ProbeSlot}
 use Rattle.tko_session.specs.declared.probers.ProbeSlot.TheVariants.{Quiet, Marked, Probing}
 use Rattle.tko_session.specs.Probers.{ProbersState}
-use Rattle.tko_session.specs.Round.{IsRound, Visit, probes_in}
+use Rattle.tko_session.specs.Round.{IsRound, Visit, ran_out}
 use Rattle.tko_session.specs.TrailEvents.{TrailEvent}
 use Rattle.tko_session.specs.Turns.{Turn, IsTurn, is_request}
 
@@ -39,6 +40,10 @@ turns_of events = flat_map turn_in events
 -- the visits of all rounds
 abbrev pub visits_of : List Event → List Visit
 visits_of events = flat_map visits_in events
+
+-- memory ran out in no visit of these rounds
+abbrev pub NoneShort : List Event → Type 0
+NoneShort events = list_any ran_out (visits_of events) ≡ false
 
 -- how many rounds were run at idle turns
 abbrev pub idle_rounds : List Event → ℕ
@@ -76,19 +81,25 @@ module _ {H L T M : Type 0} (steps : H → HealthItem → H → Type 0) (grants 
   IsEvent old (RoundAfter visits) new = IsRoundOf visits old new
   IsEvent old (IdleRound visits) new = IsRoundOf visits old new
 
--- a round was run, and nothing was sent to a server but its probes
+-- a round was run, in which memory ran out or did not, and nothing was sent to a server but its
+-- probes
 pub record Rounded {H L T M : Type 0} (steps : H → HealthItem → H → Type 0)
     (grants : H → ℕ → Type 0) (exchanges : L → LinksItem → L → Type 0) (sent probed : L → ℕ → ℕ)
-    (reads : M → ℕ → M → Type 0) (old new : Parts H L T M) : Type 0 where
-  pub short : Bool
+    (reads : M → ℕ → M → Type 0) (short : Bool) (old new : Parts H L T M) : Type 0 where
   pub round : IsRound steps grants exchanges probed reads old short new
   pub sends : (server : ℕ) → sent new.links server ≡ sent old.links server
 
--- a round was run where one was owed, and else nothing was done
+-- nothing was done, for which no memory is needed
+pub record NoneRun {W : Type 0} (short : Bool) (old new : W) : Type 0 where
+  pub never_short : short ≡ false
+  pub same : new ≡ old
+
+-- a round was run where one was owed, and else nothing was done; memory ran out or did not
 pub record IsRun {H L T M : Type 0} (steps : H → HealthItem → H → Type 0)
     (grants : H → ℕ → Type 0) (exchanges : L → LinksItem → L → Type 0) (sent probed : L → ℕ → ℕ)
-    (reads : M → ℕ → M → Type 0) (owes : Bool) (old new : Parts H L T M) : Type 0 where
-  pub ran : MatchBool owes (Rounded steps grants exchanges sent probed reads old new) (new ≡ old)
+    (reads : M → ℕ → M → Type 0) (owes short : Bool) (old new : Parts H L T M) : Type 0 where
+  pub ran : MatchBool owes (Rounded steps grants exchanges sent probed reads short old new)
+      (NoneRun short old new)
 
 -- no server waits for its prober
 abbrev pub AreBegun : List ProbeSlot → Type 0

@@ -1,5 +1,6 @@
 -- What the clocks of the probers give.
-use Rattle.std.specs.Prelude.{◌≡◌, ◌≤◌, ℕ, List, [], ◌∷◌}
+use Rattle.std.specs.Prelude.{◌≡◌, ℕ, ◌-◌, ◌/◌, max, List, [], ◌∷◌, Option, Some, None, unwrap_or}
+use Rattle.tko_session.specs.Io.{capped}
 use Rattle.tko_session.specs.declared.moments.Still.{Still}
 
 -- moment 0, always
@@ -26,7 +27,30 @@ pub record IsListed (old : MomentList) (moment : ℕ) (new : MomentList) : Type 
   pub gives : moment ≡ next_of old.left old.last
   pub left : new ≡ record { left = after_first old.left; last = moment }
 
--- a moment at or after the last one, and the last one from then on
-pub record IsElapsed (old moment new : ℕ) : Type 0 where
-  pub later : old ≤ moment
-  pub last : new ≡ moment
+-- when a clock started, in nanoseconds, if it could be read since, and the last moment that it gave
+pub record ElapsedTime : Type 0 where
+  pub start : Option ℕ
+  pub last : ℕ
+
+-- milliseconds from one instant to another, both in nanoseconds
+abbrev pub millis_between : ℕ → ℕ → ℕ
+millis_between start now = capped ((now - start) / 1000000)
+
+-- the moment at this instant: milliseconds since the start, which is this instant where there is
+-- none yet, and never less than before
+abbrev pub elapsed_at : ElapsedTime → ℕ → ElapsedTime
+elapsed_at old now = record {
+  start = Some (unwrap_or old.start now);
+  last = max old.last (millis_between (unwrap_or old.start now) now);
+}
+
+-- the same where the clock could be read, and else as before
+abbrev pub elapsed_to : ElapsedTime → Option ℕ → ElapsedTime
+elapsed_to old None = old
+elapsed_to old (Some now) = elapsed_at old now
+
+-- the clock was read or could not be, and gave the moment of that instant
+pub record IsElapsed (old : ElapsedTime) (moment : ℕ) (new : ElapsedTime) : Type 0 where
+  pub now : Option ℕ
+  pub clock : new ≡ elapsed_to old now
+  pub gives : moment ≡ new.last

@@ -5,7 +5,7 @@ use Rattle.tko_text.specs.declared.item.Item.{Item}
 use Rattle.tko_text.specs.Reading.{Reading, Reads, Gives, NeedsMore, start, fed}
 use Rattle.tko_session.specs.declared.session.Progress.{Progress}
 use Rattle.tko_session.specs.declared.session.Report.{Report}
-use Rattle.tko_session.specs.Events.{Event, idle_rounds, owed_after, turns_of, visits_of}
+use Rattle.tko_session.specs.Events.{Event, NoneShort, idle_rounds, owed_after, turns_of, visits_of}
 use Rattle.tko_session.specs.Io.{Writes, capped}
 use Rattle.tko_session.specs.Round.{probes_in}
 use Rattle.tko_session.specs.SessionState.{SessionState, Turned, EndsWith, GoesOn, InSession, ProgressIs, fresh, fed_state, line_too_long, quit, items_of, text_of, trails_of, requests_in, sends_to}
@@ -22,7 +22,8 @@ module _ {I O W : Type 0} (gives : I → List ℕ → I → Type 0) (idled : I �
     (takes : O → List ℕ → O → Type 0) (step : W → Event → W → Type 0)
     (sent probed : W → ℕ → ℕ) where
   -- all that was read, each item of it and what became of it, the rounds, and all that was written:
-  -- each request is followed by its round, and there is a round for each idle turn of the reader
+  -- each request is followed by its round, there is a round for each idle turn of the reader, and
+  -- memory ran out in none of them
   pub record Transcript (reader : I) (writer : O) (parts : W)
       (reader' : I) (writer' : O) (parts' : W) : Type 0 where
     pub bytes : List ℕ
@@ -37,6 +38,7 @@ module _ {I O W : Type 0} (gives : I → List ℕ → I → Type 0) (idled : I �
         → sent parts' server ≡ sent parts server + sends_to server (trails_of (turns_of events))
     pub probes : (server : ℕ)
         → probed parts' server ≡ probed parts server + probes_in server (visits_of events)
+    pub memory : NoneShort events
     pub output : takes writer (text_of (turns_of events)) writer'
 
   -- everything was answered up to the end of the input, or to the `quit` that ended the session
@@ -85,6 +87,12 @@ module _ {I O W : Type 0} (gives : I → List ℕ → I → Type 0) (idled : I �
       (reader' : I) (writer' : O) : Type 0 where
     pub early : StoppedEarly reader writer parts reader' writer'
     pub counted : written ≡ capped (length early.front)
+
+-- neither end failed
+pub record IsCalm {I O : Type 0} (read_failures : I → ℕ) (write_failures : O → ℕ)
+    (reader : I) (writer : O) (reader' : I) (writer' : O) : Type 0 where
+  pub reads : read_failures reader' ≡ read_failures reader
+  pub writes : write_failures writer' ≡ write_failures writer
 
 -- the items of the bytes that were read end with a line too long
 pub record CameTooLong {I : Type 0} (gives : I → List ℕ → I → Type 0)

@@ -14,7 +14,7 @@ use Rattle.tko_route.specs.Trail.{sends_in}
 use Rattle.tko_session.specs.declared.parts.Parts.{Parts}
 use Rattle.tko_session.specs.declared.session.Progress.{Progress}
 use Rattle.tko_session.specs.declared.session.Progress.TheVariants as progress
-use Rattle.tko_session.specs.Events.{Event, idle_rounds, owed_after, turns_of, visits_of}
+use Rattle.tko_session.specs.Events.{Event, NoneShort, idle_rounds, owed_after, turns_of, visits_of}
 use Rattle.tko_session.specs.Io.{capped}
 use Rattle.tko_session.specs.TrailEvents.{TrailEvent}
 use Rattle.tko_session.specs.Replies.{RoutedKey, trails_in}
@@ -164,6 +164,7 @@ module _ {W : Type 0} (step : W → Event → W → Type 0) (sent probed : W →
         → sent after server ≡ sent before server + sends_to server (trails_of (turns_of events))
     pub probes : (server : ℕ)
         → probed after server ≡ probed before server + probes_in server (visits_of events)
+    pub memory : NoneShort events
     pub requests : capped new.requests
         ≡ capped (old.requests + requests_in (items_of (turns_of events)))
 

@@ -1,6 +1,8 @@
 //! The program's clock.
 ghost use Rattle.std.specs.Prelude.{◌≡◌};
-ghost use Rattle.tko_session.specs.Moments.{IsElapsed};
+ghost use Rattle.std.specs.Option.{option_map};
+ghost use Rattle.std.specs.Time.{instant_nanos};
+ghost use Rattle.tko_session.specs.Moments.{IsElapsed, elapsed_to, millis_between};
 
 use crate::Moments;
 use std::marker::Model;
@@ -9,7 +11,7 @@ use tko_links::IoRuntime;
 
 /// Milliseconds since it was made, or since the clock could first be read. It never goes back, and
 /// where the clock cannot be read it gives its last moment again, 0 before the first. Contracts see
-/// that last moment.
+/// the start, in nanoseconds of the clock, and the last moment.
 #[derive(Drop)]
 pub struct Elapsed {
     start: Option<Instant>,
@@ -17,16 +19,18 @@ pub struct Elapsed {
 }
 
 impl Model for Elapsed {
-    ghost use Rattle.std.specs.Prelude.{ℕ};
+    ghost use Rattle.std.specs.Option.{option_map};
+    ghost use Rattle.std.specs.Time.{instant_nanos};
+    ghost use Rattle.tko_session.specs.Moments.{ElapsedTime};
 
-    ghost Value = { ℕ };
+    ghost Value = { ElapsedTime };
 
-    ghost view = { λ e. e.last };
+    ghost view = { λ e. record { start = option_map instant_nanos e.start; last = e.last } };
 }
 
 impl Elapsed {
     pub fn new(clock: &impl Clock) -> Elapsed
-        ensures { result ≡ 0 }
+        ensures { result.last ≡ 0 }
     {
         Elapsed {
             start: Instant::now(clock).ok(),
@@ -38,18 +42,32 @@ impl Elapsed {
     pub(crate) fn read(&mut self, clock: &impl Clock) -> u64
         ensures { IsElapsed self.old result self.new }
     {
-        if let Ok(now) = Instant::now(clock) {
-            self.last = self.last.max(self.since_start(now));
+        self.move_to(Instant::now(clock).ok())
+    }
+
+    /// The moment at this instant, or the last one again where there is none.
+    fn move_to(&mut self, now: Option<Instant>) -> u64
+        ensures moment { result ≡ self.new.last }
+        ensures clock { self.new ≡ elapsed_to self.old (option_map instant_nanos now) }
+    {
+        if let Some(now) = now {
+            let start = self.start.unwrap_or(now);
+            self.start = Some(start);
+            self.last = self.last.max(millis_between(start, now));
         }
         self.last
     }
+}
 
-    /// Milliseconds from the start to this instant, which is the start if there is none yet.
-    fn since_start(&mut self, now: Instant) -> u64
-        ensures { self.new ≡ self.old }
-    {
-        let start = *self.start.get_or_insert(now);
-        u64::try_from(now.duration_since(start).as_millis()).unwrap_or(u64::MAX)
+/// Milliseconds from one instant to a later one; the greatest number means that many or more.
+fn millis_between(start: Instant, now: Instant) -> u64
+    ensures { result ≡ millis_between (instant_nanos start) (instant_nanos now) }
+{
+    let millis = now.duration_since(start).as_millis();
+    if millis < u128::from(u64::MAX) {
+        millis as u64
+    } else {
+        u64::MAX
     }
 }
 

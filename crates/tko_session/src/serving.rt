@@ -4,7 +4,7 @@ ghost use Rattle.tko_text.specs.Reading.{Never};
 ghost use Rattle.tko_session.specs.Io.{capped};
 ghost use Rattle.tko_session.specs.Events.{IsEvent, NoneMarked};
 ghost use Rattle.tko_session.specs.SessionState.{Reaches, fed_state, pause_of, probed_by, sent_by};
-ghost use Rattle.tko_session.specs.Served.{CameTooLong, Delivered, DeliveredPart, Served, StoppedByLine, StoppedByRead, StoppedByWrite, StoppedEarly};
+ghost use Rattle.tko_session.specs.Served.{CameTooLong, Delivered, DeliveredPart, IsCalm, Served, StoppedByLine, StoppedByRead, StoppedByWrite, StoppedEarly};
 
 use crate::{
     Inlet, Moments, Outlet, Parts, Piece, Progress, Report, Session, SessionFault, Trails,
@@ -49,9 +49,13 @@ pub fn serve<R: IoRuntime, I: Inlet, O: Outlet, H: Health, L: Links, T: Trails, 
         reader.old writer.old parts.old reader.new writer.new }
     // Each server that the session marked gets its prober, also where it ends by a fault.
     ensures begun { NoneMarked parts.old.probers → NoneMarked parts.new.probers }
-    // An end that failed ends the session.
+    // An end that failed ends the session, and is the fault that it ends with.
     ensures calm_reader { OnOk result (I.failures reader.new ≡ I.failures reader.old) }
     ensures calm_writer { OnOk result (O.failures writer.new ≡ O.failures writer.old) }
+    ensures calm_memory { IsErrOf result SessionFault.Memory
+        → IsCalm I.failures O.failures reader.old writer.old reader.new writer.new }
+    ensures calm_line { IsErrOf result SessionFault.LineTooLong
+        → IsCalm I.failures O.failures reader.old writer.old reader.new writer.new }
     ensures read_failed { IsErrOf result SessionFault.Read
         → I.failures reader.old < I.failures reader.new }
     ensures write_failed { (written : ℕ) → IsErrOf result (SessionFault.Write written)
@@ -118,6 +122,10 @@ fn serve_piece<R: IoRuntime, O: Outlet, H: Health, L: Links, T: Trails, M: Momen
         (fed_state session.old piece.now) writer.old written.old parts.old
         writer.new written.new) }
     ensures calm { OnOk result (O.failures writer.new ≡ O.failures writer.old) }
+    ensures calm_memory { IsErrOf result SessionFault.Memory
+        → O.failures writer.new ≡ O.failures writer.old }
+    ensures calm_line { IsErrOf result SessionFault.LineTooLong
+        → O.failures writer.new ≡ O.failures writer.old }
     ensures counted { (n : ℕ) → IsErrOf result (SessionFault.Write n) → n ≡ capped written.new }
     ensures failed { (n : ℕ) → IsErrOf result (SessionFault.Write n)
         → O.failures writer.old < O.failures writer.new }
@@ -160,6 +168,8 @@ fn deliver<R: IoRuntime, O: Outlet, H: Health, L: Links, T: Trails, M: Moments>(
         (IsEvent H.steps H.grants L.exchanges L.sent L.probed T.records M.reads)
         session.old writer.old written.old parts.old writer.new written.new) }
     ensures calm { OnOk result (O.failures writer.new ≡ O.failures writer.old) }
+    ensures calm_memory { IsErrOf result SessionFault.Memory
+        → O.failures writer.new ≡ O.failures writer.old }
     ensures counted { (n : ℕ) → IsErrOf result (SessionFault.Write n) → n ≡ capped written.new }
     ensures failed { (n : ℕ) → IsErrOf result (SessionFault.Write n)
         → O.failures writer.old < O.failures writer.new }

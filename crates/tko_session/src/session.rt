@@ -1,9 +1,10 @@
 //! One client's session between two pieces of its input.
-ghost use Rattle.std.specs.Prelude.{◌≡◌, ◌≢◌, ◌≤◌, ◌<◌, ◌↔◌, ◌++◌, [], false, true, Ok, OnOk, OnErr, IfOk, IfSome, IfNone, IsErrOf, length};
+ghost use Rattle.std.specs.Prelude.{◌≡◌, ◌≢◌, ◌≤◌, ◌<◌, ◌↔◌, ◌++◌, [], false, true, Ok, OnOk, OnErr, IfOk, IfSome, IfNone, IsErrOf, is_err, length};
 ghost use Rattle.std.specs.Option.{option_copied};
 ghost use Rattle.tko_text.specs.Reading.{Emits, NeedsMore, Never, fed};
 ghost use Rattle.tko_text.specs.Requests.{fault_text};
 ghost use Rattle.tko_session.specs.Events.{IsEvent, IsRun, NoneMarked};
+ghost use Rattle.tko_session.specs.Probers.{AreQuiet};
 ghost use Rattle.tko_session.specs.SessionState.{Answered, AnsweredPart, Reaches, Replied, fed_state, fresh, probed_by, progress_after, progress_of, reply_bound, sent_by};
 
 use crate::answering::answer;
@@ -142,6 +143,7 @@ impl Session {
         ensures err { OnErr result (AnsweredPart
             (IsEvent H.steps H.grants L.exchanges L.sent L.probed T.records M.reads)
             self.old parts.old self.new) }
+        ensures busy { OnOk result (self.new.owes ≡ true → ¬ AreQuiet parts.new.probers) }
         ensures begun { NoneMarked parts.old.probers → self.new.owes ≡ false
             → NoneMarked parts.new.probers }
         ensures reach { Reaches H.servers L.servers parts.new }
@@ -171,7 +173,7 @@ impl Session {
     ) -> Result<(), NoMemory>
         requires reach { Reaches H.servers L.servers parts.old }
         ensures round { IsRun H.steps H.grants L.exchanges L.sent L.probed M.reads self.old.owes
-            parts.old parts.new }
+            (is_err result) parts.old parts.new }
         ensures none_owed { self.new ≡ record self.old { owes = false } }
         ensures begun { self.old.owes ≡ true → NoneMarked parts.new.probers }
         ensures reach { Reaches H.servers L.servers parts.new }
@@ -201,6 +203,7 @@ impl Session {
         ensures err { OnErr result (AnsweredPart
             (IsEvent H.steps H.grants L.exchanges L.sent L.probed T.records M.reads)
             self.old parts.old self.new) }
+        ensures busy { OnOk result (self.new.owes ≡ true → ¬ AreQuiet parts.new.probers) }
         ensures begun { NoneMarked parts.old.probers → self.new.owes ≡ false
             → NoneMarked parts.new.probers }
         ensures reach { Reaches H.servers L.servers parts.new }

@@ -21,13 +21,14 @@ pub struct Taped {
 }
 
 impl Model for Taped {
-    ghost use Rattle.std.specs.Prelude.{drop, length, ◌<◌, ◌≤◌};
+    ghost use Rattle.std.specs.Prelude.{drop, length, vec_capacity, ◌<◌, ◌≤◌};
     ghost use Rattle.tko_session.specs.Tape.{Tape};
 
     ghost Value = { Tape };
 
     ghost view = { λ t. record {
       bytes = t.bytes.items;
+      room = vec_capacity t.bytes;
       left = drop t.given t.bytes.items;
       greatest = t.greatest;
       stops = t.stops.items;
@@ -40,12 +41,13 @@ impl Model for Taped {
 }
 
 impl Taped {
+    ghost use Rattle.std.specs.Prelude.{vec_capacity};
     ghost use Rattle.tko_session.specs.Tape.{stop_of, tape_of};
 
     /// Calls are numbered from 0, reads and writes alike.
     pub fn new(bytes: Vec<u8>, greatest: usize, stops: Vec<(u64, Stop)>) -> Taped
         requires { 0 < greatest }
-        ensures { result ≡ tape_of bytes.items greatest stops.items }
+        ensures { result ≡ tape_of bytes.items (vec_capacity bytes) greatest stops.items }
     {
         Taped {
             bytes,
@@ -153,6 +155,7 @@ impl Outlet for Taped {
         ensures never_idle { result ≢ Err Stop.Idle }
         ensures others { self.new ≡ record self.old {
           bytes = self.new.bytes;
+          room = self.new.room;
           left = self.new.left;
           calls = self.old.calls + 1;
           failures = self.new.failures;

@@ -4,7 +4,7 @@ use Rattle.tko_session.specs.Io.{Writes}
 use Rattle.tko_session.proofs.EventLemmas.{begun_paid}
 use Rattle.tko_session.proofs.ResultLemmas.{either_way, on_err}
 use Rattle.tko_session.proofs.ServedLemmas.{delivered_of, part_delivered}
-use Rattle.tko_session.proofs.TurnLemmas.{answered_paid, part_of}
+use Rattle.tko_session.proofs.TurnLemmas.{answered_paid, part_of, part_paid}
 use Rattle.tko_session.proofs.serving.deliver.Goals as goal
 
 pub returns-then-not-wrote-clause-err : goal.returns-then-not-wrote-clause-err
@@ -37,7 +37,7 @@ returns-in_err-rounded-clause-err g c =
     let run = c.run_owed_round-rounded.ensures in
     let text = c.outbox.result.now in
     let same = ap (λ s. s.outbox) run.none_owed ∙ sym c.outbox.ensures in
-    on_err _ (part_delivered text [] (part_of (answered_paid {records = g.T.Trails.records} c.in_ok-progress.ensures.ok run.round run.none_owed)) c.requires.outbox
+    on_err _ (part_delivered text [] (part_paid {records = g.T.Trails.records} {new = c.run_owed_round-rounded.new.self} c.in_ok-progress.ensures.ok run.round (ap (λ s. s.outbox) run.none_owed)) c.requires.outbox
     (same ∙ sym (append-nil text)) wrote)
 
 pub returns-in_err-rounded-clause-begun : goal.returns-in_err-rounded-clause-begun
@@ -47,7 +47,7 @@ returns-in_err-rounded-clause-begun g c = λ begun.
 pub returns-clause-ok : goal.returns-clause-ok
 returns-clause-ok g c =
     let wrote = rw c.if-not-wrote.false at c.write_all-wrote.ensures.all in
-    let run = c.run_owed_round-rounded.ensures in
+    let run = c.in_ok-rounded.ensures in
     let same = ap (λ s. s.outbox) run.none_owed ∙ sym c.outbox.ensures in
     let text = subst (λ text. Writes g.O.Outlet.takes c.args.writer.now text c.write_all-wrote.new.writer c.args.written.now c.write_all-wrote.new.written)
     (sym same) wrote in

@@ -5,7 +5,7 @@ use Rattle.tko_session.proofs.TurnLemmas.{answered_none, answered_append, part_a
 use Rattle.tko_session.proofs.session.Session.answer.Goals as goal
 
 pub loop-init : goal.loop-init
-loop-init g c = (answered_none c.args.self.now c.args.parts.now, c.requires.reach, λ begun none. begun)
+loop-init g c = (answered_none c.args.self.now c.args.parts.now, c.requires.reach, λ begun none. begun, λ owed. cc)
 
 pub returns-in_err-answer_next-clause-err : goal.returns-in_err-answer_next-clause-err
 returns-in_err-answer_next-clause-err g c =
@@ -17,6 +17,7 @@ loop-preserved g c =
       answered_append c.loop.invariant.0 more,
       c.in_ok-answer_next.ensures.reach,
       λ begun none. c.in_ok-answer_next.ensures.begun (c.loop.invariant.2 begun (sym (ap (λ (s : SessionState). s.owes) c.self.view_is) ∙ c.if-self.false)) none,
+      c.in_ok-answer_next.ensures.busy,
     )
 
 pub returns-in-NeedsInput-clause-ok : goal.returns-in-NeedsInput-clause-ok

@@ -1,6 +1,7 @@
 use Rattle.tko_session.specs.declared.session.Progress.TheVariants.{More}
-use Rattle.std.proofs.Common.{◌≡◌, false}
+use Rattle.std.proofs.Common.{◌≡◌, false, true}
 use Rattle.tko_session.specs.Events.{IsEvent, NoneMarked}
+use Rattle.tko_session.specs.Probers.{AreQuiet}
 use Rattle.tko_session.specs.SessionState.{Answered, Reaches, probed_by, sent_by}
 use Rattle.tko_session.proofs.session.Session.answer.Given as goal
 
@@ -10,3 +11,4 @@ invariant-loop g l =
     (sent_by g.L.Links.sent) (probed_by g.L.Links.probed) More l.fn.self l.fn.parts l.self l.parts
     × Reaches g.H.Health.servers g.L.Links.servers l.parts
     × (NoneMarked l.fn.parts.probers → l.self.owes ≡ false → NoneMarked l.parts.probers)
+    × (l.self.owes ≡ true → ¬ AreQuiet l.parts.probers)

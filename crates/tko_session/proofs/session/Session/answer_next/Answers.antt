@@ -1,7 +1,7 @@
 use Rattle.std.proofs.Common.{ap, ◌∙◌}
 use Rattle.tko_text.specs.Reading.{NeedsMore}
 use Rattle.tko_session.proofs.ResultLemmas.{both_ok, on_err, on_errs}
-use Rattle.tko_session.proofs.TurnLemmas.{answered_fault, answered_open, answered_paid, answered_request, part_none, part_of}
+use Rattle.tko_session.proofs.TurnLemmas.{answered_fault, answered_open, answered_paid, answered_request, part_none, part_paid}
 use Rattle.tko_session.proofs.session.Session.answer_next.Goals as goal
 
 pub returns-in_err-next-clause-err : goal.returns-in_err-next-clause-err
@@ -57,9 +57,9 @@ returns-in_err-run_owed_round-in-Some-Request-clause-err g c =
     let request_told = rw c.in-Some-Request.field-0-is at told in
     let replied = c.in_ok-progress-in-Some-Request.ensures in
     let run = c.in_err-run_owed_round-in-Some-Request.ensures in
-    on_err _ (part_of (answered_paid {records = g.T.Trails.records}
+    on_err _ (part_paid {records = g.T.Trails.records}
     (answered_request {reads = g.M.Moments.reads} _ _ _ _ _ _ _ request_told c.in_ok-next.ensures.others replied.ok replied.progress c.requires.owes c.requires.room)
-    run.round run.none_owed))
+    run.round (ap (λ s. s.outbox) run.none_owed))
 
 pub returns-in_ok-run_owed_round-in-Some-Request-clause-ok : goal.returns-in_ok-run_owed_round-in-Some-Request-clause-ok
 returns-in_ok-run_owed_round-in-Some-Request-clause-ok g c =
