@@ -1,5 +1,6 @@
 pub mod AllowsLemmas
 pub mod BeginLemmas
+pub mod ChangeLemmas
 pub mod EffectLemmas
 pub mod EnrolLemmas
 pub mod HistoryLemmas
