@@ -33,7 +33,7 @@ swapped one two three =
     (subst Q (append_assoc two one three)
     (IsPermutation-append_left three (one ++ two) (two ++ one) (IsPermutation-append_comm one two)))
 
-taken-out : (views : List (List Pass)) (other : ℕ) (view : List Pass) → get_elem? views other ≡ some view
+pub taken-out : (views : List (List Pass)) (other : ℕ) (view : List Pass) → get_elem? views other ≡ some view
     → IsPermutation (joined views) (view ++ joined (set views other []))
 taken-out [] other view e = absurd (some-ne-none view (sym e))
 taken-out (first ∷ views) zero view e =

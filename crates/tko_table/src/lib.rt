@@ -13,6 +13,7 @@
 
 #![tactic(auto)]
 
+mod closed;
 mod pass;
 mod plays;
 mod rule;
@@ -20,6 +21,7 @@ mod steps;
 mod values;
 mod words;
 
+pub use closed::ClosedWords;
 pub use pass::{Change, Made, Pass, Seat, View};
 pub use rule::Kept;
 pub use words::Words;
