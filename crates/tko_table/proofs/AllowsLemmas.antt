@@ -84,8 +84,12 @@ taken-look s words new_words views id pass call phase found kept there op begins
       takes = record {
         shared = takes.shared;
         between = takes.between;
+        others = takes.others;
+        drawn = takes.drawn;
         found = takes.found;
         reads = takes.reads;
+        settled = takes.settled;
+        limit = takes.limit;
         left = takes.left;
         own = takes.own;
         gained = takes.gained;

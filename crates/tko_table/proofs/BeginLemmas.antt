@@ -18,8 +18,8 @@ use Rattle.tko_steps.specs.Invariant.{IsCore}
 use Rattle.tko_steps.proofs.CoreLemmas.{IsCore-after_begin}
 use Rattle.tko_model.specs.Tracker.{server_at}
 use Rattle.tko_table.specs.declared.pass.Pass.{Pass}
-use Rattle.tko_table.specs.History.{Begins}
-use Rattle.tko_table.specs.Passes.{OwnsItsMarks, is_marked_by}
+use Rattle.tko_table.specs.History.{Begins, changes_in}
+use Rattle.tko_table.specs.Passes.{IsTold, OwnsItsMarks, TellsItsChanges, is_marked_by, pending}
 use Rattle.tko_table.specs.Rule.{IsKept, IsPlanned, core_in, joined, shared_in, states_of}
 use Rattle.tko_table.proofs.JoinedLemmas.{IsOneOf, one-joined}
 
@@ -31,6 +31,13 @@ module _ (s : Settings) (words : List ℕ) (views : List (List Pass)) (id : ℕ)
     (kept : IsKept s words views) (there : get_elem? views id ≡ some (before ++ pass ∷ rest)) (on_server : server < length (shared_in words).servers) where
   one : IsOneOf (joined views) pass (λ new. joined (set views id (before ++ new ∷ rest)))
   one = one-joined views id before rest pass there
+
+  -- a call that begins has made no change
+  begins-told : (number : ℕ) → pass.state ≡ Idle number → TellsItsChanges kept.history (with_state pass (InCall (begun_by number op server) Start))
+  begins-told number stands =
+      let mine = subst (TellsItsChanges kept.history) (one.at pass) (kept.told.mine one.place pass one.inside) in
+      let told = subst (λ drew. IsTold drew kept.history pass) (ap number_of stands) mine in
+      (told.0 ∙ ap (λ state. changes_in number pass.mine ++ pending state) stands, told.1)
 
   begun-Idle : (number : ℕ) → pass.state ≡ Idle number
       → IsKept s words (set views id (before ++ with_state pass (InCall (begun_by number op server) Start) ∷ rest))
@@ -68,6 +75,9 @@ module _ (s : Settings) (words : List ℕ) (views : List (List Pass)) (id : ℕ)
               (subst (λ (at : Pass). Begins at.seen kept.history) (one.at pass) (kept.told.seen one.place pass one.inside)) kept.told.seen);
           planned = subst (All (λ (at : Pass). IsPlanned s at.state)) (sym (one.sets new))
               (All-set (λ (at : Pass). IsPlanned s at.state) passes one.place new tt kept.told.planned);
+          drawn = kept.told.drawn;
+          mine = subst (All (TellsItsChanges kept.history)) (sym (one.sets new))
+              (All-set (TellsItsChanges kept.history) passes one.place new (begins-told number stands) kept.told.mine);
         };
       }
 
@@ -79,7 +89,7 @@ module _ (s : Settings) (words : List ℕ) (views : List (List Pass)) (id : ℕ)
   begun-from (InCall own at) call phase stands begins =
       let is : pass.state ≡ InCall call phase = stands ∙ begins in
       let same : pass ≡ with_state pass (InCall call phase) =
-      λ i. record { state = is i; owned = pass.owned; steps = pass.steps; seen = pass.seen; settings = pass.settings } in
+      λ i. record { state = is i; owned = pass.owned; steps = pass.steps; seen = pass.seen; mine = pass.mine; decided_at = pass.decided_at; settings = pass.settings } in
       subst (IsKept s words)
       (sym (set_again views id (before ++ pass ∷ rest) there) ∙ ap (λ (it : Pass). set views id (before ++ it ∷ rest)) same)
       kept

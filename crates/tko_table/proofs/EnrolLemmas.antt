@@ -2,7 +2,7 @@
 use Rattle.std.proofs.Common.{◌≡◌, ℕ, zero, suc, ◌+◌, ◌%◌, ◌^◌, ◌<◌, ◌≤◌, false, List, [], ◌∷◌, ◌++◌, length, get_or, set, All, Some, count_by, refl, sym, ap, ◌∙◌, subst, inl, inr, arith}
 use Rattle.std.proofs.lemmas.Bool.{cases_Bool, cond-false, cond-true, ne_eqb}
 use Rattle.std.proofs.lemmas.List.{get_or-map, length-append, length-map, map-set}
-use Rattle.std.proofs.lemmas.List.Elements.{All-cons, All-head, All-nil, All-set, All-tail}
+use Rattle.std.proofs.lemmas.List.Elements.{All-cons, All-head, All-nil, All-set, All-tail, All-weaker}
 use Rattle.std.proofs.lemmas.List.Sums.{sum_by-cons}
 use mathlib.Core.Option.{some, some-injective, some-ne-none}
 use lib.ListN.{get_elem?}
@@ -21,11 +21,12 @@ use Rattle.tko_steps.proofs.CountLemmas.{bit}
 use Rattle.tko_steps.proofs.ThreadLemmas.{enrolled-lt}
 use Rattle.tko_table.specs.declared.pass.Change.{Change}
 use Rattle.tko_table.specs.declared.pass.Pass.{Pass}
-use Rattle.tko_table.specs.History.{Begins, Replays}
-use Rattle.tko_table.specs.Passes.{OwnsItsMarks, count_enrolled, enrol_first, enrolled_pass, is_marked_by}
+use Rattle.tko_table.specs.History.{Begins, Replays, changes_in}
+use Rattle.tko_table.specs.Passes.{IsTold, OwnsItsMarks, TellsItsChanges, count_enrolled, enrol_first, enrolled_pass, is_marked_by}
 use Rattle.tko_table.specs.Rule.{IsKept, IsPlanned, core_in, enrolment_place, joined, shared_in, states_of}
 use Rattle.tko_table.specs.Steps.{Enrolled}
 use Rattle.tko_table.proofs.AllowsLemmas.{Rule, Seat}
+use Rattle.tko_table.proofs.ChangeLemmas.{none-made}
 use Rattle.tko_table.proofs.HistoryLemmas.{Begins-all}
 use Rattle.tko_table.proofs.JoinedLemmas.{IsOneOf, one-joined}
 use Rattle.tko_table.proofs.SharedLemmas.{health-enrolled, shared-enrolled}
@@ -185,6 +186,11 @@ module _ (s : Settings) (words : List ℕ) (views : List (List Pass)) (id : ℕ)
       let same_servers : servers ≡ (shared_in new_words).servers = sym (ap (λ (it : Shared). it.servers) shared) in
       let owned : OwnsItsMarks servers pass =
       subst (OwnsItsMarks servers) (one.at pass) (kept.core.owned one.place pass one.inside) in
+      let no_call : pass.mine ≡ [] =
+      subst (λ drew. IsTold drew kept.history pass) (ap number_of waits)
+      (subst (TellsItsChanges kept.history) (one.at pass) (kept.told.mine one.place pass one.inside)) in
+      let told : TellsItsChanges kept.history new =
+      (none-made number kept.history kept.told.drawn ∙ ap (λ mine. changes_in number mine ++ []) (sym no_call), refl) in
       let owned_now : OwnsItsMarks servers new = λ at.
       owned at ∙ ap (λ state. is_marked_by (number_of state) (server_at servers at).mark) waits
       ∙ sym (undrawn number (server_at servers at).mark (λ other mine. kept.core.core.owners at other mine)) in
@@ -205,6 +211,12 @@ module _ (s : Settings) (words : List ℕ) (views : List (List Pass)) (id : ℕ)
               (All-set (λ (at : Pass). Begins at.seen kept.history) passes one.place new (Begins-all kept.history) kept.told.seen);
           planned = subst (All (λ (at : Pass). IsPlanned s at.state)) (sym (one.sets new))
               (All-set (λ (at : Pass). IsPlanned s at.state) passes one.place new tt kept.told.planned);
+          drawn = subst (λ enrolled. All (λ (change : Change). change.number < enrolled) kept.history)
+              (sym (ap (λ (it : Shared). it.enrolled) shared))
+              (All-weaker (λ (change : Change). change.number < number) (λ (change : Change). change.number < number + 1)
+              (λ change less. omega (arith, less)) kept.history kept.told.drawn);
+          mine = subst (All (TellsItsChanges kept.history)) (sym (one.sets new))
+              (All-set (TellsItsChanges kept.history) passes one.place new told kept.told.mine);
         };
       }
 

@@ -1,22 +1,24 @@
 -- Two seats are joined: the first has the passes of both, each of which has then seen what any of them had seen.
-use Rattle.std.proofs.Common.{◌≡◌, ℕ, zero, suc, ltb, List, [], ◌∷◌, ◌++◌, map, length, set, All, refl, sym, ap, ◌∙◌, subst}
+use Rattle.std.proofs.Common.{◌≡◌, ℕ, zero, suc, ◌≤◌, arith, ltb, List, [], ◌∷◌, ◌++◌, map, length, set, All, refl, sym, ap, ◌∙◌, subst}
 use Rattle.std.specs.List.Sorted.{IsPermutation}
-use Rattle.std.proofs.lemmas.Bool.{cond_both}
+use Rattle.std.proofs.lemmas.Bool.{cond_both, ltb-false, ltb-true}
 use Rattle.std.proofs.lemmas.List.{append_assoc, map-append}
-use Rattle.std.proofs.lemmas.List.Elements.{All-append, All-cons, All-head, All-nil, All-tail}
+use Rattle.std.proofs.lemmas.List.Elements.{All-append, All-cons, All-head, All-nil, All-tail, All-weaker}
 use Rattle.std.proofs.lemmas.List.Sorted.{IsPermutation-append_comm, IsPermutation-append_left, IsPermutation-append_right, IsPermutation-refl, IsPermutation-trans}
 use mathlib.Core.Option.{some, some-injective, some-ne-none}
 use lib.ListN.{get_elem?}
 use Rattle.atomic_table.proofs.Lists.{set_else, set_here}
 use Rattle.atomic_table.specs.Table.{Joins}
 use Rattle.tko_model.specs.declared.settings.Settings.{Settings}
+use Rattle.tko_steps.specs.Core.{number_of}
 use Rattle.tko_steps.specs.Invariant.{IsCore}
 use Rattle.tko_table.specs.declared.pass.Change.{Change}
 use Rattle.tko_table.specs.declared.pass.Pass.{Pass}
 use Rattle.tko_table.specs.History.{Begins}
-use Rattle.tko_table.specs.Passes.{OwnsItsMarks, longest_seen, raised, with_seen}
+use Rattle.tko_table.specs.Passes.{OwnsItsMarks, TellsItsChanges, longest_seen, raised, with_seen}
 use Rattle.tko_table.specs.Rule.{IsKept, IsPlanned, core_in, joined, shared_in, states_of}
 use Rattle.tko_table.proofs.AllowsLemmas.{Rule, there-lt}
+use Rattle.tko_table.proofs.ChangeLemmas.{told-seen}
 use Rattle.tko_table.proofs.EnrolLemmas.{All-left, All-right, seen-view}
 use Rattle.tko_table.proofs.SplitLemmas.{kept-permuted}
 
@@ -31,7 +33,7 @@ swapped one two three =
     (subst Q (append_assoc two one three)
     (IsPermutation-append_left three (one ++ two) (two ++ one) (IsPermutation-append_comm one two)))
 
-taken-out : (views : List (List Pass)) (other : ℕ) (view : List Pass) → get_elem? views other ≡ some view
+pub taken-out : (views : List (List Pass)) (other : ℕ) (view : List Pass) → get_elem? views other ≡ some view
     → IsPermutation (joined views) (view ++ joined (set views other []))
 taken-out [] other view e = absurd (some-ne-none view (sym e))
 taken-out (first ∷ views) zero view e =
@@ -112,9 +114,22 @@ each-raised P history (pass ∷ passes) keeps all =
     All-cons P (with_seen history pass) (map (with_seen history) passes) (keeps pass (All-head P pass passes all))
     (each-raised P history passes keeps (All-tail P pass passes all))
 
+-- each pass then tells the same
+each-told : (history seen : List Change) (passes : List Pass) → Begins seen history → All (λ (pass : Pass). length pass.seen ≤ length seen) passes
+    → All (λ (pass : Pass). Begins pass.seen history) passes → All (TellsItsChanges history) passes
+    → All (TellsItsChanges history) (map (with_seen seen) passes)
+each-told history seen [] sees_all long sees told = All-nil (TellsItsChanges history)
+each-told history seen (pass ∷ passes) sees_all long sees told =
+    let Long : Pass → Type 0 = λ (it : Pass). length it.seen ≤ length seen in
+    let Sees : Pass → Type 0 = λ (it : Pass). Begins it.seen history in
+    All-cons (TellsItsChanges history) (with_seen seen pass) (map (with_seen seen) passes)
+    (told-seen (number_of pass.state) history seen pass (with_seen seen pass) refl refl refl (All-head Sees pass passes sees) sees_all
+    (All-head Long pass passes long) (All-head (TellsItsChanges history) pass passes told))
+    (each-told history seen passes sees_all (All-tail Long pass passes long) (All-tail Sees pass passes sees) (All-tail (TellsItsChanges history) pass passes told))
+
 kept-raised : (s : Settings) (words : List ℕ) (views : List (List Pass)) (id : ℕ) (view : List Pass) (history : List Change) (kept : IsKept s words views)
-    → get_elem? views id ≡ some view → Begins history kept.history → IsKept s words (set views id (map (with_seen history) view))
-kept-raised s words views id view history kept there begins =
+    → get_elem? views id ≡ some view → Begins history kept.history → All (λ (pass : Pass). length pass.seen ≤ length history) view → IsKept s words (set views id (map (with_seen history) view))
+kept-raised s words views id view history kept there begins long =
     let threads = joined-states views id view history there in
     let new = map (with_seen history) view in
     let core_is : core_in s words (joined (set views id new)) ≡ core_in s words (joined views) =
@@ -123,6 +138,7 @@ kept-raised s words views id view history kept there begins =
     let Under : Pass → Type 0 = λ pass. pass.settings ≡ s in
     let Sees : Pass → Type 0 = λ pass. Begins pass.seen kept.history in
     let Plans : Pass → Type 0 = λ pass. IsPlanned s pass.state in
+    let Tells : Pass → Type 0 = TellsItsChanges kept.history in
     record {
       core = record {
         valid = kept.core.valid;
@@ -139,6 +155,10 @@ kept-raised s words views id view history kept there begins =
             (each-raised Sees history view (λ pass sees. begins) (seen-view Sees views id view there kept.told.seen)) kept.told.seen;
         planned = each-joined Plans views id view new there
             (each-raised Plans history view (λ pass plans. plans) (seen-view Plans views id view there kept.told.planned)) kept.told.planned;
+        drawn = kept.told.drawn;
+        mine = each-joined Tells views id view new there
+            (each-told kept.history history view begins long (seen-view Sees views id view there kept.told.seen)
+            (seen-view Tells views id view there kept.told.mine)) kept.told.mine;
       };
     }
 
@@ -150,6 +170,21 @@ longest-begins history (pass ∷ passes) all =
     let rest = longest_seen passes in
     cond_both (ltb (length rest) (length pass.seen)) pass.seen rest (λ it. Begins it history)
     (λ e. All-head Sees pass passes all) (λ e. longest-begins history passes (All-tail Sees pass passes all))
+
+longest-le : (passes : List Pass) → All (λ (pass : Pass). length pass.seen ≤ length (longest_seen passes)) passes
+longest-le [] = All-nil (λ (pass : Pass). length pass.seen ≤ 0)
+longest-le (pass ∷ passes) =
+    let rest = longest_seen passes in
+    let test = ltb (length rest) (length pass.seen) in
+    cond_both test pass.seen rest (λ it. All (λ (at : Pass). length at.seen ≤ length it) (pass ∷ passes))
+    (λ e.
+    let less = ltb-true (length rest) (length pass.seen) e in
+    All-cons (λ (at : Pass). length at.seen ≤ length pass.seen) pass passes (omega arith)
+    (All-weaker (λ (at : Pass). length at.seen ≤ length rest) (λ (at : Pass). length at.seen ≤ length pass.seen)
+    (λ at le. omega (arith, le, less)) passes (longest-le passes)))
+    (λ e.
+    let le = ltb-false (length rest) (length pass.seen) e in
+    All-cons (λ (at : Pass). length at.seen ≤ length rest) pass passes (omega (arith, le)) (longest-le passes))
 
 -- ---- the rule
 
@@ -176,4 +211,4 @@ joins s id other view more state kept at apart at_other =
     set_else (set views id both) other id [] (λ same. apart (sym same)) ∙ set_here views id both (there-lt views id view at) in
     let seen = seen-view (λ (pass : Pass). Begins pass.seen kept_one.history) views_one id both at_one kept_one.told.seen in
     subst (IsKept s state.words) (set_apart views id other both [] (raised both) apart)
-    (kept-raised s state.words views_one id both (longest_seen both) kept_one at_one (longest-begins kept_one.history both seen))
+    (kept-raised s state.words views_one id both (longest_seen both) kept_one at_one (longest-begins kept_one.history both seen) (longest-le both))

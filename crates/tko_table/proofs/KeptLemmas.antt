@@ -1,8 +1,9 @@
 -- The rule is kept by the step of a call.
-use Rattle.std.proofs.Common.{count_by, ltb, ◌≡◌, ℕ, ◌+◌, ◌<◌, cond, List, ◌∷◌, ◌++◌, length, get_or, set, All, Some, refl, sym, ap, ◌∙◌, subst, ⊎_elim, arith, length-set, get_or-set_same, get_or-set_other}
+use Rattle.std.proofs.Common.{count_by, ltb, ◌≡◌, ℕ, ◌+◌, ◌<◌, cond, ◌≤◌, List, [], ◌∷◌, ◌++◌, length, get_or, set, All, Some, refl, sym, ap, ◌∙◌, subst, ⊎_elim, arith, length-set, get_or-set_same, get_or-set_other}
 use Rattle.std.proofs.lemmas.Bool.{cases_eq}
-use Rattle.std.proofs.lemmas.List.{append-nil, get_or-map, length-map, map-set}
-use Rattle.std.proofs.lemmas.List.Elements.{All-from_get_or, All-set, All-weaker}
+use Rattle.std.proofs.lemmas.List.{append-nil, append_cancel_left, get_or-map, length-map, map-set}
+use Rattle.std.proofs.lemmas.List.Sums.{sum_by-le-sum_by}
+use Rattle.std.proofs.lemmas.List.Elements.{All-append, All-tail, All-from_get_or, All-set, All-weaker}
 use mathlib.Core.Option.{some}
 use lib.ListN.{get_elem?}
 use Rattle.tko_model.specs.declared.settings.Settings.{Settings}
@@ -11,6 +12,7 @@ use Rattle.tko_model.specs.Tracker.{server_at}
 use Rattle.tko_word.specs.Words.{IsWord}
 use Rattle.tko_steps.specs.declared.phase.Call.{Call}
 use Rattle.tko_steps.specs.declared.phase.Phase.{Phase}
+use Rattle.tko_steps.specs.declared.phase.ThreadState.{ThreadState}
 use Rattle.tko_steps.specs.declared.phase.ThreadState.TheVariants.{NotEnrolled, InCall}
 use Rattle.tko_steps.specs.declared.table.Decision.{Decision}
 use Rattle.tko_steps.specs.declared.table.Decision.TheVariants.{Goes, Answers}
@@ -21,16 +23,19 @@ use Rattle.tko_steps.specs.Core.{Shared, after_act, has_number, number_of, seen_
 use Rattle.tko_steps.specs.Steps.{owned_after as owned_after_core, place_of}
 use Rattle.tko_steps.proofs.OwnedLemmas.{own-step}
 use Rattle.tko_steps.specs.Steps.{is_done, state_after}
-use Rattle.tko_steps.specs.Invariant.{IsCore}
+use Rattle.tko_steps.specs.Invariant.{IsCore, IsPhase, holds, is_loose}
 use Rattle.tko_steps.specs.Table.{action_of, next_of}
-use Rattle.tko_steps.proofs.CoreLemmas.{IsCore-after_act, knows_at}
-use Rattle.tko_steps.proofs.ThreadLemmas.{number-once}
+use Rattle.tko_steps.proofs.CoreLemmas.{IsCore-after_act, enrolled-le, knows_at}
+use Rattle.tko_steps.proofs.CountLemmas.{bit}
+use Rattle.tko_steps.proofs.RunLemmas.{loose-le-holds}
+use Rattle.tko_steps.proofs.ThreadLemmas.{number-lt, number-once}
 use Rattle.tko_table.specs.declared.pass.Change.{Change}
 use Rattle.tko_table.specs.declared.pass.Pass.{Pass}
-use Rattle.tko_table.specs.History.{Begins, Replays, change_by}
-use Rattle.tko_table.specs.Passes.{OwnsItsMarks, after_step, changes_by, is_marked_by, owns}
+use Rattle.tko_table.specs.History.{Begins, Replays, change_by, changes_in, made_by}
+use Rattle.tko_table.specs.Passes.{IsTold, OwnsItsMarks, TellsItsChanges, after_step, changes_by, decided_after, is_marked_by, mine_after, owns, pending}
 use Rattle.tko_table.specs.Rule.{IsKept, IsPlanned, IsPlannedAt, core_in, health_in, joined, shared_in, states_of}
 use Rattle.tko_table.specs.Steps.{Takes}
+use Rattle.tko_table.proofs.ChangeLemmas.{changes-drawn, made-changes, made_by-append, other-changes, told-next, told-other}
 use Rattle.tko_table.proofs.EffectLemmas.{Effect, IsQuiet, IsWritten, effect-of}
 use Rattle.tko_table.proofs.HistoryLemmas.{Begins-all, Begins-more, Replays-push}
 use Rattle.tko_table.proofs.JoinedLemmas.{IsOneOf, one-joined}
@@ -73,6 +78,10 @@ names-is number (Up count) = refl
 names-is number (Soft owner) = refl
 names-is number (Hard owner) = refl
 
+All-right_part : (P : Change → Type 0) (one other : List Change) → All P (one ++ other) → All P other
+All-right_part P [] other all = all
+All-right_part P (change ∷ one) other all = All-right_part P one other (All-tail P change (one ++ other) all)
+
 -- ---- the step of a call
 
 module _ (s : Settings) (words new_words : List ℕ) (views : List (List Pass)) (id : ℕ) (before rest : List Pass) (pass : Pass) (call : Call)
@@ -87,7 +96,7 @@ module _ (s : Settings) (words new_words : List ℕ) (views : List (List Pass)) 
   history_after = kept.history ++ changes_by call phase (is_done it)
 
   abbrev pub pass_after : Pass
-  pass_after = after_step pass call phase it history_after
+  pass_after = after_step pass call phase it kept.history
 
   one : IsOneOf (joined views) pass (λ new. joined (set views id (before ++ new ∷ rest)))
   one = one-joined views id before rest pass there
@@ -179,6 +188,58 @@ module _ (s : Settings) (words new_words : List ℕ) (views : List (List Pass)) 
   planned_after : IsPlanned s pass_after.state
   planned_after = subst (IsPlanned s) (sym state_is) (plans-next s call (shared_in words) phase planned)
 
+  -- the changes of its thread, and of the others
+  knows : IsPhase s call.number (server_at (shared_in words).servers call.server) phase
+  knows = (knows_at (core_in s words (joined views)) one.place call kept.core.core inside phase stands_in).2
+
+  mine_before : IsTold (Some call.number) kept.history pass
+  mine_before =
+      let mine = subst (TellsItsChanges kept.history) (one.at pass) (kept.told.mine one.place pass one.inside) in
+      subst (λ drew. IsTold drew kept.history pass) named mine
+
+  abbrev changes : List Change
+  changes = changes_by call phase (is_done it)
+
+  abbrev place_now : ℕ
+  place_now = decided_after phase pass.decided_at (length kept.history)
+
+  told_after : changes_in call.number pass_after.mine ++ pending pass_after.state ≡ made_by call.number history_after
+  told_after =
+      let adds = told-next s call pass.mine place_now (shared_in words) phase planned knows in
+      let decided : next_of pass.settings call phase it ≡ next_of s call phase it =
+      ap (λ (with_settings : Settings). next_of with_settings call phase it) same_settings in
+      ap (λ (decision : Decision). changes_in call.number (mine_after pass.mine call decision place_now) ++ pending (state_after call decision)) decided
+      ∙ adds
+      ∙ ap (λ (state : ThreadState). (changes_in call.number pass.mine ++ pending state) ++ changes) (sym stands)
+      ∙ ap (λ more. more ++ changes) (sym mine_before.0)
+      ∙ ap (λ more. made_by call.number kept.history ++ more) (sym (made-changes call phase (is_done it)))
+      ∙ sym (made_by-append call.number kept.history changes)
+
+  mine_now : TellsItsChanges history_after pass_after
+  mine_now = subst (λ drew. IsTold drew history_after pass_after) (sym named_after) (sym told_after, refl)
+
+  mine_each : All (TellsItsChanges history_after) (set (joined views) one.place pass_after)
+  mine_each =
+      each-set (TellsItsChanges kept.history) (TellsItsChanges history_after) (joined views) one.place call.number (shared_in words).enrolled
+      pass pass_after one.inside one.at named kept.core.core.numbers mine_now
+      (λ other apart told.
+      told-other (number_of other.state) kept.history changes other
+      (λ number drew. other-changes number call phase (is_done it) (λ same. apart (drew ∙ ap Some (sym same)))) told)
+      kept.told.mine
+
+  call_drawn : call.number < (shared_in words).enrolled
+  call_drawn =
+      number-lt (states_of (joined views)) (shared_in words).enrolled one.place call.number kept.core.core.numbers inside (ap number_of stands_in)
+
+  enrolled_same : (shared_in words).enrolled ≡ (shared_in new_words).enrolled
+  enrolled_same = sym (ap (λ (shared : Shared). shared.enrolled) left)
+
+  drawn_after : All (λ (change : Change). change.number < (shared_in new_words).enrolled) history_after
+  drawn_after =
+      subst (λ enrolled. All (λ (change : Change). change.number < enrolled) history_after) enrolled_same
+      (All-append (λ (change : Change). change.number < (shared_in words).enrolled) kept.history changes kept.told.drawn
+      (changes-drawn (shared_in words).enrolled call phase (is_done it) call_drawn))
+
   pub act-kept : IsKept s new_words (set views id (before ++ pass_after ∷ rest))
   act-kept =
       let to = one.sets pass_after in
@@ -199,6 +260,8 @@ module _ (s : Settings) (words new_words : List ℕ) (views : List (List Pass)) 
               (λ at begins. Begins-more at.seen kept.history (changes_by call phase (is_done it)) begins) (joined views) kept.told.seen));
           planned = subst (All (λ (at : Pass). IsPlanned s at.state)) (sym to)
               (All-set (λ (at : Pass). IsPlanned s at.state) (joined views) one.place pass_after planned_after kept.told.planned);
+          drawn = drawn_after;
+          mine = subst (All (TellsItsChanges history_after)) (sym to) mine_each;
         };
       }
 
@@ -210,6 +273,26 @@ module _ (s : Settings) (words new_words : List ℕ) (views : List (List Pass)) 
       let inside_after : one.place < length (set (joined views) one.place pass_after) = rw length-set one.inside in
       subst (OwnsItsMarks (shared_in new_words).servers) (get_or-set_same (joined views) one.place pass_after pass one.inside)
       (owned_by effect one.place pass inside_after)
+
+  -- the changes since it looked last are others'
+  others_between : made_by call.number begins.rest ≡ []
+  others_between =
+      let whole : made_by call.number kept.history ≡ made_by call.number pass.seen ++ made_by call.number begins.rest =
+      ap (made_by call.number) begins.is ∙ made_by-append call.number pass.seen begins.rest in
+      append_cancel_left (made_by call.number pass.seen) (made_by call.number begins.rest) []
+      (sym whole ∙ sym mine_before.1 ∙ sym (append-nil (made_by call.number pass.seen)))
+
+  drawn_between : All (λ (change : Change). change.number < pass.settings.threads) begins.rest
+  drawn_between =
+      let le = enrolled-le (core_in s words (joined views)) kept.core.core in
+      let threads = kept.core.core.threads in
+      let all = subst (All (λ (change : Change). change.number < (shared_in words).enrolled)) begins.is kept.told.drawn in
+      All-weaker (λ (change : Change). change.number < (shared_in words).enrolled) (λ (change : Change). change.number < pass.settings.threads)
+      (λ change less. omega (arith, less, le, ap (λ (it : Settings). it.threads) same_settings)) begins.rest
+      (All-right_part (λ (change : Change). change.number < (shared_in words).enrolled) pass.seen begins.rest all)
+
+  loose_held : count_by is_loose (states_of (joined views)) ≤ count_by holds (states_of (joined views))
+  loose_held = sum_by-le-sum_by (λ state. bit (is_loose state)) (λ state. bit (holds state)) (states_of (joined views)) loose-le-holds
 
   -- the core's step leaves it the same servers to own
   gained : (server : ℕ) → owns pass_after.owned server
@@ -230,12 +313,16 @@ module _ (s : Settings) (words new_words : List ℕ) (views : List (List Pass)) 
         between = begins.rest;
         found = subst (λ with_settings. Replays with_settings (pass.seen ++ begins.rest) (shared_in words).servers) (sym same_settings)
             (subst (λ history. Replays s history (shared_in words).servers) begins.is kept.told.replays);
+        others = others_between;
+        drawn = drawn_between;
         reads = refl;
+        settled = omega (arith, kept.core.core.firm);
+        limit = omega (arith, kept.core.core.firm, kept.core.core.held, kept.core.core.room, loose_held, ap (λ (it : Settings). it.limit) same_settings);
         left = subst (λ with_settings. Replays with_settings history_after (shared_after (shared_in words) call.server (action_of call.number phase)).servers)
             (sym same_settings)
             (subst (λ (shared : Shared). Replays s history_after shared.servers) left (replays_by effect));
         own = λ server.
             owned_before server ∙ ap (λ number. is_marked_by number (server_at (shared_in words).servers server).mark) named;
         gained = gained;
-        knows = ap (λ history. after_step pass call phase it (history ++ changes_by call phase (is_done it))) begins.is;
+        knows = ap (after_step pass call phase it) begins.is;
       }

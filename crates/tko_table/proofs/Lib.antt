@@ -1,5 +1,7 @@
 pub mod AllowsLemmas
 pub mod BeginLemmas
+pub mod ChangeLemmas
+pub mod ClosingLemmas
 pub mod EffectLemmas
 pub mod EnrolLemmas
 pub mod HistoryLemmas

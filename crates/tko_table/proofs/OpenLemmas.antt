@@ -1,7 +1,7 @@
 -- The rule holds of the words as they open, with one seat that has all passes.
-use Rattle.std.proofs.Common.{◌≡◌, ℕ, zero, suc, ◌+◌, List, [], ◌∷◌, ◌++◌, map, set, replicate, All, refl, sym, ap, ◌∙◌, subst, arith}
+use Rattle.std.proofs.Common.{◌≡◌, ℕ, zero, suc, ◌+◌, ◌<◌, List, [], ◌∷◌, ◌++◌, map, set, replicate, All, refl, sym, ap, ◌∙◌, subst, arith}
 use Rattle.std.proofs.lemmas.List.{append-nil}
-use Rattle.std.proofs.lemmas.List.Elements.{All-replicate}
+use Rattle.std.proofs.lemmas.List.Elements.{All-nil, All-replicate}
 use Rattle.tko_model.specs.declared.mark.Mark.TheVariants.{Up}
 use Rattle.tko_model.specs.declared.settings.Settings.{Settings}
 use Rattle.tko_model.specs.Ranges.{IsWithinRanges}
@@ -10,9 +10,10 @@ use Rattle.tko_steps.specs.declared.phase.ThreadState.TheVariants.{NotEnrolled}
 use Rattle.tko_steps.specs.Core.{Shared, opened_core, opened_words}
 use Rattle.tko_steps.specs.Invariant.{IsCore}
 use Rattle.tko_steps.proofs.CoreLemmas.{IsCore-opened_core}
+use Rattle.tko_table.specs.declared.pass.Change.{Change}
 use Rattle.tko_table.specs.declared.pass.Pass.{Pass}
 use Rattle.tko_table.specs.History.{Begins}
-use Rattle.tko_table.specs.Passes.{OwnsItsMarks, new_pass, new_passes}
+use Rattle.tko_table.specs.Passes.{OwnsItsMarks, TellsItsChanges, new_pass, new_passes}
 use Rattle.tko_table.specs.Rule.{IsKept, IsOpened, IsPlanned, core_in, shared_in, states_of}
 
 map-replicate : {A B : Type 0} (f : A → B) (n : ℕ) (x : A) → map f (replicate n x) ≡ replicate n (f x)
@@ -59,5 +60,7 @@ opened-kept s words ranges is_opened =
             (All-replicate (λ (at : Pass). Begins at.seen []) s.threads (new_pass s) (record { rest = []; is = refl }));
         planned = subst (All (λ (at : Pass). IsPlanned s at.state)) (sym same)
             (All-replicate (λ (at : Pass). IsPlanned s at.state) s.threads (new_pass s) tt);
+        drawn = All-nil (λ (change : Change). change.number < (shared_in words).enrolled);
+        mine = subst (All (TellsItsChanges [])) (sym same) (All-replicate (TellsItsChanges []) s.threads (new_pass s) refl);
       };
     }

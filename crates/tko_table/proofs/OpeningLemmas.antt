@@ -25,6 +25,7 @@ pass-still s drawn place pass is apart =
     record {
       settings = is.settings;
       owned = is.owned;
+      mine = is.mine;
       state = ⊎_elim
           (λ (less : place < drawn).
           drawn-state s drawn place pass is less ∙ sym (cond-true (ltb place (drawn + 1)) (Idle place) NotEnrolled (lt-ltb place (drawn + 1) (omega arith))))
@@ -79,6 +80,7 @@ drawn-next s drawn place (pass ∷ passes) history are le within =
       record {
         settings = are.0.settings;
         owned = are.0.owned;
+        mine = are.0.mine;
         state = ap Idle here ∙ sym (cond-true (ltb place (drawn + 1)) (Idle place) NotEnrolled (lt-ltb place (drawn + 1) (omega arith)));
       },
       none-drawn s drawn (place + 1) passes are.1 (omega arith),
@@ -115,7 +117,7 @@ wait-left s drawn view has less =
 new-passes : (s : Settings) (n place : ℕ) → ArePassesFrom s 0 place (replicate n (new_pass s))
 new-passes s zero place = tt
 new-passes s (suc n) place =
-    (record { settings = refl; owned = refl; state = sym (cond-false (ltb place 0) (Idle place) NotEnrolled (le-ltb place 0 (omega arith))) }, new-passes s n (place + 1))
+    (record { settings = refl; owned = refl; mine = refl; state = sym (cond-false (ltb place 0) (Idle place) NotEnrolled (le-ltb place 0 (omega arith))) }, new-passes s n (place + 1))
 
 pub opened-passes : (s : Settings) → HasPassesFrom s 0 0 (new_passes s)
 opened-passes s = record { count = omega (arith, length-replicate s.threads (new_pass s)); each = new-passes s s.threads 0 }
@@ -146,6 +148,7 @@ seat-made s table place view seat has less same_table no_slots is =
       alone = is ∙ first.1;
       settings = first.2.settings;
       owned = first.2.owned;
+      mine = first.2.mine;
       state = drawn-state s s.threads place first.0 first.2 less;
     }
 

@@ -16,6 +16,7 @@ use Rattle.tko_model.specs.Tracker.{server_at}
 use Rattle.std.proofs.Common.{eqb, ◌+◌}
 use Rattle.tko_steps.proofs.StartLemmas.{Says, Says-from_start}
 use Rattle.tko_table.specs.Rule.{IsPlanned, IsPlannedAt}
+use Rattle.tko_table.proofs.ChangeLemmas.{puts-change}
 
 -- what a decision plans
 abbrev pub Plans : Settings → Call → Decision → Type 0
@@ -34,7 +35,7 @@ plans-says s call now (Goes lost Firming) says = tt
 plans-says s call now (Goes lost Losing) says = tt
 plans-says s call now (Goes lost (Loosening found mark answer)) says = says.1
 plans-says s call now (Goes lost (Loosened found mark answer)) says = absurd says
-plans-says s call now (Goes lost (Emptied answer)) says = tt
+plans-says s call now (Goes lost (Emptied answer)) says = absurd says
 
 plans-lost_try : (s : Settings) (call : Call) → Plans s call (lost_try s call)
 plans-lost_try s call =
@@ -73,5 +74,5 @@ module _ (s : Settings) (call : Call) (shared : Shared) where
   plans-next Firming planned = tt
   plans-next Losing planned = plans-lost_try s call
   plans-next (Loosening found mark answer) planned = planned
-  plans-next (Loosened found mark answer) planned = tt
+  plans-next (Loosened found mark answer) planned = puts-change s call found mark answer planned
   plans-next (Emptied answer) planned = tt

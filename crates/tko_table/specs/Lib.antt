@@ -1,4 +1,5 @@
 pub mod Callers
+pub mod Closing
 pub mod History
 pub mod Opening
 pub mod Passes

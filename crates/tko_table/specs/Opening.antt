@@ -11,6 +11,7 @@ use Rattle.tko_table.specs.Steps.{view_of}
 pub record IsPassAt (s : Settings) (drawn place : ℕ) (pass : Pass) : Type 0 where
   pub settings : pass.settings ≡ s
   pub owned : pass.owned ≡ []
+  pub mine : pass.mine ≡ []
   pub state : pass.state ≡ (if nat_lt place drawn then Idle place else NotEnrolled)
 
 abbrev pub ArePassesFrom : Settings → ℕ → ℕ → List Pass → Type 0
@@ -33,6 +34,7 @@ pub record IsSeatAt
     pub alone : view_of seat ≡ pass ∷ []
     pub settings : pass.settings ≡ s
     pub owned : pass.owned ≡ []
+    pub mine : pass.mine ≡ []
     pub state : pass.state ≡ Idle number
 
 -- the seat at each place has the pass of that number

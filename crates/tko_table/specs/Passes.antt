@@ -1,5 +1,5 @@
 -- What a pass knows, and what a step of its own changes of it.
-use Rattle.std.specs.Prelude.{◌≡◌, ℕ, ◌+◌, Bool, false, ◌==◌, ◌||◌, if◌then◌else◌, List, [], ◌∷◌, Option, Some, None, replicate, nat_lt, length, map}
+use Rattle.std.specs.Prelude.{◌≡◌, ℕ, ◌+◌, Bool, false, ◌==◌, ◌||◌, if◌then◌else◌, List, [], ◌∷◌, Option, Some, None, replicate, nat_lt, length, map, ◌++◌}
 use Rattle.tko_model.specs.declared.mark.Mark.{Mark}
 use Rattle.tko_model.specs.declared.mark.Mark.TheVariants.{Up, Soft, Hard}
 use Rattle.tko_model.specs.declared.mark.Reply.TheVariants.{TookSoft}
@@ -8,21 +8,34 @@ use Rattle.tko_model.specs.declared.state.ServerState.{ServerState}
 use Rattle.tko_model.specs.Tracker.{server_at}
 use Rattle.tko_steps.specs.declared.phase.Call.{Call}
 use Rattle.tko_steps.specs.declared.phase.Phase.{Phase}
-use Rattle.tko_steps.specs.declared.phase.Phase.TheVariants.{Read, Holding, Loosened}
-use Rattle.tko_steps.specs.declared.phase.ThreadState.TheVariants.{NotEnrolled, Idle}
+use Rattle.tko_steps.specs.declared.phase.Phase.TheVariants.{Read, Limit, Holding, Firming, Loosened, Emptied}
+use Rattle.tko_steps.specs.declared.phase.ThreadState.{ThreadState}
+use Rattle.tko_steps.specs.declared.phase.ThreadState.TheVariants.{NotEnrolled, Idle, InCall}
 use Rattle.tko_steps.specs.declared.table.Action.{Action}
 use Rattle.tko_steps.specs.declared.table.Action.TheVariants.{Exchange}
+use Rattle.tko_steps.specs.declared.table.Decision.{Decision}
+use Rattle.tko_steps.specs.declared.table.Decision.TheVariants.{Goes, Answers}
 use Rattle.tko_steps.specs.declared.table.Seen.{Seen}
 use Rattle.tko_steps.specs.Core.{is_enrolled, number_of}
 use Rattle.tko_steps.specs.Steps.{is_done, state_after}
 use Rattle.tko_steps.specs.Table.{action_of, next_of}
 use Rattle.tko_table.specs.declared.pass.Change.{Change}
+use Rattle.tko_table.specs.declared.pass.Made.{Made}
 use Rattle.tko_table.specs.declared.pass.Pass.{Pass}
-use Rattle.tko_table.specs.History.{change_by}
+use Rattle.tko_table.specs.History.{change_by, changes_in, made_by, made_with}
 
 -- a pass that took no step, and the passes of all threads before their first
 abbrev pub new_pass : Settings → Pass
-new_pass s = record { state = NotEnrolled; owned = []; steps = 0; seen = []; settings = s }
+new_pass s =
+    record {
+      state = NotEnrolled;
+      owned = [];
+      steps = 0;
+      seen = [];
+      mine = [];
+      decided_at = 0;
+      settings = s;
+    }
 
 abbrev pub new_passes : Settings → List Pass
 new_passes s = replicate s.threads (new_pass s)
@@ -65,17 +78,55 @@ change_at call phase = []
 abbrev pub changes_by : Call → Phase → Bool → List Change
 changes_by call phase won = if won then change_at call phase else []
 
--- the pass once its call, at this phase, took the step that read this, and saw this history
+-- the change that a call has made and not answered yet
+abbrev pub pending_at : Call → Phase → List Change
+pending_at call Firming = change_by call TookSoft ∷ []
+pending_at call (Emptied answer) = change_by call answer ∷ []
+pending_at call phase = []
+
+abbrev pub pending : ThreadState → List Change
+pending (InCall call phase) = pending_at call phase
+pending state = []
+
+-- how many changes there were where the answer of a call was decided, once it took the step of this
+-- phase: a second look that finds the same decides nothing, nor does a step that follows a change
+abbrev pub decided_after : Phase → ℕ → ℕ → ℕ
+decided_after (Limit found) earlier now = earlier
+decided_after Firming earlier now = earlier
+decided_after (Emptied answer) earlier now = earlier
+decided_after phase earlier now = now
+
+-- the calls that a thread made, once this followed for the one under way
+abbrev pub mine_after : List Made → Call → Decision → ℕ → List Made
+mine_after mine call (Goes lost phase) at = mine
+mine_after mine call (Answers answer) at = mine ++ made_with call answer at ∷ []
+
+-- the pass once its call, at this phase, took the step that read this, and found this history
 abbrev pub after_step : Pass → Call → Phase → Seen → List Change → Pass
 after_step pass call phase read history =
+    let decision = next_of pass.settings call phase read in
+    let at = decided_after phase pass.decided_at (length history) in
     record {
-      state = state_after call (next_of pass.settings call phase read);
+      state = state_after call decision;
       owned =
           owned_after pass.owned call.server (action_of call.number phase) (is_done read);
       steps = pass.steps + 1;
-      seen = history;
+      seen = history ++ changes_by call phase (is_done read);
+      mine = mine_after pass.mine call decision at;
+      decided_at = at;
       settings = pass.settings;
     }
+
+-- the changes by a thread of this number are those of its answered calls, in their order, and the one
+-- that its call under way has made; and it has seen them. A thread without a number made no call
+abbrev pub IsTold : Option ℕ → List Change → Pass → Type 0
+IsTold None history pass = pass.mine ≡ []
+IsTold (Some number) history pass =
+    (made_by number history ≡ changes_in number pass.mine ++ pending pass.state)
+    × (made_by number pass.seen ≡ made_by number history)
+
+abbrev pub TellsItsChanges : List Change → Pass → Type 0
+TellsItsChanges history pass = IsTold (number_of pass.state) history pass
 
 -- the pass owns exactly the servers whose marks name its number
 abbrev pub OwnsItsMarks : List ServerState → Pass → Type 0
@@ -91,6 +142,8 @@ enrolled_pass pass number history =
       owned = pass.owned;
       steps = pass.steps + 1;
       seen = history;
+      mine = pass.mine;
+      decided_at = pass.decided_at;
       settings = pass.settings;
     }
 
@@ -124,6 +177,8 @@ with_seen history pass =
       owned = pass.owned;
       steps = pass.steps;
       seen = history;
+      mine = pass.mine;
+      decided_at = pass.decided_at;
       settings = pass.settings;
     }
 

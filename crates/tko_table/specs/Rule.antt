@@ -1,5 +1,5 @@
 -- The rule of the words: what holds of them and of the passes of all seats between any two steps.
-use Rattle.std.specs.Prelude.{◌≡◌, ℕ, ◌+◌, Bool, if◌then◌else◌, List, [], ◌∷◌, ◌++◌, map, drop, slice_index, All}
+use Rattle.std.specs.Prelude.{◌≡◌, ℕ, ◌+◌, Bool, if◌then◌else◌, List, [], ◌∷◌, ◌++◌, map, drop, slice_index, All, true, ◌<◌}
 use Rattle.tko_model.specs.declared.mark.Mark.{Mark}
 use Rattle.tko_model.specs.declared.mark.Mark.TheVariants.{Soft}
 use Rattle.tko_model.specs.declared.mark.Reply.{Reply}
@@ -10,7 +10,7 @@ use Rattle.tko_model.specs.Tracker.{becomes, stays, transition}
 use Rattle.tko_word.specs.Words.{IsWord, firm_in, held_in, server_in}
 use Rattle.tko_steps.specs.declared.phase.Call.{Call}
 use Rattle.tko_steps.specs.declared.phase.Phase.{Phase}
-use Rattle.tko_steps.specs.declared.phase.Phase.TheVariants.{Read, AtThreshold, Limit, Reserving, Holding, Loosening, Loosened}
+use Rattle.tko_steps.specs.declared.phase.Phase.TheVariants.{Read, AtThreshold, Limit, Reserving, Holding, Loosening, Loosened, Emptied}
 use Rattle.tko_steps.specs.declared.phase.Slots.{Slots}
 use Rattle.tko_steps.specs.declared.phase.ThreadState.{ThreadState}
 use Rattle.tko_steps.specs.declared.phase.ThreadState.TheVariants.{InCall}
@@ -18,8 +18,8 @@ use Rattle.tko_steps.specs.Core.{CoreState, Shared, opened_words}
 use Rattle.tko_steps.specs.Invariant.{IsCore}
 use Rattle.tko_table.specs.declared.pass.Change.{Change}
 use Rattle.tko_table.specs.declared.pass.Pass.{Pass}
-use Rattle.tko_table.specs.History.{Begins, Replays}
-use Rattle.tko_table.specs.Passes.{OwnsItsMarks}
+use Rattle.tko_table.specs.History.{Begins, Replays, is_change}
+use Rattle.tko_table.specs.Passes.{OwnsItsMarks, TellsItsChanges}
 
 -- the words in their order: the soft word, the enrolment word, the health word of each server
 abbrev pub soft_place : ℕ
@@ -93,23 +93,26 @@ IsPlannedAt s call (Reserving found slots) = MarksSoft s call found
 IsPlannedAt s call (Holding found) = MarksSoft s call found
 IsPlannedAt s call (Loosening found mark answer) = Puts s call found mark answer
 IsPlannedAt s call (Loosened found mark answer) = Puts s call found mark answer
+IsPlannedAt s call (Emptied answer) = is_change answer ≡ true
 IsPlannedAt s call phase = Unit {0}
 
 abbrev pub IsPlanned : Settings → ThreadState → Type 0
 IsPlanned s (InCall call phase) = IsPlannedAt s call phase
 IsPlanned s state = Unit {0}
 
--- the servers are the replay of the history, and each pass has seen a beginning of it
+-- the servers are the replay of the history, and each pass has seen a beginning of it; each change is by
+-- a thread that drew a number, whose pass tells its own
 pub record IsToldHalf
-    (s : Settings) (servers : List ServerState) (passes : List Pass) (history : List Change)
-    : Type 0
+    (s : Settings) (shared : Shared) (passes : List Pass) (history : List Change) : Type 0
   where
-    pub replays : Replays s history servers
+    pub replays : Replays s history shared.servers
     pub seen : All (λ pass. Begins pass.seen history) passes
     pub planned : All (λ pass. IsPlanned s pass.state) passes
+    pub drawn : All (λ change. change.number < shared.enrolled) history
+    pub mine : All (TellsItsChanges history) passes
 
--- the rule, in two halves that share the servers alone
+-- the rule, in two halves that share what the words hold
 pub record IsKept (s : Settings) (words : List ℕ) (views : List (List Pass)) : Type 0 where
   pub core : IsCoreHalf s words (joined views)
   pub history : List Change
-  pub told : IsToldHalf s (shared_in words).servers (joined views) history
+  pub told : IsToldHalf s (shared_in words) (joined views) history

@@ -6,7 +6,7 @@ use Rattle.tko_model.specs.declared.mark.Mark.{Mark}
 use Rattle.tko_model.specs.declared.mark.Op.{Op}
 use Rattle.tko_model.specs.declared.settings.Settings.{Settings}
 use Rattle.tko_model.specs.declared.state.ServerState.{ServerState}
-use Rattle.tko_model.specs.Tracker.{IsFit, server_at}
+use Rattle.tko_model.specs.Tracker.{IsFit, server_at, softs}
 use Rattle.tko_word.specs.Words.{IsMark, IsMarkOf, IsWord, most_threads, server_in, stamp_end}
 use Rattle.tko_steps.specs.declared.phase.Call.{Call}
 use Rattle.tko_steps.specs.declared.phase.Phase.{Phase}
@@ -16,14 +16,14 @@ use Rattle.tko_steps.specs.declared.table.Action.TheVariants.{LookAtServer, Look
 use Rattle.tko_steps.specs.declared.table.Seen.{Seen}
 use Rattle.tko_steps.specs.declared.table.Seen.TheVariants as read
 use Rattle.tko_steps.specs.Core.{Shared, seen_by, shared_after, word_at}
-use Rattle.tko_steps.specs.Steps.{in_call, is_done, is_marked_state, seen_in, owned_after, place_of}
+use Rattle.tko_steps.specs.Steps.{in_call, is_marked_state, seen_in, owned_after, place_of}
 use Rattle.tko_steps.specs.declared.step.Word.{Word}
 use Rattle.tko_steps.specs.declared.step.Word.TheVariants as held
 use Rattle.tko_steps.specs.Table.{action_of}
 use Rattle.tko_table.specs.declared.pass.Change.{Change}
 use Rattle.tko_table.specs.declared.pass.Pass.{Pass}
-use Rattle.tko_table.specs.History.{Begins, Replays}
-use Rattle.tko_table.specs.Passes.{after_step, changes_by, count_enrolled, enrol_first, is_marked_by, owns}
+use Rattle.tko_table.specs.History.{Begins, Replays, made_by}
+use Rattle.tko_table.specs.Passes.{after_step, count_enrolled, enrol_first, is_marked_by, owns}
 use Rattle.tko_steps.specs.declared.phase.Slots.{Slots}
 use Rattle.tko_table.specs.Rule.{health_place, slots_in}
 
@@ -46,15 +46,21 @@ abbrev pub read_in : Action → ℕ → Seen
 read_in action number = seen_in action (held_by action number)
 
 -- a step of this call at this phase, by the pass of a thread: it finds the words of some core whose
--- servers are the replay of what the pass then has seen; it reads and leaves what the core's step
--- does; and a change that it makes goes last in the history
+-- servers are the replay of the history, which begins with what the pass has seen; it reads and leaves
+-- what the core's step does; the pass has then seen the whole history, a change that the step makes
+-- goes last in it, and an answer goes last in the thread's calls
 pub record Takes (before : Pass) (call : Call) (phase : Phase) (it : Seen) (after : Pass) : Type 0
   where
     pub shared : Shared
-    -- the changes since the pass looked last
+    -- the changes since the pass looked last, which are other threads'
     pub between : List Change
+    pub others : made_by call.number between ≡ []
+    pub drawn : All (λ change. change.number < before.settings.threads) between
     pub found : Replays before.settings (before.seen ++ between) shared.servers
     pub reads : it ≡ seen_by shared call.server (action_of call.number phase)
+    -- no more soft marks are settled than there are, nor are there more than the limit allows
+    pub settled : shared.slots.firm ≤ softs shared.servers
+    pub limit : softs shared.servers ≤ before.settings.limit
     pub left :
         Replays
         before.settings
@@ -73,13 +79,7 @@ pub record Takes (before : Pass) (call : Call) (phase : Phase) (it : Seen) (afte
         (word_at shared (place_of call.server (action_of call.number phase)))
         (owns before.owned)
         server
-    pub knows : after
-        ≡ after_step
-        before
-        call
-        phase
-        it
-        ((before.seen ++ between) ++ changes_by call phase (is_done it))
+    pub knows : after ≡ after_step before call phase it (before.seen ++ between)
 
 -- the seat's one pass took that step, which read this
 pub record Took (before : List Pass) (call : Call) (phase : Phase) (it : Seen) (after : List Pass)

@@ -1,17 +1,19 @@
 //! The words that threads share, each changed in single atomic steps, under one rule.
 //!
 //! - A *pass* is what one thread knows: its state, the servers that it owns, and the history as far
-//!   as it has seen it. It is data of the proofs alone.
+//!   as it has seen it, and the calls that it made. It is data of the proofs alone.
 //! - A *seat* is a token of no bytes with which a thread takes steps. It has the pass of one
 //!   thread, or those of several.
 //! - `Words`: a health word for each server, the soft word and the enrolment word. Each step
 //!   function takes one atomic step on one word with one seat.
 //! - The *history* is the list of all changes of the servers' marks, oldest first.
 //! - The *rule* holds between any two steps: words and passes are a state of the core of
-//!   `tko_steps`, and the servers are the replay of the history by the sequential tracker.
+//!   `tko_steps`, the servers are the replay of the history by the sequential tracker, and the
+//!   changes by each thread are those that its pass says it made.
 
 #![tactic(auto)]
 
+mod closed;
 mod pass;
 mod plays;
 mod rule;
@@ -19,7 +21,8 @@ mod steps;
 mod values;
 mod words;
 
-pub use pass::{Change, Pass, Seat, View};
+pub use closed::ClosedWords;
+pub use pass::{Change, Made, Pass, Seat, View};
 pub use rule::Kept;
 pub use words::Words;
 

@@ -1,4 +1,4 @@
-//! What a thread knows. No value of a pass or a change is made: contracts speak of them.
+//! What a thread knows. No value of these types is made: contracts speak of them.
 
 use std::collections::LinkedList;
 use tko_model::{Op, Reply, Settings};
@@ -12,6 +12,16 @@ pub struct Change {
     pub reply: Reply,
 }
 
+/// A call that a thread made, with its answer.
+pub struct Made {
+    pub op: Op,
+    pub server: usize,
+    pub reply: Reply,
+    /// How many changes the history had where the sequential tracker gives this reply. A call that
+    /// lost every try has no such place.
+    pub at: Option<usize>,
+}
+
 /// What one thread knows.
 pub struct Pass {
     pub state: ThreadState,
@@ -21,6 +31,10 @@ pub struct Pass {
     pub steps: u64,
     /// The history as it was at the thread's last step.
     pub seen: LinkedList<Change>,
+    /// The calls that the thread made, oldest first.
+    pub mine: LinkedList<Made>,
+    /// How many changes the history had where the answer of the call under way was decided.
+    pub decided_at: usize,
     pub settings: Settings,
 }
 

@@ -21,6 +21,7 @@ pub struct Words {
     ghost key: { table.shared.key ≡ settings },
     ghost ranges: { IsWithinRanges settings },
     ghost count: { table.shared.table_id.words ≡ settings.servers + 2 },
+    ghost no_slot: { table.shared.table_id.slots ≡ 0 },
 }
 
 impl Words {

@@ -1,3 +1,4 @@
+pub mod ClosingLemmas
 pub mod KnowsLemmas
 pub mod OwnedLemmas
 pub mod PassLemmas

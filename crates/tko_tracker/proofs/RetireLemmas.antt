@@ -27,7 +27,7 @@ pub released-none : (tracker : TrackerId) (first : Seated) → IsOf tracker firs
 released-none tracker first of =
     record { of = of; state = refl; none = λ server less. absurd (omega (arith, less)); steps = omega arith }
 
-one-more : (P : ℕ → Type 0) (place : ℕ) → ((server : ℕ) → server < place → P server) → P place → (server : ℕ) → server < place + 1 → P server
+pub one-more : (P : ℕ → Type 0) (place : ℕ) → ((server : ℕ) → server < place → P server) → P place → (server : ℕ) → server < place + 1 → P server
 one-more P place each here server less =
     ⊎_elim (λ (before : server < place). each server before)
     (λ (le : place ≤ server). let e : place ≡ server = omega (arith, less, le) in subst P e here)

@@ -1,4 +1,5 @@
 pub mod Calls
+pub mod Closing
 pub mod Owned
 pub mod Running
 pub mod Seated

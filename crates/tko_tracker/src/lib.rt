@@ -4,18 +4,24 @@
 //! - `IdlePass`: a thread's place at the tracker, for which it does nothing and owns no server.
 //! - `Pass`: the same for a thread that makes calls. It has the thread's number and a bit for each
 //!   server that the thread owns.
+//! - `Final`: the marks and stamps of a tracker that was closed with the passes of all its threads.
+//! - `Named`: names one tracker for contracts.
 //!
 //! What a pass knows in contracts is a `tko_table::Pass`.
 
 #![tactic(auto)]
 
 mod calls;
+mod closing;
+mod named;
 mod owned;
 mod pass;
 mod run;
 mod step;
 mod tracker;
 
+pub use closing::{Final, close};
+pub use named::Named;
 pub use pass::{IdlePass, Pass, wake};
 pub use tracker::{Tracker, open};
 

@@ -2,7 +2,7 @@
 ghost use Rattle.std.specs.Prelude.{◌≡◌, ◌<◌, IfSome};
 ghost use Rattle.tko_tracker.specs.Seated.{ArePasses, IsOf};
 
-use crate::{IdlePass, Pass, Tracker, open, wake};
+use crate::{Final, IdlePass, Pass, Tracker, close, open, wake};
 use std::test::Fail;
 use tko_model::{Look, Mark, Op, Reply, Settings};
 
@@ -76,7 +76,37 @@ fn two_threads_share_one_soft_mark(rt: HostRuntime) -> Result<(), Fail> {
     );
     let hard = Reply::Marked(Mark::Hard(0));
     assert_eq!(rt; reply(&tracker, &mut second, Op::LookUp, 0), hard);
-    assert_eq!(rt; tracker.retire(first).number(), 0);
-    assert_eq!(rt; reply(&tracker, &mut second, Op::LookUp, 0), Reply::Up(0));
+    assert_eq!(rt;
+        reply(&tracker, &mut first, Op::Success, 0),
+        Reply::Unmarked(Mark::Hard(0))
+    );
+    let (first, second) = (tracker.retire(first), tracker.retire(second));
+    let passes = vec![in rt.alloc(); first, second]?;
+    let Ok(last) = close(tracker, passes) else {
+        panic!(rt; "a pass is missing")
+    };
+    assert_eq!(rt; is_at(&last, 0), (Mark::Up(0), 3));
+    assert_eq!(rt; is_at(&last, 1), (Mark::Up(0), 2));
+    assert_eq!(rt; last.soft(), (0, 0));
+    Ok(())
+}
+
+/// A server's mark and stamp at the end.
+fn is_at(last: &Final, server: usize) -> (Mark, u64)
+    requires { server < last.now.settings.servers }
+{
+    (last.mark(server), last.stamp(server))
+}
+
+#[test]
+fn all_passes_close_the_tracker(rt: HostRuntime) -> Result<(), Fail> {
+    let (tracker, mut passes) = open(rt.alloc(), SETTINGS)?;
+    let last = passes.pop().expect(&rt, "two passes");
+    let Err((tracker, mut passes)) = close(tracker, passes) else {
+        panic!(rt; "a pass is missing")
+    };
+    assert_eq!(rt; passes.len(), 1);
+    passes.push(last)?;
+    assert!(rt; close(tracker, passes).is_ok());
     Ok(())
 }

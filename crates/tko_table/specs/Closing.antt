@@ -1,0 +1,34 @@
+-- The words once no thread uses them any more.
+use Rattle.std.specs.Prelude.{◌≡◌, ℕ, ◌<◌, false, List, All}
+use Rattle.tko_model.specs.declared.settings.Settings.{Settings}
+use Rattle.tko_steps.specs.declared.phase.ThreadState.TheVariants.{Idle}
+use Rattle.tko_steps.specs.Core.{Shared}
+use Rattle.tko_steps.specs.Steps.{is_marked_state}
+use Rattle.tko_table.specs.declared.pass.Change.{Change}
+use Rattle.tko_table.specs.declared.pass.Pass.{Pass}
+use Rattle.tko_table.specs.History.{Begins, Replays}
+use Rattle.tko_table.specs.Passes.{TellsItsChanges, owns}
+
+-- the thread of the pass makes no call, and owns no server
+pub record IsDone (pass : Pass) : Type 0 where
+  pub number : ℕ
+  pub idle : pass.state ≡ Idle number
+  pub none : (server : ℕ) → owns pass.owned server ≡ false
+
+-- words that are closed: their settings, and what they hold
+pub record Left : Type 0 where
+  pub settings : Settings
+  pub shared : Shared
+
+-- what the threads of these passes left: the servers are the replay of one history, which begins with
+-- what each pass has seen; the changes in it by each number are, in order, those of its pass's calls,
+-- and no other number stands in it; no server is marked, and no slot is taken
+pub record IsLeft (s : Settings) (passes : List Pass) (shared : Shared) : Type 0 where
+  pub history : List Change
+  pub replays : Replays s history shared.servers
+  pub seen : All (λ pass. Begins pass.seen history) passes
+  pub mine : All (TellsItsChanges history) passes
+  pub drawn : All (λ change. change.number < s.threads) history
+  pub unmarked : All (λ server. is_marked_state server.mark ≡ false) shared.servers
+  pub firm : shared.slots.firm ≡ 0
+  pub held : shared.slots.held ≡ 0
