@@ -15,9 +15,9 @@ front_word [] = []
 front_word (b ∷ bytes) = if b == space then [] else b ∷ front_word bytes
 
 -- from the first space on
-abbrev pub behind_word : List ℕ → List ℕ
-behind_word [] = []
-behind_word (b ∷ bytes) = if b == space then b ∷ bytes else behind_word bytes
+abbrev pub after_word : List ℕ → List ℕ
+after_word [] = []
+after_word (b ∷ bytes) = if b == space then b ∷ bytes else after_word bytes
 
 -- the words that begin in the bytes, where the byte before them is part of a word or is not
 abbrev pub words_from : Bool → List ℕ → List (List ℕ)
@@ -33,5 +33,5 @@ words line = words_from false line
 -- the first word of a line, and what follows it
 pub record SplitsWord (line word behind : List ℕ) : Type 0 where
   pub word_is : word ≡ front_word (unspaced line)
-  pub behind_is : behind ≡ behind_word (unspaced line)
+  pub behind_is : behind ≡ after_word (unspaced line)
   pub words_are : words line ≡ word ∷ words behind

@@ -10,7 +10,7 @@ abbrev pub passed : Option Instant → Option Instant → Option ℕ
 passed (Some from) (Some to) = Some (instant_nanos to - instant_nanos from)
 passed _ _ = None
 
--- how many nanoseconds of an exchange are left at a moment; where it is unknown how many passed, none
--- did
+-- how many nanoseconds of an exchange are left at a moment; where it is unknown how many passed,
+-- none did
 abbrev pub left_at : ExchangeTime → Option Instant → ℕ
 left_at time now = as_nanos time.limit - unwrap_or (passed time.begun now) 0

@@ -2,15 +2,27 @@
 use Rattle.std.specs.Prelude.{◌≡◌, ℕ, List, [], ◌∷◌, ◌++◌, Some}
 use Rattle.tko_bytes.specs.Numbers.{number_of}
 
+abbrev pub colon : ℕ
+colon = 58
+
+abbrev pub open_bracket : ℕ
+open_bracket = 91
+
+abbrev pub close_bracket : ℕ
+close_bracket = 93
+
+abbrev pub max_port : ℕ
+max_port = 65535
+
 -- a host as it is looked up: the written one, or what its brackets hold
 pub data IsBare (written : List ℕ) (bare : List ℕ) : Type 0 where
   Plain : bare ≡ written → IsBare written bare
-  Bracketed : written ≡ 91 ∷ bare ++ 93 ∷ [] → IsBare written bare
+  Bracketed : written ≡ open_bracket ∷ bare ++ close_bracket ∷ [] → IsBare written bare
 
 -- a host, a colon and the digits of a port, which hold no colon, make the address
 pub record IsParted (address : List ℕ) (host : List ℕ) (port : ℕ) : Type 0 where
   pub written : List ℕ
   pub digits : List ℕ
-  pub whole : address ≡ written ++ 58 ∷ digits
+  pub whole : address ≡ written ++ colon ∷ digits
   pub bare : IsBare written host
-  pub number : number_of 65535 digits ≡ Some port
+  pub number : number_of max_port digits ≡ Some port

@@ -25,9 +25,13 @@ pub record IsAllowed (connection : TcpConnection) (limit : Duration) : Type 0 wh
   pub whole : connection.has_waited ≡ false → limit ≡ connection.time.limit
   pub most : as_nanos limit ≤ as_nanos connection.time.limit
 
+-- the most bytes of a write that does not wait where nothing else is on its way: 16 KiB
+abbrev pub quick_write : ℕ
+quick_write = 16384
+
 -- a write that cannot have waited: the first one of an exchange, of at most 16 KiB, which was taken
 -- whole
 pub record IsQuick (old : TcpConnection) (bytes : List ℕ) (count : ℕ) : Type 0 where
   pub fresh : old.has_waited ≡ false
-  pub small : length bytes ≤ 16384
+  pub small : length bytes ≤ quick_write
   pub whole : count ≡ length bytes

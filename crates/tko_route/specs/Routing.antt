@@ -1,6 +1,6 @@
--- The routing of a request as a value: what it holds between two calls, what look-ups add to it, and
--- what an outcome adds. An attempt at a server that is up has two halves: its look-up (`FoundUp`),
--- and the call that records what came of the send (`Concluded`).
+-- The routing of a request as a value: what it holds between two calls, what look-ups add to it,
+-- and what an outcome adds. An attempt at a server that is up has two halves: its look-up
+-- (`FoundUp`), and the call that records what came of the send (`Concluded`).
 use Rattle.std.specs.Prelude.{◌≡◌, ℕ, ◌≤◌, ◌-◌, ◌⊎◌, List, [], ◌∷◌, ◌++◌, length, map, take, Some}
 use Rattle.tko_model.specs.declared.mark.Op.TheVariants.{LookUp}
 use Rattle.tko_model.specs.declared.mark.Reply.TheVariants as reply

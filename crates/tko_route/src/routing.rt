@@ -1,5 +1,5 @@
-//! The routing of one request as a value that sends nothing itself: its caller sends. A look-up or a
-//! record of an outcome may wait for a lock of the health.
+//! The routing of one request as a value that sends nothing itself: its caller sends. A look-up or
+//! a record of an outcome may wait for a lock of the health.
 //!
 //! - `Routing`: nothing is sent. `next` looks for a server that is up.
 //! - `Waiting`: a request was sent. `record` takes what came of it.
@@ -59,7 +59,11 @@ impl Model for Waiting {
 
     ghost Value = { Awaited };
 
-    ghost view = { λ w. record { attempts = w.attempts.items; room = vec_capacity w.attempts; server = w.server } };
+    ghost view = { λ w. record {
+      attempts = w.attempts.items;
+      room = vec_capacity w.attempts;
+      server = w.server;
+    } };
 
     ghost invariant = { λ w. length w.attempts.items < vec_capacity w.attempts };
 }

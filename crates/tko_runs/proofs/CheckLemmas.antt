@@ -11,8 +11,8 @@ use Rattle.tko_runs.specs.declared.run.event.Event.{Event}
 use Rattle.tko_runs.specs.declared.run.event.Event.TheVariants.{Begin}
 use Rattle.tko_runs.specs.declared.checking.order.Point.{Point}
 use Rattle.tko_runs.specs.States.{AllCome, Claimed, IsRunData, RunState, calls_in, claimed, moment_of, opened_state, state_after}
-use Rattle.tko_runs.specs.CheckStates.{AreIn, AreJudged, AreKept, HasEntered, IsCheckOf, IsOpened, TellsIllegal, TellsRefusal}
-use Rattle.tko_runs.specs.Orders.{AllFollow, Follows, IsLegalRun, IsOrder, TellsRunFault}
+use Rattle.tko_runs.specs.CheckStates.{AreIn, AreJudged, AreKept, HasEntered, IsCheckOf, IsOpened, IsIllegalFault, IsRefusalFault}
+use Rattle.tko_runs.specs.Orders.{AllFollow, Follows, IsLegalRun, IsOrder, IsRunFault}
 use Rattle.tko_runs.specs.Runs.{RunData}
 use Rattle.tko_steps.specs.Runs.{calls_of}
 use Rattle.tko_runs.proofs.CallListLemmas.{AreKept-reverse}
@@ -61,9 +61,9 @@ AreIn-next s events rest event d new are entered =
     }
 
 -- an event that doesn't follow is the first stray one
-pub TellsRunFault-strays : (run : RunData) (rest : List Event) (event : Event) (d : CheckState) (told : RunFault)
-    → AreIn run.settings run.events (event ∷ rest) d → TellsRefusal d event told → TellsRunFault run told
-TellsRunFault-strays run rest event d (fault.Step number) are refused =
+pub IsRunFault-strays : (run : RunData) (rest : List Event) (event : Event) (d : CheckState) (told : RunFault)
+    → AreIn run.settings run.events (event ∷ rest) d → IsRefusalFault d event told → IsRunFault run told
+IsRunFault-strays run rest event d (fault.Step number) are refused =
     let F : Settings → Type 0 = λ settings. Follows settings d.run event → ⊥ in
     let G : RunState → Type 0 = λ state. Follows run.settings state event → ⊥ in
     record {
@@ -75,8 +75,8 @@ TellsRunFault-strays run rest event d (fault.Step number) are refused =
       others = are.follow;
       strays = subst G are.run (subst F are.settings refused.1);
     }
-TellsRunFault-strays run rest event d (fault.Call number) are refused = absurd refused
-TellsRunFault-strays run rest event d fault.Memory are refused = tt
+IsRunFault-strays run rest event d (fault.Call number) are refused = absurd refused
+IsRunFault-strays run rest event d fault.Memory are refused = tt
 
 -- Once all are in.
 
@@ -110,12 +110,12 @@ IsLegalRun-in run d points are judged =
       legal = judged.legal run.settings (calls_in run.settings run.events) (AreKept-in run.settings run.events d are);
     }
 
-pub TellsRunFault-illegal : (run : RunData) (d : CheckState) (told : RunFault) → AreIn run.settings run.events [] d
-    → TellsIllegal d.calls.all.items told → TellsRunFault run told
-TellsRunFault-illegal run d (fault.Step number) are illegal = absurd illegal
-TellsRunFault-illegal run d (fault.Call number) are illegal =
+pub IsRunFault-illegal : (run : RunData) (d : CheckState) (told : RunFault) → AreIn run.settings run.events [] d
+    → IsIllegalFault d.calls.all.items told → IsRunFault run told
+IsRunFault-illegal run d (fault.Step number) are illegal = absurd illegal
+IsRunFault-illegal run d (fault.Call number) are illegal =
     (AllFollow-in run.settings run.events d are, illegal.first run.settings (calls_in run.settings run.events) (AreKept-in run.settings run.events d are))
-TellsRunFault-illegal run d fault.Memory are illegal = tt
+IsRunFault-illegal run d fault.Memory are illegal = tt
 
 -- at the place of the loop
 
@@ -137,11 +137,11 @@ AreIn-step s events i none d new inside are entered =
     rw add-one
     (AreIn-next s events (drop (suc i) events) (get_or events i none) d new (AreIn-at s events i none d inside are) entered)
 
-pub TellsRunFault-step : (run : RunData) (i : ℕ) (none : Event) (d : CheckState) (told : RunFault) → i < length run.events
-    → AreIn run.settings run.events (drop i run.events) d → TellsRefusal d (get_or run.events i none) told
-    → TellsRunFault run told
-TellsRunFault-step run i none d told inside are refused =
-    TellsRunFault-strays run (drop (suc i) run.events) (get_or run.events i none) d told
+pub IsRunFault-step : (run : RunData) (i : ℕ) (none : Event) (d : CheckState) (told : RunFault) → i < length run.events
+    → AreIn run.settings run.events (drop i run.events) d → IsRefusalFault d (get_or run.events i none) told
+    → IsRunFault run told
+IsRunFault-step run i none d told inside are refused =
+    IsRunFault-strays run (drop (suc i) run.events) (get_or run.events i none) d told
     (AreIn-at run.settings run.events i none d inside are) refused
 
 pub AreIn-end : (s : Settings) (events : List Event) (i : ℕ) (d : CheckState) → length events ≤ i

@@ -6,7 +6,7 @@ use Rattle.tko_runs.specs.declared.run.event.Event.{Event}
 use Rattle.tko_runs.specs.declared.checking.RunFault.{RunFault}
 use Rattle.tko_runs.specs.declared.checking.RunFault.TheVariants as fault
 use Rattle.tko_runs.specs.States.{Claimed, calls_in, claimed, claimed_after, claimed_after_all, opened_claim, opened_state}
-use Rattle.tko_runs.specs.Orders.{AllFollow, Follows, IsFirstIllegal, IsFirstStray, IsLegalRun, TellsRunFault}
+use Rattle.tko_runs.specs.Orders.{AllFollow, Follows, IsFirstIllegal, IsFirstStray, IsLegalRun, IsRunFault}
 use Rattle.tko_runs.specs.Runs.{RunData}
 use Rattle.tko_steps.specs.Legal.{IsLegal}
 use Rattle.tko_steps.specs.Runs.{Call}
@@ -35,7 +35,7 @@ no_illegal s calls number all is =
     let P : List Call → Type 0 = λ every. All (IsLegal s) every in
     is.not_legal (legal_at s is.before is.illegal is.after (subst P is.split all))
 
-pub memory_alone : (run : RunData) (told : RunFault) → IsLegalRun run → TellsRunFault run told → told ≡ fault.Memory
+pub memory_alone : (run : RunData) (told : RunFault) → IsLegalRun run → IsRunFault run told → told ≡ fault.Memory
 memory_alone run (fault.Step number) legal tells = absurd (no_stray run.settings run.events number legal.follow tells)
 memory_alone run (fault.Call number) legal tells =
     absurd (no_illegal run.settings (calls_in run.settings run.events) number legal.legal tells.1)

@@ -17,9 +17,9 @@ use Rattle.tko_runs.proofs.LinkLemmas.{Linked-run, events_of-none, events_of-pus
 use Rattle.tko_steps.specs.declared.step.BeginFault.{BeginFault}
 use Rattle.tko_steps.specs.declared.step.Stepped.{Stepped}
 use Rattle.tko_steps.specs.declared.step.Stepped.TheVariants as stepped
-use Rattle.tko_steps.specs.Core.{CoreState, abstract_of, after_begin, after_step, begin_fault, told_by_step, unless_fault}
+use Rattle.tko_steps.specs.Core.{CoreState, abstract_of, after_begin, after_step, begin_fault, reported_by_step, unless_fault}
 use Rattle.tko_steps.specs.Legal.{IsLegal}
-use Rattle.tko_steps.specs.Runs.{Begin, Step, Turn, Call, Moment, World, began, calls_of, happens, run, with_told}
+use Rattle.tko_steps.specs.Runs.{Begin, Step, Turn, Call, Moment, World, began, calls_of, happens, run, with_reported}
 use Rattle.tko_steps.proofs.WiringLemmas.{run-push}
 
 -- what was played are turns of a run
@@ -40,7 +40,7 @@ events-begin p core past thread op server None same = events-moment p past (bega
 events-begin p core past thread op server (Some fault) same = same
 
 events-step : (p : Played) (before new : CoreState) (past : List Moment) (thread : ℕ) (told : Stepped) → p.events ≡ events_of past
-    → (plays.with_step p thread told).events ≡ events_of (with_told past thread (abstract_of before) (abstract_of new) told)
+    → (plays.with_step p thread told).events ≡ events_of (with_reported past thread (abstract_of before) (abstract_of new) told)
 events-step p before new past thread stepped.NoThread same = same
 events-step p before new past thread stepped.Idle same = same
 events-step p before new past thread (stepped.Did kind place found left won answer) same = events-moment p past _ same
@@ -55,8 +55,8 @@ events-turn p w (Begin thread op server) core events =
     ap (λ (c : CoreState). (with_begin p thread op server (begin_fault c thread server)).events) core
     ∙ events-begin p w.core w.past thread op server (begin_fault w.core thread server) events
 events-turn p w (Step thread) core events =
-    ap (λ (c : CoreState). (plays.with_step p thread (told_by_step c thread)).events) core
-    ∙ events-step p w.core (after_step w.core thread) w.past thread (told_by_step w.core thread) events
+    ap (λ (c : CoreState). (plays.with_step p thread (reported_by_step c thread)).events) core
+    ∙ events-step p w.core (after_step w.core thread) w.past thread (reported_by_step w.core thread) events
 
 IsRun-turn : (s : Settings) (p : Played) (turn : Turn) → IsRun s p → IsRun s (after_turn p turn)
 IsRun-turn s p turn is =

@@ -21,7 +21,7 @@ use Rattle.tko_steps.specs.declared.step.Word.{Word}
 use Rattle.tko_steps.specs.declared.step.Stepped.TheVariants as stepped
 use Rattle.tko_steps.specs.declared.phase.ThreadState.{ThreadState}
 use Rattle.tko_steps.specs.declared.phase.ThreadState.TheVariants.{NotEnrolled, Idle, InCall}
-use Rattle.tko_steps.specs.Core.{CoreState, after_begin, after_step, after_step_from, begin_fault, thread_at, told_by_step, told_from}
+use Rattle.tko_steps.specs.Core.{CoreState, after_begin, after_step, after_step_from, begin_fault, thread_at, reported_by_step, reported_from}
 use Rattle.tko_steps.specs.Runs.{Begin, Step, Turn}
 
 -- Turns in which nothing happens.
@@ -45,38 +45,38 @@ after_all-stalls core thread turn stalls (suc n) events skips =
     ∙ after_all-stalls core thread turn stalls n events (skips ++ skip ∷ [])
     ∙ ap (λ (all : List Skip). record { core = core; events = events; skips = all }) (append_assoc skips (skip ∷ []) (replicate n skip))
 
-unmoved_from-idle : (core : CoreState) (thread : ℕ) (state : ThreadState) → told_from core state ≡ stepped.Idle
+unmoved_from-idle : (core : CoreState) (thread : ℕ) (state : ThreadState) → reported_from core state ≡ stepped.Idle
     → after_step_from core thread state ≡ core
 unmoved_from-idle core thread NotEnrolled e = cc
 unmoved_from-idle core thread (Idle number) e = refl
 unmoved_from-idle core thread (InCall call phase) e = cc
 
 unmoved-idle : (core : CoreState) (thread : ℕ) (test : Bool)
-    → cond test (told_from core (thread_at core thread)) stepped.NoThread ≡ stepped.Idle
+    → cond test (reported_from core (thread_at core thread)) stepped.NoThread ≡ stepped.Idle
     → cond test (after_step_from core thread (thread_at core thread)) core ≡ core
 unmoved-idle core thread true e = unmoved_from-idle core thread (thread_at core thread) e
 unmoved-idle core thread false e = refl
 
-unmoved_from-none : (core : CoreState) (thread : ℕ) (state : ThreadState) → told_from core state ≡ stepped.NoThread
+unmoved_from-none : (core : CoreState) (thread : ℕ) (state : ThreadState) → reported_from core state ≡ stepped.NoThread
     → after_step_from core thread state ≡ core
 unmoved_from-none core thread NotEnrolled e = cc
 unmoved_from-none core thread (Idle number) e = refl
 unmoved_from-none core thread (InCall call phase) e = cc
 
 unmoved-none : (core : CoreState) (thread : ℕ) (test : Bool)
-    → cond test (told_from core (thread_at core thread)) stepped.NoThread ≡ stepped.NoThread
+    → cond test (reported_from core (thread_at core thread)) stepped.NoThread ≡ stepped.NoThread
     → cond test (after_step_from core thread (thread_at core thread)) core ≡ core
 unmoved-none core thread true e = unmoved_from-none core thread (thread_at core thread) e
 unmoved-none core thread false e = refl
 
-pub Stalls-idle : (core : CoreState) (thread : ℕ) → told_by_step core thread ≡ stepped.Idle → Stalls core thread (skipped.Idle thread)
+pub Stalls-idle : (core : CoreState) (thread : ℕ) → reported_by_step core thread ≡ stepped.Idle → Stalls core thread (skipped.Idle thread)
 Stalls-idle core thread told events skips =
     let p : Played = record { core = core; events = events; skips = skips } in
     ap (λ t. record (plays.with_step p thread t) { core = after_step core thread }) told
     ∙ ap (λ (c : CoreState). record (with_skip p (skipped.Idle thread)) { core = c })
     (unmoved-idle core thread (ltb thread (length core.threads)) told)
 
-pub Stalls-none : (core : CoreState) (thread : ℕ) → told_by_step core thread ≡ stepped.NoThread
+pub Stalls-none : (core : CoreState) (thread : ℕ) → reported_by_step core thread ≡ stepped.NoThread
     → Stalls core thread (skipped.NoThread thread)
 Stalls-none core thread told events skips =
     let p : Played = record { core = core; events = events; skips = skips } in
@@ -119,7 +119,7 @@ after_turn-refused p q thread op server fault is some =
 
 -- Steps, as they are kept.
 
-pub after_all-idle : (p q : Played) (thread n : ℕ) → p ≡ q → told_by_step p.core thread ≡ stepped.Idle
+pub after_all-idle : (p q : Played) (thread n : ℕ) → p ≡ q → reported_by_step p.core thread ≡ stepped.Idle
     → with_skips (record p { core = after_step p.core thread }) (skipped.Idle thread) n ≡ after_all q (replicate n (Step thread))
 after_all-idle p q thread n is told =
     ap (λ (c : CoreState). with_skips (record p { core = c }) (skipped.Idle thread) n)
@@ -127,7 +127,7 @@ after_all-idle p q thread n is told =
     ∙ sym (after_all-stalls p.core thread (skipped.Idle thread) (Stalls-idle p.core thread told) n p.events p.skips)
     ∙ ap (λ r. after_all r (replicate n (Step thread))) is
 
-pub after_all-none : (p q : Played) (thread n : ℕ) → p ≡ q → told_by_step p.core thread ≡ stepped.NoThread
+pub after_all-none : (p q : Played) (thread n : ℕ) → p ≡ q → reported_by_step p.core thread ≡ stepped.NoThread
     → with_skips (record p { core = after_step p.core thread }) (skipped.NoThread thread) n ≡ after_all q (replicate n (Step thread))
 after_all-none p q thread n is told =
     ap (λ (c : CoreState). with_skips (record p { core = c }) (skipped.NoThread thread) n)
@@ -140,7 +140,7 @@ replicate-left x n k low = let one : n - k ≡ suc (n - (k + 1)) = omega (arith,
 
 pub after_all-did : (p q : Played) (thread steps done : ℕ) → p ≡ q → done < steps
     → {kind : Kind} {place : Place} {found left : Word} {won : Bool} {answer : Option Reply}
-    → told_by_step p.core thread ≡ stepped.Did kind place found left won answer
+    → reported_by_step p.core thread ≡ stepped.Did kind place found left won answer
     → after_all (with_event (record p { core = after_step p.core thread }) (event.Step thread kind place found left answer))
     (replicate (steps - (done + 1)) (Step thread))
     ≡ after_all q (replicate (steps - done) (Step thread))

@@ -7,7 +7,7 @@ use Rattle.tko_runs.specs.declared.schedule.command.Command.{Command}
 use Rattle.tko_runs.specs.declared.schedule.fault.ScheduleFault.{ScheduleFault}
 use Rattle.tko_runs.specs.declared.schedule.fault.ScheduleFault.TheVariants as fault
 use Rattle.tko_bytes.specs.Lines.{lines_of}
-use Rattle.tko_runs.specs.Schedules.{commands_of, header, plan_behind, plan_in, plan_of, reads, TellsFault}
+use Rattle.tko_runs.specs.Schedules.{commands_of, header, plan_behind, plan_in, plan_of, reads, IsTextFault}
 
 pub reads-long : (text : List ℕ) → 1048576 < length text → reads text ≡ Err (fault.Line 0)
 unfolding reads
@@ -43,10 +43,10 @@ pub reads-plan : (text rest : List ℕ) (settings : Settings) (commands : List C
 reads-plan text rest settings commands short good behind all =
     reads-behind text rest settings short good behind ∙ ap (plan_behind settings) all
 
-pub tells_fault : (text : List ℕ) (told : ScheduleFault) → reads text ≡ Err told → TellsFault text told
-tells_fault text (fault.Line number) e = e
-tells_fault text (fault.Settings outside) e = e
-tells_fault text fault.Memory e = tt
+pub is_text_fault : (text : List ℕ) (told : ScheduleFault) → reads text ≡ Err told → IsTextFault text told
+is_text_fault text (fault.Line number) e = e
+is_text_fault text (fault.Settings outside) e = e
+is_text_fault text fault.Memory e = tt
 
-pub tells_memory : (text : List ℕ) (told : ScheduleFault) → told ≡ fault.Memory → TellsFault text told
-tells_memory text told e = rw e tt
+pub is_text_memory : (text : List ℕ) (told : ScheduleFault) → told ≡ fault.Memory → IsTextFault text told
+is_text_memory text told e = rw e tt

@@ -30,7 +30,7 @@ use Rattle.tko_steps.specs.Runs.{Call, Moment, calls_of, steps_in}
 
 -- Changes of the calls.
 
--- so many threads, and no call
+-- `threads` threads, and no call
 pub record AreOpened (threads : ℕ) (new : Calls) : Type 0 where
   pub latest : length new.latest.items ≡ threads
   pub calls : new.all.items ≡ []
@@ -183,11 +183,11 @@ pub record HasFollowed
   pub steps : new.steps ≡ old.steps + 1
 
 -- why it refused the step
-abbrev pub TellsStray : CheckState → Kind → Place → Word → Word → RunFault → Type 0
-TellsStray old kind at found left (fault.Step number) =
+abbrev pub IsStrayFault : CheckState → Kind → Place → Word → Word → RunFault → Type 0
+IsStrayFault old kind at found left (fault.Step number) =
     (number ≡ old.steps + 1) × (FollowsAt old.settings old.run kind at found left → ⊥)
-TellsStray old kind at found left (fault.Call number) = ⊥
-TellsStray old kind at found left fault.Memory = Unit {0}
+IsStrayFault old kind at found left (fault.Call number) = ⊥
+IsStrayFault old kind at found left fault.Memory = Unit {0}
 
 -- the state took the event, which follows
 pub record HasEntered (old : CheckState) (event : Event) (new : CheckState) : Type 0 where
@@ -198,11 +198,11 @@ pub record HasEntered (old : CheckState) (event : Event) (new : CheckState) : Ty
       IsCheckOf past old → IsCheckOf (moment_of old.run event ∷ past) new
 
 -- why it refused the event
-abbrev pub TellsRefusal : CheckState → Event → RunFault → Type 0
-TellsRefusal old event (fault.Step number) =
+abbrev pub IsRefusalFault : CheckState → Event → RunFault → Type 0
+IsRefusalFault old event (fault.Step number) =
     (number ≡ old.steps + 1) × (Follows old.settings old.run event → ⊥)
-TellsRefusal old event (fault.Call number) = ⊥
-TellsRefusal old event fault.Memory = Unit {0}
+IsRefusalFault old event (fault.Call number) = ⊥
+IsRefusalFault old event fault.Memory = Unit {0}
 
 -- the state took the first of these events, and these are left
 pub record AreIn (s : Settings) (events rest : List Event) (d : CheckState) : Type 0 where
@@ -226,7 +226,7 @@ pub record IsIllegalAt (kept : List CheckedCall) (number : ℕ) : Type 0 where
   pub first : (s : Settings) (calls : List Call) →
       AreKept s calls kept → IsFirstIllegal s calls number
 
-abbrev pub TellsIllegal : List CheckedCall → RunFault → Type 0
-TellsIllegal kept (fault.Step number) = ⊥
-TellsIllegal kept (fault.Call number) = IsIllegalAt kept number
-TellsIllegal kept fault.Memory = Unit {0}
+abbrev pub IsIllegalFault : List CheckedCall → RunFault → Type 0
+IsIllegalFault kept (fault.Step number) = ⊥
+IsIllegalFault kept (fault.Call number) = IsIllegalAt kept number
+IsIllegalFault kept fault.Memory = Unit {0}

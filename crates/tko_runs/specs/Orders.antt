@@ -96,12 +96,12 @@ pub record IsLegalRun (run : RunData) : Type 0 where
   pub legal : All (IsLegal run.settings) (calls_in run.settings run.events)
 
 -- the fault of a check: steps are judged before calls; any call may instead fail with `Memory`
-abbrev pub TellsRunFault : RunData → RunFault → Type 0
-TellsRunFault run (fault.Step number) = IsFirstStray run.settings run.events number
-TellsRunFault run (fault.Call number) =
+abbrev pub IsRunFault : RunData → RunFault → Type 0
+IsRunFault run (fault.Step number) = IsFirstStray run.settings run.events number
+IsRunFault run (fault.Call number) =
     AllFollow run.settings (opened_state run.settings) run.events
     × IsFirstIllegal run.settings (calls_in run.settings run.events) number
-TellsRunFault run fault.Memory = Unit {0}
+IsRunFault run fault.Memory = Unit {0}
 
 -- the number of the step at which the call of that number, from 1, takes effect
 abbrev pub step_of : Option Point → Option ℕ

@@ -14,7 +14,7 @@ use Rattle.tko_runs.specs.Runs.{Skip, RunData}
 use Rattle.tko_steps.specs.declared.step.BeginFault.{BeginFault}
 use Rattle.tko_steps.specs.declared.step.Stepped.{Stepped}
 use Rattle.tko_steps.specs.declared.step.Stepped.TheVariants.{NoThread, Idle, Did}
-use Rattle.tko_steps.specs.Core.{CoreState, after_begin, after_step, begin_fault, has_call, opened_core, thread_at, told_by_step}
+use Rattle.tko_steps.specs.Core.{CoreState, after_begin, after_step, begin_fault, has_call, opened_core, thread_at, reported_by_step}
 use Rattle.tko_steps.specs.Runs.{Begin, Step, Turn}
 
 -- the core, and the events and the skipped turns so far
@@ -33,7 +33,7 @@ skip_of p turn = record { after = length p.events; turn = turn }
 abbrev pub with_skip : Played → SkippedTurn → Played
 with_skip p turn = record p { skips = p.skips ++ skip_of p turn ∷ [] }
 
--- the same skipped turn so many times
+-- the same skipped turn, `times` times
 abbrev pub with_skips : Played → SkippedTurn → ℕ → Played
 with_skips p turn times = record p { skips = p.skips ++ replicate times (skip_of p turn) }
 
@@ -56,13 +56,13 @@ after_turn p (Begin thread op server) =
       core = after_begin p.core thread op server;
     }
 after_turn p (Step thread) =
-    record (with_step p thread (told_by_step p.core thread)) { core = after_step p.core thread }
+    record (with_step p thread (reported_by_step p.core thread)) { core = after_step p.core thread }
 
 abbrev pub after_all : Played → List Turn → Played
 after_all p [] = p
 after_all p (turn ∷ turns) = after_all (after_turn p turn) turns
 
--- how many steps a thread takes until it has no call, or so many if it still has one after these
+-- how many steps a thread takes until it has no call, or the bound if it still has one then
 unfoldable pub steps_to_answer : ℕ → CoreState → ℕ → ℕ
 steps_to_answer zero core thread = 0
 steps_to_answer (suc most) core thread =
@@ -84,7 +84,7 @@ abbrev pub after_commands : Played → List Command → Played
 after_commands p [] = p
 after_commands p (command ∷ commands) = after_commands (after_command p command) commands
 
--- each of so many threads takes one step, in the order of their places
+-- each thread below this number takes one step, in the order of their places
 abbrev pub enrolments : ℕ → List Turn
 enrolments zero = []
 enrolments (suc thread) = enrolments thread ++ Step thread ∷ []

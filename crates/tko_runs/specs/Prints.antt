@@ -122,7 +122,7 @@ skipped_text (skipped.Refused thread op server fault) =
 skipped_text (skipped.Idle thread) = line (codes "- " ++ (decimal thread ++ codes " idle"))
 skipped_text (skipped.NoThread thread) = line (codes "- " ++ (decimal thread ++ codes " no-thread"))
 
--- the events after so many others, from that number on, with the skips between them
+-- the events after the first `place`, numbered from `number` on, with the skips between them
 abbrev pub lines_text : ℕ → ℕ → List Event → List Skip → List ℕ
 lines_text number place events [] = events_text number events
 lines_text number place events (skip ∷ skips) =

@@ -141,7 +141,7 @@ header lines =
 abbrev pub bad_place : List (List ℕ) → ℕ
 bad_place lines = min (position_or_len (λ line. is_none (command_line line)) lines) max_commands
 
--- the commands of so many lines, or the first bad line
+-- the commands of these lines, or the first bad line
 unfoldable pub commands_of : List (List ℕ) → Result (List Command) ScheduleFault
 commands_of lines =
     if nat_lt (bad_place lines) (length lines)
@@ -173,7 +173,7 @@ reads text =
     else plan_in (header (lines_of text)) (commands_of (drop header_lines (lines_of text)))
 
 -- the fault of a text is exact; any call may instead fail with `Memory`
-abbrev pub TellsFault : List ℕ → ScheduleFault → Type 0
-TellsFault text (fault.Line number) = reads text ≡ Err (fault.Line number)
-TellsFault text (fault.Settings outside) = reads text ≡ Err (fault.Settings outside)
-TellsFault text fault.Memory = Unit {0}
+abbrev pub IsTextFault : List ℕ → ScheduleFault → Type 0
+IsTextFault text (fault.Line number) = reads text ≡ Err (fault.Line number)
+IsTextFault text (fault.Settings outside) = reads text ≡ Err (fault.Settings outside)
+IsTextFault text fault.Memory = Unit {0}

@@ -168,10 +168,10 @@ pub record IsFirstBad (s : Settings) (events : List Event) (number : ℕ) : Type
   pub cannot : CanCome (state_after_all (opened_state s) before) bad → ⊥
 
 -- why a claim is no run: settings are judged first; any call may instead fail with `Memory`
-abbrev pub TellsClaimFault : Settings → List Event → ClaimFault → Type 0
-TellsClaimFault s events (fault.Settings outside) = first_fault s ≡ Some outside
-TellsClaimFault s events (fault.Event number) = IsWithinRanges s × IsFirstBad s events number
-TellsClaimFault s events fault.Memory = Unit {0}
+abbrev pub IsClaimFault : Settings → List Event → ClaimFault → Type 0
+IsClaimFault s events (fault.Settings outside) = first_fault s ≡ Some outside
+IsClaimFault s events (fault.Event number) = IsWithinRanges s × IsFirstBad s events number
+IsClaimFault s events fault.Memory = Unit {0}
 
 -- what holds of each run: its settings are in their ranges, and its events can come one after
 -- another

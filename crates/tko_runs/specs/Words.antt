@@ -79,7 +79,7 @@ CanLeaveSlots s kind.Mark found left = ⊥
 CanLeaveSlots s kind.Own found left = ⊥
 CanLeaveSlots s kind.Enrol found left = ⊥
 
--- a step of this kind can leave this of a word, while so many slots are held
+-- a step of this kind can leave this of a word, while `held` slots are held
 abbrev pub CanLeave : Settings → ℕ → Kind → Word → Word → Type 0
 CanLeave s held by (word.Server found) (word.Server left) = CanLeaveServer s held by found left
 CanLeave s held by (word.Server found) (word.Soft left) = ⊥

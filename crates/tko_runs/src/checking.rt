@@ -1,7 +1,7 @@
 //! The check of a run: whether each step finds the word that was left, and where each call takes
 //! effect.
 ghost use Rattle.std.specs.Prelude.{◌≡◌, IfOk, IfErr};
-ghost use Rattle.tko_runs.specs.Orders.{IsLegalRun, IsOrderOf, TellsRunFault};
+ghost use Rattle.tko_runs.specs.Orders.{IsLegalRun, IsOrderOf, IsRunFault};
 
 mod calls;
 mod effect;
@@ -49,7 +49,7 @@ impl From<NoMemory> for RunFault {
 pub fn check(alloc: Global, run: &Run) -> Result<Order, RunFault>
     ensures order { IfOk result (IsOrderOf run.now) }
     ensures legal { IfOk result (λ order. IsLegalRun run.now) }
-    ensures err { IfErr result (TellsRunFault run.now) }
+    ensures err { IfErr result (IsRunFault run.now) }
     ensures never { IsLegalRun run.now → IfErr result (λ fault. fault ≡ RunFault.Memory) }
 {
     let mut state = CheckState::open(alloc, run.settings())?;

@@ -81,7 +81,7 @@ fn steps_of(event: &Event) -> u64
     }
 }
 
-/// A skipped turn, so many times.
+/// Appends the line of a skipped turn `times` times.
 #[tactic(auto, using(crate::proofs::PrintLemmas::repeated_more))]
 fn append_skipped(out: &mut Vec<u8>, turn: SkippedTurn, times: u64) -> Result<(), NoMemory>
     ensures { OnOk result (out.new.items ≡ out.old.items ++ repeated times (skipped_text turn)) }

@@ -23,7 +23,7 @@ pub struct Run {
     skips: Vec<SkippedTurns>,
 }
 
-/// A turn that was skipped so many times, after so many events.
+/// A turn that was skipped `times` times in a row, after the first `after` events.
 #[derive(Clone, Copy, Debug)]
 pub(crate) struct SkippedTurns {
     pub after: usize,

@@ -1,6 +1,6 @@
 //! Schedules, and how they are read.
 ghost use Rattle.std.specs.Prelude.{◌≡◌, Ok, IfOk, IfErr};
-ghost use Rattle.tko_runs.specs.Schedules.{TellsFault, reads};
+ghost use Rattle.tko_runs.specs.Schedules.{IsTextFault, reads};
 
 pub(crate) mod command;
 mod commands;
@@ -44,7 +44,7 @@ impl Schedule {
     /// Reads a schedule. The lines are judged first, and then the settings.
     pub fn read(alloc: Global, bytes: &[u8]) -> Result<Schedule, ScheduleFault>
         ensures ok { IfOk result (λ schedule. reads bytes.now ≡ Ok schedule) }
-        ensures err { IfErr result (λ fault. TellsFault bytes.now fault) }
+        ensures err { IfErr result (λ fault. IsTextFault bytes.now fault) }
     {
         if bytes.len() > MAX_BYTES {
             return Err(ScheduleFault::Line(0));

@@ -22,7 +22,7 @@ stop_of_kind kind.WouldBlock = stop.Nobody
 stop_of_kind kind.ConnectionAborted = stop.Aborted
 stop_of_kind _ = stop.Failed
 
--- how many connections there are after an accept, if there were so many; it stays at 2^64 - 1
+-- how many connections there are after an accept, if there were `count`; it stays at 2^64 - 1
 abbrev pub count_after : {S : Type 0} → ℕ → Result S AcceptStop → ℕ
 count_after count (Ok stream) = min 18446744073709551615 (count + 1)
 count_after count (Err stop) = count
@@ -33,7 +33,7 @@ is_broken (Ok stream) = false
 is_broken (Err stop.Broken) = true
 is_broken (Err _) = false
 
--- accepting so many connections, where 0 is no limit, came to this end
+-- accepting `connections` connections, where 0 is no limit, came to this end
 pub record HasAccepted (connections : ℕ) (listening : Listening) (ended : AcceptEnd) : Type 0 where
   -- all of them were accepted, and none more
   pub enough : ended ≡ Enough → (0 < connections) × (listening.accepted ≡ connections)

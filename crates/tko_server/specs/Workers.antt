@@ -26,12 +26,14 @@ abbrev pub AreReady : {C P S L M : Type 0} → (S → P → Type 0) → (S → �
 AreReady own seated linked members = All (λ member. IsReady own seated linked member) members
 
 -- what a worker works with is what the options ask for
-pub record HasOptions {S L M : Type 0} (options : Options) (parts : WorkerParts S L M) : Type 0 where
+pub record HasOptions {S L M : Type 0} (options : Options) (parts : WorkerParts S L M)
+    : Type 0 where
   pub config : parts.config ≡ options.config
   pub probers : parts.probers ≡ no_probers options.delays (length options.config.addresses)
 
 -- ready at a seating in a lock with these settings, and by links over a wire
-abbrev pub AreReadyAt : {C S W M : Type 0} → Settings → List (Member C ℕ S (WiredState W) M) → Type 0
+abbrev pub AreReadyAt : {C S W M : Type 0} → Settings → List (Member C ℕ S (WiredState W) M)
+    → Type 0
 AreReadyAt settings members = AreReady (λ _ idle. idle < settings.threads) (λ _. settings.servers)
     (λ links. length links.sends) members
 

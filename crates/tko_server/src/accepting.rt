@@ -30,9 +30,9 @@ pub(crate) struct Entrance {
     pub(crate) patience: Patience,
 }
 
-/// Accepts connections while there is room for them, and sends each to the workers, until there were
-/// so many, where 0 is no limit, or until no worker is left. An accept that failed is made again once
-/// a client has left, or after a tenth of a second.
+/// Accepts connections while there is room for them, and sends each to the workers, until there
+/// were `connections` of them, where 0 is no limit, or until no worker is left. An accept that
+/// failed is made again once a client has left, or after a tenth of a second.
 pub(crate) fn accept_all<R: Wait>(
     rt: &R,
     alloc: Global,
@@ -72,8 +72,8 @@ pub(crate) fn accept_all<R: Wait>(
 }
 
 impl Entrance {
-    /// Sends a connection to the workers, and returns whether there is one. A connection whose socket
-    /// cannot be set up is closed at once.
+    /// Sends a connection to the workers, and returns whether there is one. A connection whose
+    /// socket cannot be set up is closed at once.
     fn admit<R: Wait>(&self, rt: &R, alloc: Global, stream: TcpStream) -> bool {
         match self.client(alloc, stream) {
             Ok(Some(client)) => self.clients.send(rt, client).is_ok(),

@@ -14,8 +14,8 @@ pub struct Account<'a> {
 }
 
 impl Account<'_> {
-    /// Adds what was counted to the book and to the share. Returns whether the ledger was full for a
-    /// kind; of that kind nothing is added.
+    /// Adds what was counted to the book and to the share. Returns whether the ledger was full for
+    /// a kind; of that kind nothing is added.
     pub(crate) fn add<R: Wait>(&mut self, rt: &R, counts: &Counts, probes: u64) -> bool {
         let mut book = self.book.lock(rt);
         add_counts(&mut book, self.share, counts, probes)

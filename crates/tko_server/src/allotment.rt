@@ -23,9 +23,9 @@ pub struct Allotment {
 }
 
 impl Allotment {
-    /// For so many threads and servers, where the process may have so many files open. Each worker
-    /// has a connection to each server and a client, and looks up the name of one host at a time.
-    /// One worker with one client there is in any case.
+    /// What fits where the process may have at most `limit` files open. Each worker has a
+    /// connection to each server and a client, and looks up the name of one host at a time. One
+    /// worker with one client there is in any case.
     pub fn of(limit: Option<u64>, threads: u32, servers: u32) -> Allotment
         requires { 0 < threads }
         ensures needed { result.needed ≡ needed_files threads servers }
@@ -55,7 +55,7 @@ fn needed_files(threads: u32, servers: u32) -> u64
         .saturating_add(OTHERS + WAITING)
 }
 
-/// How many workers, each of which has so many descriptors beside its client's, and how many clients
+/// How many workers, each of which has `each` descriptors beside its client's, and how many clients
 /// fit into a limit.
 fn fitting(limit: u64, threads: u32, each: u64) -> (u32, u64)
     requires some { 0 < threads }

@@ -102,8 +102,8 @@ impl Write for Outgoing {
     }
 }
 
-/// The clients that were accepted, from a channel. A worker for which the process has no descriptors
-/// has none.
+/// The clients that were accepted, from a channel. A worker for which the process has no
+/// descriptors has none.
 #[derive(Drop)]
 pub(crate) struct Clients {
     pub(crate) accepted: Option<Receiver<Client>>,

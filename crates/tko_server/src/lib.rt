@@ -7,8 +7,8 @@
 //! - `Member`: what one worker of a `pool` is started with.
 //! - `run`: accepts connections over TCP and serves them by a pool, as its `Options` say;
 //!   `run_to_end` says what the workers met too.
-//! - `Allotment`: how many workers and clients the process has descriptors for; `Patience`: how long
-//!   a server waits for a client.
+//! - `Allotment`: how many workers and clients the process has descriptors for; `Patience`: how
+//!   long a server waits for a client.
 #![tactic(auto)]
 
 mod accepting;

@@ -45,8 +45,8 @@ pub(crate) struct Listening<'a> {
 }
 
 impl<'a> Listening<'a> {
-    /// An accept waits for a connection for a tenth of a second. Where the system does not take this
-    /// limit, it waits until one comes.
+    /// An accept waits for a connection for a tenth of a second. Where the system does not take
+    /// this limit, it waits until one comes.
     pub(crate) fn new(listener: &'a TcpListener) -> Listening<'a>
         ensures { (result.accepted ≡ 0) × (result.is_broken ≡ false) }
     {

@@ -18,7 +18,7 @@ pub(crate) struct Room {
 }
 
 impl Room {
-    /// A room for so many clients, with none in it.
+    /// A room for at most `most` clients, with none in it.
     pub(crate) fn open(alloc: Global, most: u64) -> Result<Arc<Room, Global>, AllocError> {
         let room = Room {
             most,
@@ -38,8 +38,8 @@ impl Room {
         self.is_closed.load(Ordering::SeqCst)
     }
 
-    /// Whether one more client may be connected. Where none may, it waits until a client leaves, or a
-    /// tenth of a second.
+    /// Whether one more client may be connected. Where none may, it waits until a client leaves, or
+    /// a tenth of a second.
     pub(crate) fn has_place<R: Wait>(&self, rt: &R) -> bool {
         let connected = self.connected.load(Ordering::SeqCst);
         if connected < self.most {
@@ -54,7 +54,7 @@ impl Room {
         self.wait_while(rt, self.connected.load(Ordering::SeqCst));
     }
 
-    /// Waits while so many clients are connected, or a tenth of a second.
+    /// Waits while the number of clients is still `connected`, or a tenth of a second.
     fn wait_while<R: Wait>(&self, rt: &R, connected: u64) {
         let pause = Duration::from_millis(PAUSE);
         let low = connected % (1 << 32);

@@ -15,8 +15,8 @@ use tko_session::{
     Counts, Inlet, Moments, Outlet, Parts, Probers, Report, SessionFault, round, serve,
 };
 
-/// What a worker works with: the seat that it takes, the links, the configuration, the probers, their
-/// clock, and its account.
+/// What a worker works with: the seat that it takes, the links, the configuration, the probers,
+/// their clock, and its account.
 #[derive(Drop)]
 pub struct WorkerParts<'a, S, L, M> {
     pub seating: &'a S,
@@ -128,7 +128,7 @@ impl<H: Health, L: Links, M: Moments> Working<H, L, M> {
     }
 }
 
-/// How many probes these links sent to so many servers; it stays at 2^64 - 1.
+/// How many probes these links sent to the first `servers` servers; it stays at 2^64 - 1.
 fn probes_of<L: Links>(links: &L, servers: usize) -> u64
     requires { servers ≤ L.servers links.now }
 {

@@ -12,7 +12,7 @@ use Rattle.tko_steps.specs.declared.phase.Phase.{Phase}
 use Rattle.tko_steps.specs.declared.step.Stepped.{Stepped}
 use Rattle.tko_steps.specs.declared.step.Stepped.TheVariants as stepped
 use Rattle.tko_steps.specs.declared.step.Word.{Word}
-use Rattle.tko_steps.specs.Core.{CoreState, IsOnOneWord, IsPlace, Shared, found_by, follows, seen_by, shared_after, told_by_act, word_at}
+use Rattle.tko_steps.specs.Core.{CoreState, IsOnOneWord, IsPlace, Shared, found_by, follows, seen_by, shared_after, reported_by_act, word_at}
 use Rattle.tko_steps.specs.Steps.{answer_of, is_done, kind_of, place_of, word_after}
 use Rattle.tko_steps.specs.Table.{action_of, same_server}
 
@@ -68,7 +68,7 @@ reported core call phase =
     (is_done (seen_by core.shared call.server act)) (answer_of (follows core call phase))
 
 pub reported-is : (core : CoreState) (call : Call) (phase : Phase) → IsPlace core.shared (place_of call.server (action_of call.number phase))
-    → reported core call phase ≡ told_by_act core call phase
+    → reported core call phase ≡ reported_by_act core call phase
 reported-is core call phase there =
     let act = action_of call.number phase in
     ap (λ (left : Word).

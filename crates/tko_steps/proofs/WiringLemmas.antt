@@ -8,9 +8,9 @@ use Rattle.tko_steps.specs.declared.step.BeginFault.TheVariants as fault
 use Rattle.tko_steps.specs.declared.step.Stepped.TheVariants as stepped
 use Rattle.tko_steps.specs.declared.phase.ThreadState.{ThreadState}
 use Rattle.tko_steps.specs.declared.phase.ThreadState.TheVariants.{NotEnrolled, Idle, InCall}
-use Rattle.tko_steps.specs.Core.{CoreState, abstract_of, after_step_from, begin_fault, fault_at, thread_at, told_from, unless_fault, with_thread}
+use Rattle.tko_steps.specs.Core.{CoreState, abstract_of, after_step_from, begin_fault, fault_at, thread_at, reported_from, unless_fault, with_thread}
 use Rattle.tko_steps.specs.Steps.{in_call}
-use Rattle.tko_steps.specs.Runs.{Begin, Step, Turn, World, after_turns, began, happens, run, start, with_told}
+use Rattle.tko_steps.specs.Runs.{Begin, Step, Turn, World, after_turns, began, happens, run, start, with_reported}
 
 -- the world once a call of an idle thread began
 abbrev pub begun : World → ℕ → Op → ℕ → World
@@ -25,14 +25,14 @@ abbrev pub stepped_from : World → ℕ → ThreadState → World
 stepped_from w thread state =
     record {
       core = after_step_from w.core thread state;
-      past = with_told w.past thread (abstract_of w.core) (abstract_of (after_step_from w.core thread state)) (told_from w.core state);
+      past = with_reported w.past thread (abstract_of w.core) (abstract_of (after_step_from w.core thread state)) (reported_from w.core state);
     }
 
 keeps-either : (P : World → Type 0) (w : World) (thread : ℕ) (state : ThreadState) (test : Bool) → P w
     → (test ≡ true → P (stepped_from w thread state))
     → (let new : CoreState = cond test (after_step_from w.core thread state) w.core in
-    let told = cond test (told_from w.core state) stepped.NoThread in
-    P (record { core = new; past = with_told w.past thread (abstract_of w.core) (abstract_of new) told }))
+    let told = cond test (reported_from w.core state) stepped.NoThread in
+    P (record { core = new; past = with_reported w.past thread (abstract_of w.core) (abstract_of new) told }))
 keeps-either P w thread state true holds next = next refl
 keeps-either P w thread state false holds next = holds
 

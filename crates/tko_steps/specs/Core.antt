@@ -27,7 +27,7 @@ use Rattle.tko_steps.specs.declared.step.Stepped.{Stepped}
 use Rattle.tko_steps.specs.declared.step.Stepped.TheVariants as stepped
 use Rattle.tko_steps.specs.declared.step.Word.{Word}
 use Rattle.tko_steps.specs.declared.step.Word.TheVariants as word
-use Rattle.tko_steps.specs.Steps.{decided_by, in_call, place_of, seen_in, server_written, slots_after, state_after, told_by, word_after, writes}
+use Rattle.tko_steps.specs.Steps.{decided_by, in_call, place_of, seen_in, server_written, slots_after, state_after, reported_by, word_after, writes}
 use Rattle.tko_steps.specs.Table.{action_of}
 
 -- what the words hold: each server's mark and stamp, the counts of the soft word, and how many
@@ -157,7 +157,7 @@ CanAct shared server Settle = (0 < shared.slots.held) × (shared.slots.firm + 1 
 CanAct shared server Loosen = (0 < shared.slots.firm) × (shared.slots.held + 1 < 2 ^ 32)
 CanAct shared server Give = 0 < shared.slots.held
 
--- the word of this place is there, and a number of threads fits what is told of it
+-- the word of this place is there, and a number of threads fits what is said of it
 abbrev pub IsPlace : Shared → Place → Type 0
 IsPlace shared (place.Server server) = server < length shared.servers
 IsPlace shared place.Soft = Unit {0}
@@ -181,8 +181,8 @@ after_act core thread call phase =
     }
 
 -- what that step reports
-abbrev pub told_by_act : CoreState → Call → Phase → Stepped
-told_by_act core call phase = told_by core.settings call phase (found_by core call phase)
+abbrev pub reported_by_act : CoreState → Call → Phase → Stepped
+reported_by_act core call phase = reported_by core.settings call phase (found_by core call phase)
 
 -- an enrolment: the thread draws how many were enrolled before it
 abbrev pub after_enrol : CoreState → ℕ → CoreState
@@ -193,8 +193,8 @@ after_enrol core thread =
       threads = slice_set core.threads thread (Idle core.shared.enrolled);
     }
 
-abbrev pub told_by_enrol : CoreState → Stepped
-told_by_enrol core =
+abbrev pub reported_by_enrol : CoreState → Stepped
+reported_by_enrol core =
     stepped.Did
     kind.Enrol
     place.Enrolment
@@ -210,10 +210,10 @@ after_step_from core thread (Idle number) = core
 after_step_from core thread (InCall call phase) = after_act core thread call phase
 
 -- what that step reports
-abbrev pub told_from : CoreState → ThreadState → Stepped
-told_from core NotEnrolled = told_by_enrol core
-told_from core (Idle number) = stepped.Idle
-told_from core (InCall call phase) = told_by_act core call phase
+abbrev pub reported_from : CoreState → ThreadState → Stepped
+reported_from core NotEnrolled = reported_by_enrol core
+reported_from core (Idle number) = stepped.Idle
+reported_from core (InCall call phase) = reported_by_act core call phase
 
 abbrev pub after_step : CoreState → ℕ → CoreState
 after_step core thread =
@@ -221,10 +221,10 @@ after_step core thread =
     then after_step_from core thread (thread_at core thread)
     else core
 
-abbrev pub told_by_step : CoreState → ℕ → Stepped
-told_by_step core thread =
+abbrev pub reported_by_step : CoreState → ℕ → Stepped
+reported_by_step core thread =
     if nat_lt thread (length core.threads)
-    then told_from core (thread_at core thread)
+    then reported_from core (thread_at core thread)
     else stepped.NoThread
 
 -- whether a thread has this number

@@ -87,7 +87,7 @@ pub record IsCore (core : CoreState) : Type 0 where
   pub count : length (abstract_of core) ≡ core.settings.servers
   pub fit : All (λ server. IsFit core.settings server.mark server.stamp) (abstract_of core)
   pub threads : length core.threads ≡ core.settings.threads
-  -- so many threads are enrolled, and each number below that is one thread's
+  -- the enrolment counter counts the enrolled threads, and each number below it is one thread's
   pub enrolled : count_by is_enrolled core.threads ≡ core.shared.enrolled
   pub numbers : (number : ℕ) →
       count_by (has_number number) core.threads

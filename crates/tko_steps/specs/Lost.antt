@@ -125,7 +125,7 @@ abbrev pub lost_tries : Settings → List OwnStep → ℕ
 lost_tries s [] = 0
 lost_tries s (own ∷ older) = lost_tries s older + (if counts_try s own older then 1 else 0)
 
--- a call that is answered Contended lost exactly so many tries as the settings allow
+-- a call that is answered Contended lost exactly as many tries as the settings allow
 abbrev pub HasLostEachTry : Settings → Call → Type 0
 HasLostEachTry s call = call.answer ≡ Some Contended → lost_tries s call.steps ≡ s.tries
 

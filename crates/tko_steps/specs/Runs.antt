@@ -11,7 +11,7 @@ use Rattle.tko_steps.specs.declared.step.Place.{Place}
 use Rattle.tko_steps.specs.declared.step.Stepped.{Stepped}
 use Rattle.tko_steps.specs.declared.step.Stepped.TheVariants.{NoThread, Idle, Did}
 use Rattle.tko_steps.specs.declared.step.Word.{Word}
-use Rattle.tko_steps.specs.Core.{CoreState, abstract_of, after_begin, after_step, begin_fault, is_call_step, number_of, opened_core, thread_at, told_by_step, unless_fault}
+use Rattle.tko_steps.specs.Core.{CoreState, abstract_of, after_begin, after_step, begin_fault, is_call_step, number_of, opened_core, thread_at, reported_by_step, unless_fault}
 use Rattle.tko_steps.specs.Steps.{is_server, owns_after}
 
 -- a turn: a begin of any thread, of any operation on any server, or a step of any thread
@@ -47,10 +47,11 @@ began core thread op server =
     Began thread (unwrap_or (number_of (thread_at core thread)) 0) op server
 
 -- the past with what a step reported, if it did anything
-abbrev pub with_told : List Moment → ℕ → List ServerState → List ServerState → Stepped → List Moment
-with_told past thread before after NoThread = past
-with_told past thread before after Idle = past
-with_told past thread before after (Did kind place found left won answer) =
+abbrev pub with_reported : List Moment → ℕ → List ServerState → List ServerState → Stepped
+    → List Moment
+with_reported past thread before after NoThread = past
+with_reported past thread before after Idle = past
+with_reported past thread before after (Did kind place found left won answer) =
     Took
     (record {
       thread = thread;
@@ -75,10 +76,10 @@ happens w (Begin thread op server) =
     }
 happens w (Step thread) =
     let new = after_step w.core thread in
-    let told = told_by_step w.core thread in
+    let reported = reported_by_step w.core thread in
     record {
       core = new;
-      past = with_told w.past thread (abstract_of w.core) (abstract_of new) told;
+      past = with_reported w.past thread (abstract_of w.core) (abstract_of new) reported;
     }
 
 -- turns, one after another

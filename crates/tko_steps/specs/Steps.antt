@@ -53,8 +53,8 @@ place_of server action = place.Soft
 
 -- The word of a step.
 
--- whether a step writes the word that it finds: a look does not, and an exchange does where it finds
--- the word that it expects
+-- whether a step writes the word that it finds: a look does not, and an exchange does where it
+-- finds the word that it expects
 abbrev pub writes : Action → Word → Bool
 writes (Exchange found mark) (word.Server now) = same_server now found
 writes (Reserve slots) (word.Soft now) = same_slots now slots
@@ -123,8 +123,8 @@ abbrev pub thread_after : Settings → Call → Phase → Word → ThreadState
 thread_after s call phase found = state_after call (decided_by s call phase found)
 
 -- what that step reports
-abbrev pub told_by : Settings → Call → Phase → Word → Stepped
-told_by s call phase found =
+abbrev pub reported_by : Settings → Call → Phase → Word → Stepped
+reported_by s call phase found =
     let act = action_of call.number phase in
     stepped.Did
     (kind_of act)
@@ -186,5 +186,6 @@ abbrev pub owned_after : Call → Phase → Word → (ℕ → Bool) → ℕ → 
 owned_after call phase found owned server =
     let act = action_of call.number phase in
     if is_server server (place_of call.server act)
-    then owns_after (kind_of act) (is_done (seen_in act found)) (word_after act found) (owned server)
+    then
+    owns_after (kind_of act) (is_done (seen_in act found)) (word_after act found) (owned server)
     else owned server

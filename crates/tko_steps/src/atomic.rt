@@ -36,7 +36,7 @@ impl Model for Core {
 }
 
 impl Core {
-    ghost use Rattle.tko_steps.specs.Core.{after_act, after_begin, after_enrol, after_step, begin_fault, has_call, opened_core, thread_at, told_by_act, told_by_enrol, told_by_step};
+    ghost use Rattle.tko_steps.specs.Core.{after_act, after_begin, after_enrol, after_step, begin_fault, has_call, opened_core, thread_at, reported_by_act, reported_by_enrol, reported_by_step};
     ghost use Rattle.tko_steps.specs.declared.phase.ThreadState.TheVariants as state;
 
     /// All servers are up, at the opening stamp, and no thread is enrolled.
@@ -94,7 +94,7 @@ impl Core {
 
     /// One turn of a thread. The step of a thread that isn't enrolled is its enrolment.
     pub fn step(&mut self, thread: usize) -> Stepped
-        ensures told { result ≡ told_by_step self.old thread }
+        ensures reported { result ≡ reported_by_step self.old thread }
         ensures state { self.new ≡ after_step self.old thread }
     {
         if thread >= self.threads.len() {
@@ -110,7 +110,7 @@ impl Core {
     fn enrol(&mut self, thread: usize) -> Stepped
         requires thread { thread < length self.old.threads }
         requires state { thread_at self.old thread ≡ state.NotEnrolled }
-        ensures told { result ≡ told_by_enrol self.old }
+        ensures reported { result ≡ reported_by_enrol self.old }
         ensures state { self.new ≡ after_enrol self.old thread }
     {
         let number = self.words.enrol() as u32;
@@ -129,7 +129,7 @@ impl Core {
     fn act(&mut self, thread: usize, call: Call, phase: Phase) -> Stepped
         requires thread { thread < length self.old.threads }
         requires state { thread_at self.old thread ≡ state.InCall call phase }
-        ensures told { result ≡ told_by_act self.old call phase }
+        ensures reported { result ≡ reported_by_act self.old call phase }
         ensures state { self.new ≡ after_act self.old thread call phase }
     {
         let action = phase.action(&call);

@@ -35,7 +35,7 @@ pub enum Seen {
 /// What follows a step.
 #[derive(Clone, Copy)]
 pub enum Decision {
-    /// The call goes on at this phase, with so many lost tries.
+    /// The call goes on at this phase, with `lost` lost tries.
     Goes { lost: u32, phase: Phase },
     Answers(Reply),
 }

@@ -53,7 +53,7 @@ fn ends(line: Line, reply: Reply) -> Line {
     }
 }
 
-fn is_told(told: Stepped, line: Line) -> bool {
+fn is_reported(reported: Stepped, line: Line) -> bool {
     let Stepped::Did {
         kind,
         place,
@@ -61,7 +61,7 @@ fn is_told(told: Stepped, line: Line) -> bool {
         won,
         answer,
         ..
-    } = told
+    } = reported
     else {
         return false;
     };
@@ -78,7 +78,7 @@ fn first_difference(core: &mut Core, lines: &[Line]) -> Option<usize> {
     for (at, line) in lines.iter().enumerate() {
         let same = match *line {
             Line::Begin(thread, op, server) => core.begin(thread, op, server).is_ok(),
-            Line::Step(thread, ..) => is_told(core.step(thread), *line),
+            Line::Step(thread, ..) => is_reported(core.step(thread), *line),
         };
         if !same {
             return Some(at);
@@ -279,7 +279,7 @@ fn last_change_before_the_stamp_is_worn(rt: HostRuntime) -> Result<(), Fail> {
 }
 
 #[test]
-fn begin_tells_the_first_fault(rt: HostRuntime) -> Result<(), Fail> {
+fn begin_names_the_first_fault(rt: HostRuntime) -> Result<(), Fail> {
     let mut core = Core::open(rt.alloc(), SETTINGS)?;
     assert_eq!(rt; core.begin(0, Op::LookUp, 9), Err(BeginFault::NoThread));
     assert_eq!(rt; core.begin(2, Op::LookUp, 0), Err(BeginFault::NoThread));

@@ -3,7 +3,7 @@ use Rattle.std.proofs.Common.{ℕ, ◌≢◌, eqb, List, [], ◌∷◌, sym, sub
 use Rattle.std.specs.List.{AllByRecursion}
 use Rattle.std.proofs.lemmas.Bool.{cases_Bool, cond-true, cond-false}
 use Rattle.std.proofs.lemmas.List.Elements.{recursion_from_All, All-from_recursion}
-use Rattle.tko_bytes.specs.Words.{unspaced, behind_word}
+use Rattle.tko_bytes.specs.Words.{unspaced, after_word}
 use Rattle.tko_text.specs.ResponseLines.{IsText, split_of}
 
 unspaced_text : (xs : List ℕ) → AllByRecursion (λ b. b ≢ 10) xs → AllByRecursion (λ b. b ≢ 10) (unspaced xs)
@@ -13,7 +13,7 @@ unspaced_text (b ∷ bs) text = elim (cases_Bool (eqb b 32)) [
   | inr e ↦ subst (AllByRecursion (λ k. k ≢ 10)) (sym (cond-false _ _ _ e)) text
 ]
 
-behind_text : (xs : List ℕ) → AllByRecursion (λ b. b ≢ 10) xs → AllByRecursion (λ b. b ≢ 10) (behind_word xs)
+behind_text : (xs : List ℕ) → AllByRecursion (λ b. b ≢ 10) xs → AllByRecursion (λ b. b ≢ 10) (after_word xs)
 behind_text [] text = tt
 behind_text (b ∷ bs) text = elim (cases_Bool (eqb b 32)) [
   | inl e ↦ subst (AllByRecursion (λ k. k ≢ 10)) (sym (cond-true _ _ _ e)) text

@@ -2,7 +2,7 @@
 use Rattle.std.specs.Prelude.{◌≡◌, ◌≢◌, ℕ, ◌<◌, ◌≤◌, List, [], ◌∷◌, ◌++◌, length, slice_index, Some}
 use Rattle.tko_bytes.specs.Lines.{HasNoEnd, content, line_feed}
 use Rattle.tko_bytes.specs.Numbers.{number_of}
-use Rattle.tko_bytes.specs.Words.{behind_word, front_word, unspaced}
+use Rattle.tko_bytes.specs.Words.{after_word, front_word, unspaced}
 use Rattle.tko_text.specs.Limits.{data_limit, line_limit}
 
 -- no LF is among these bytes
@@ -19,7 +19,7 @@ pub record Split : Type 0 where
   pub rest : List ℕ
 
 abbrev pub split_of : List ℕ → Split
-split_of line = record { word = front_word (unspaced line); rest = behind_word (unspaced line) }
+split_of line = record { word = front_word (unspaced line); rest = after_word (unspaced line) }
 
 -- a line before its LF, or the part of one that has come: no LF, and no more bytes than a line may
 -- have, a CR counted

@@ -3,8 +3,8 @@
 //! - The *health word* of a server holds its mark and its stamp: `pack`, `unpack`, `is_word`.
 //! - The *soft word* holds the two counts of soft marks: `pack_soft`, `unpack_soft`.
 //!
-//! `one_reading` is the law that a word has one reading, `changed_counts` what the steps on the soft
-//! word add to it and take from it.
+//! `one_reading` is the law that a word has one reading, `changed_counts` what the steps on the
+//! soft word add to it and take from it.
 #![tactic(auto)]
 
 mod health;

@@ -4,7 +4,7 @@ ghost use Rattle.tko_model.specs.Ranges.{IsWithinRanges};
 ghost use Rattle.tko_runs.specs.States.{CanCome, HasCall, IsPlace, entry_at};
 ghost use Rattle.tko_runs.specs.Orders.{FollowsAt};
 ghost use Rattle.tko_steps.specs.Core.{word_at};
-ghost use Rattle.tko_runs.specs.CheckStates.{AreJudged, HasEntered, HasFollowed, IsCheckState, IsOpened, TellsIllegal, TellsRefusal, TellsStray};
+ghost use Rattle.tko_runs.specs.CheckStates.{AreJudged, HasEntered, HasFollowed, IsCheckState, IsOpened, IsIllegalFault, IsRefusalFault, IsStrayFault};
 
 use crate::checking::calls::Calls;
 use crate::checking::effect::effect_of;
@@ -46,7 +46,7 @@ impl CheckState {
         requires comes { CanCome self.old.run event.now }
         requires room { self.old.steps + 1 < 2 ^ 64 }
         ensures ok { OnOk result (HasEntered self.old event.now self.new) }
-        ensures err { IfErr result (TellsRefusal self.old event.now) }
+        ensures err { IfErr result (IsRefusalFault self.old event.now) }
     {
         match *event {
             Event::Begin { thread, op, server } => {
@@ -92,7 +92,7 @@ impl CheckState {
         requires room { self.old.steps + 1 < 2 ^ 64 }
         ensures ok { OnOk result
             (HasFollowed self.old thread kind place found left answer self.new) }
-        ensures err { IfErr result (TellsStray self.old kind place found left) }
+        ensures err { IfErr result (IsStrayFault self.old kind place found left) }
     {
         self.steps += 1;
         if !follows(&self.settings, &self.run, kind, place, found, left) {
@@ -113,7 +113,7 @@ impl CheckState {
     /// Where each call takes effect, if all are legal.
     pub fn order(self, alloc: Global) -> Result<Order, RunFault>
         ensures ok { IfOk result (AreJudged self.calls.all.items) }
-        ensures err { IfErr result (TellsIllegal self.calls.all.items) }
+        ensures err { IfErr result (IsIllegalFault self.calls.all.items) }
     {
         judge(alloc, &self.calls.all)
     }
@@ -144,7 +144,7 @@ fn is_word(run: &State, place: Place, found: Word) -> bool
 
 fn judge(alloc: Global, calls: &[CheckedCall]) -> Result<Order, RunFault>
     ensures ok { IfOk result (AreJudged calls.now) }
-    ensures err { IfErr result (TellsIllegal calls.now) }
+    ensures err { IfErr result (IsIllegalFault calls.now) }
 {
     let mut order = Order::new(alloc);
     for call in calls {

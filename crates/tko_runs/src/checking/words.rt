@@ -7,7 +7,7 @@ use tko_model::{Mark, ServerState, Settings};
 use tko_steps::{Kind, Slots, Word};
 use tko_word::STAMP_END;
 
-/// Whether a step of this kind can leave this of what it finds, while so many slots are held.
+/// Whether a step of this kind can leave this of what it finds, while `held` slots are held.
 pub(crate) fn can_leave(settings: &Settings, held: u32, kind: Kind, found: Word, left: Word) -> bool
     ensures { (result ≡ true) ↔ CanLeave settings.now held kind found left }
 {

@@ -140,7 +140,7 @@ impl Player {
         Ok(())
     }
 
-    /// Keeps a turn that was skipped so many times after the events so far.
+    /// Keeps a turn that was skipped `times` times after the events so far.
     fn skip(&mut self, turn: SkippedTurn, times: u64) -> Result<(), NoMemory>
         ensures { OnOk result (self.new ≡ with_skips self.old turn times) }
     {

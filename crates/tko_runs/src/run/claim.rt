@@ -1,6 +1,6 @@
 //! Runs of any events that are claimed.
 ghost use Rattle.std.specs.Prelude.{◌≡◌, [], IfOk, IfErr};
-ghost use Rattle.tko_runs.specs.States.{TellsClaimFault};
+ghost use Rattle.tko_runs.specs.States.{IsClaimFault};
 
 use crate::run::state::State;
 use crate::{Event, Run};
@@ -39,7 +39,7 @@ impl Run {
     pub fn of(alloc: Global, settings: Settings, events: Vec<Event>) -> Result<Run, ClaimFault>
         ensures ok { IfOk result (λ run.
             run ≡ record { settings = settings; events = events.items; skips = [] }) }
-        ensures err { IfErr result (TellsClaimFault settings events.items) }
+        ensures err { IfErr result (IsClaimFault settings events.items) }
     {
         if let Err(outside) = settings.check() {
             return Err(ClaimFault::Settings(outside));

@@ -58,7 +58,7 @@ fn fault_behind(alloc: Global, before: &[Event], bad: Event) -> Result<Option<Cl
 }
 
 #[test]
-fn a_claimed_run_tells_what_was_claimed(rt: HostRuntime) -> Result<(), Fail> {
+fn a_claimed_run_has_what_was_claimed(rt: HostRuntime) -> Result<(), Fail> {
     let events = [
         enrolment(1, 0, 1),
         begin(1, 0),

@@ -17,7 +17,7 @@ pub enum Command {
         op: Op,
         server: usize,
     },
-    /// The thread takes so many steps, 1 to 5,000.
+    /// The thread takes this number of steps, 1 to 5,000.
     Step {
         thread: usize,
         steps: u64,

@@ -1,7 +1,7 @@
 use Rattle.std.proofs.Common.{◌<◌, length, ap, arith}
 use Rattle.std.proofs.lemmas.Result.{IfErr-weaker, IfOk-weaker, err_from_is_err_and}
 use Rattle.tko_runs.proofs.FaultLemmas.{memory_alone}
-use Rattle.tko_runs.proofs.CheckLemmas.{AreIn-end, AreIn-opened, AreIn-room_at, AreIn-step, IsLegalRun-in, IsOrder-in, TellsRunFault-illegal, TellsRunFault-step}
+use Rattle.tko_runs.proofs.CheckLemmas.{AreIn-end, AreIn-opened, AreIn-room_at, AreIn-step, IsLegalRun-in, IsOrder-in, IsRunFault-illegal, IsRunFault-step}
 use Rattle.tko_runs.proofs.checking.check.Goals as goal
 
 pub loop-event-init : goal.loop-event-init
@@ -31,7 +31,7 @@ returns-in_err-enter-clause-err c =
     let same = c.events-events.ensures.value in
     let p = err_from_is_err_and c.from_residual-in_err-enter.result c.from_residual-in_err-enter.ensures.1 in
     rw (p.1, p.2)
-    (TellsRunFault-step run c.loop-event.event-index _ c.loop-event.state c.in_err-enter.field-0.0
+    (IsRunFault-step run c.loop-event.event-index _ c.loop-event.state c.in_err-enter.field-0.0
     (rw same at c.loop-event-test.true) (rw same at c.loop-event.invariant) (rw same at c.in_err-enter.ensures.err))
 
 pub returns-clause-order : goal.returns-clause-order
@@ -56,7 +56,7 @@ returns-clause-err c =
     let same = c.events-events.ensures.value in
     let state = c.loop-event.state in
     let all = AreIn-end run.settings run.events c.loop-event.event-index state (rw same at c.loop-event-test.false) (rw same at c.loop-event.invariant) in
-    IfErr-weaker c.order.result _ _ (λ told illegal. TellsRunFault-illegal run state told all illegal) c.order.ensures.err
+    IfErr-weaker c.order.result _ _ (λ told illegal. IsRunFault-illegal run state told all illegal) c.order.ensures.err
 
 pub returns-in_err-enter-clause-never : goal.returns-in_err-enter-clause-never
 returns-in_err-enter-clause-never c = λ legal.
@@ -65,7 +65,7 @@ returns-in_err-enter-clause-never c = λ legal.
     let p = err_from_is_err_and c.from_residual-in_err-enter.result c.from_residual-in_err-enter.ensures.1 in
     rw (p.1, p.2)
     (memory_alone run _ legal
-    (TellsRunFault-step run c.loop-event.event-index _ c.loop-event.state c.in_err-enter.field-0.0
+    (IsRunFault-step run c.loop-event.event-index _ c.loop-event.state c.in_err-enter.field-0.0
     (rw same at c.loop-event-test.true) (rw same at c.loop-event.invariant) (rw same at c.in_err-enter.ensures.err)))
 
 pub returns-clause-never : goal.returns-clause-never
@@ -74,4 +74,4 @@ returns-clause-never c = λ legal.
     let same = c.events-events.ensures.value in
     let state = c.loop-event.state in
     let all = AreIn-end run.settings run.events c.loop-event.event-index state (rw same at c.loop-event-test.false) (rw same at c.loop-event.invariant) in
-    IfErr-weaker c.order.result _ _ (λ told illegal. memory_alone run told legal (TellsRunFault-illegal run state told all illegal)) c.order.ensures.err
+    IfErr-weaker c.order.result _ _ (λ told illegal. memory_alone run told legal (IsRunFault-illegal run state told all illegal)) c.order.ensures.err

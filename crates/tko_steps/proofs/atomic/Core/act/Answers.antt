@@ -1,5 +1,5 @@
 use Rattle.std.proofs.Common.{◌≡◌, subst, sym}
-use Rattle.tko_steps.specs.Core.{CanAct, CoreState, after_act, told_by_act}
+use Rattle.tko_steps.specs.Core.{CanAct, CoreState, after_act, reported_by_act}
 use Rattle.tko_steps.specs.Invariant.{IsCore}
 use Rattle.tko_steps.specs.Table.{action_of}
 use Rattle.tko_steps.proofs.CoreLemmas.{CanAct-at, IsCore-after_act, IsPlace-at}
@@ -24,13 +24,13 @@ invariant_of-self c =
     rw (c.state.ensures, c.next-following.ensures, c.act-seen.ensures.state, c.act-seen.ensures.seen, c.action-action.ensures)
     (subst P (sym c.self.view_is) (IsCore-after_act c.args.self.now c.args.thread call is c.requires.thread phase c.requires.state))
 
-pub returns-clause-told : goal.returns-clause-told
-returns-clause-told c =
+pub returns-clause-reported : goal.returns-clause-reported
+returns-clause-reported c =
     let call = c.args.call in
     let phase = c.args.phase in
     let core = c.args.self.now in
     let is = subst IsCore c.self.view_is c.self.invariant in
-    let P : CoreState → Type 0 = λ it. reported it call phase ≡ told_by_act core call phase in
+    let P : CoreState → Type 0 = λ it. reported it call phase ≡ reported_by_act core call phase in
     rw (c.kind.ensures, c.at.ensures, c.is_done.ensures, c.answer.ensures, c.next-following.ensures, c.act-seen.ensures.state, c.act-seen.ensures.seen, c.at-found.ensures, c.place-place.ensures, c.action-action.ensures)
     (subst P (sym c.self.view_is)
     (reported-is core call phase (IsPlace-at core c.args.thread call is c.requires.thread phase c.requires.state)))

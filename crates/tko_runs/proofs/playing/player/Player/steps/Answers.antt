@@ -9,7 +9,7 @@ returns-in-Idle c =
     let left = c.args.steps - c.loop-done.done in
     let P : Played → Type 0 = λ new. OnOk c.skip.result (c.skip.new.self ≡ new) in
     subst P
-    (after_all-idle _ _ c.args.thread left c.self.view_is (sym c.in-Idle.ensures.told) ∙ c.loop-done.invariant)
+    (after_all-idle _ _ c.args.thread left c.self.view_is (sym c.in-Idle.ensures.reported) ∙ c.loop-done.invariant)
     (rw c.in-Idle.ensures.state at c.skip.ensures)
 
 pub returns-in-NoThread : goal.returns-in-NoThread
@@ -17,7 +17,7 @@ returns-in-NoThread c =
     let left = c.args.steps - c.loop-done.done in
     let P : Played → Type 0 = λ new. OnOk c.skip-in-NoThread.result (c.skip-in-NoThread.new.self ≡ new) in
     subst P
-    (after_all-none _ _ c.args.thread left c.self.view_is (sym c.in-NoThread.ensures.told) ∙ c.loop-done.invariant)
+    (after_all-none _ _ c.args.thread left c.self.view_is (sym c.in-NoThread.ensures.reported) ∙ c.loop-done.invariant)
     (rw c.in-NoThread.ensures.state at c.skip-in-NoThread.ensures)
 
 pub loop-done-preserved : goal.loop-done-preserved
@@ -25,5 +25,5 @@ loop-done-preserved c =
     let left = c.args.steps - (c.loop-done.done + 1) in
     let told = rw c.in-Did.ensures.state at c.in_ok-tell-in-Did.ensures in
     ap (λ p. after_all p (replicate left (Step c.args.thread))) told
-    ∙ after_all-did _ _ c.args.thread c.args.steps c.loop-done.done c.self.view_is c.loop-done-test.true (sym c.in-Did.ensures.told)
+    ∙ after_all-did _ _ c.args.thread c.args.steps c.loop-done.done c.self.view_is c.loop-done-test.true (sym c.in-Did.ensures.reported)
     ∙ c.loop-done.invariant
