@@ -76,6 +76,24 @@ class BadServers(ServerTest):
         self.assertEqual(reply, values((b"a", b"far")))
         self.assertLess(seconds, TIMEOUT + SLACK)
 
+    def test_one_that_takes_most_of_the_limit_each_time(self):
+        limit = 5
+
+        def slow(connection, request):
+            answer = values((key_of(request), b"near"))
+            time.sleep(limit * 0.3)
+            connection.sendall(answer[:9])
+            time.sleep(limit * 0.3)
+            return answer[9:]
+
+        proxy, client = self.before_memcached(slow, timeout=limit * 1000)
+        # The next exchange on the connection has the whole limit again, and the time in between is no part of it.
+        for pause in (0, limit * 0.6):
+            time.sleep(pause)
+            self.assertEqual(client.ask(b"get a\r\n"), values((b"a", b"near")))
+        self.assertEqual(self.mark(proxy), "up:0")
+        self.assertEqual(len(self.server.connections), 1)
+
     def test_one_that_answers_garbage(self):
         answers = []
         proxy, client = self.before_memcached(lambda *_: answers[-1], failures=len(UNREADABLE))
@@ -174,6 +192,22 @@ class BadServers(ServerTest):
             client.ask(b"get a\r\n")
             marks.append(self.mark(proxy))
         self.assertEqual(marks, ["up:1", "up:2", "up:0", "up:1", "up:2", "up:0"])
+
+    def test_the_probes_of_many_that_hang_share_one_time_limit(self):
+        limit, came = 0.5, []
+
+        def hang(_, request):
+            if request == b"version\r\n":
+                came.append(time.monotonic())
+
+        servers = {f"p{number}": [self.fake(hang)] for number in range(8)}
+        config = configuration(**servers, far=[self.memcached()])
+        proxy = self.proxy(config, timeout=int(limit * 1000), failures=1, first_delay=1000, greatest_delay=60000)
+        # One request marks them all, so their probes are due together.
+        self.assertEqual(self.client(proxy.port).ask(b"get a\r\n"), b"END\r\n")
+        wait_until(lambda: len(came) == len(servers), 30, "each server is probed")
+        # By itself each would hold the worker, and the client that it serves, for the whole limit.
+        self.assertLess(came[-1] - came[0], limit * len(servers) / 2)
 
     def test_probes_go_on_until_one_is_answered(self):
         def ill_at_first(_, request):

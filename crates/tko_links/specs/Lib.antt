@@ -5,6 +5,7 @@ pub mod Faults
 pub mod Incoming
 pub mod Links
 pub mod MemoryWires
+pub mod ProbeTimes
 pub mod Scripted
 pub mod TcpAddresses
 pub mod TcpConnections

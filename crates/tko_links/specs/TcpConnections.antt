@@ -13,10 +13,10 @@ pub record IsOpened (time : ExchangeTime) (connection : TcpConnection) : Type 0 
   pub reads : connection.socket.read_limit ≡ time.limit
   pub writes : connection.socket.write_limit ≡ time.limit
 
--- an exchange begins, of which no call has waited; its limit is that of each exchange
-pub record Begins (old new : TcpConnection) : Type 0 where
+-- an exchange with this limit begins, of which no call has waited
+pub record Begins (limit : Duration) (old new : TcpConnection) : Type 0 where
   pub fresh : new.has_waited ≡ false
-  pub limit : new.time.limit ≡ old.time.limit
+  pub limited : new.time.limit ≡ limit
   pub socket : new.socket ≡ old.socket
 
 -- what a call may take: the whole limit where no call of the exchange can have waited, and never

@@ -19,6 +19,7 @@ mod io_runtime;
 mod laws;
 mod limited_stream;
 mod links;
+mod probe_time;
 mod read_buffer;
 mod scripted;
 mod tcp_address;
@@ -44,8 +45,6 @@ pub use wired_law::wired_records;
 mod memory_wire;
 #[cfg(test)]
 mod peer;
-#[cfg(test)]
-mod tcp_links_tests;
 #[cfg(test)]
 mod tcp_tests;
 #[cfg(test)]

@@ -11,7 +11,7 @@ use std::marker::Model;
 use tko_bytes::NoMemory;
 
 /// The bytes that a server was sent. Contracts see their list.
-#[derive(Debug, Drop)]
+#[derive(Drop)]
 struct Inbox {
     bytes: Vec<u8>,
 }
@@ -49,7 +49,7 @@ impl Inbox {
 
 /// Connections in memory to servers that play lists of steps. It keeps the bytes that each server
 /// was sent.
-#[derive(Debug, Drop)]
+#[derive(Drop)]
 pub(crate) struct MemoryWire {
     alloc: Global,
     peers: Vec<Peer>,
@@ -181,6 +181,8 @@ impl Wire for MemoryWire {
     fn is_usable<R: IoRuntime>(&mut self, _rt: &R, server: usize) -> bool {
         self.peers[server].is_quiet()
     }
+
+    fn set_probing<R: IoRuntime>(&mut self, _rt: &R, _is_probe: bool) {}
 
     fn is_connected(&self, server: usize) -> bool {
         self.connected[server]

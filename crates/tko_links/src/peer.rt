@@ -4,8 +4,8 @@ ghost use Rattle.std.specs.Prelude.{◌≤◌, IfOk, length};
 use crate::wire::WireFault;
 
 /// What a server does next.
-#[derive(Debug, Drop)]
-pub enum PeerStep {
+#[derive(Drop)]
+pub(crate) enum PeerStep {
     /// It takes the next connection.
     Accept,
     /// It refuses the next connection.
@@ -15,7 +15,9 @@ pub enum PeerStep {
     /// It takes at most this number of bytes of the next write.
     Take(usize),
     /// These bytes come, in as many reads as the buffers need.
-    Send(Vec<u8>),
+    Send(&'static [u8]),
+    /// These bytes come one by one, each by a read of its own.
+    Drip(&'static [u8]),
     /// It closes the connection.
     Close,
     /// The next read or write takes too long.
@@ -26,7 +28,7 @@ pub enum PeerStep {
 
 /// The list of what a server does, and how far it was played. Once it is used up, the server
 /// refuses connections and does not answer.
-#[derive(Debug, Drop)]
+#[derive(Drop)]
 pub(crate) struct Peer {
     steps: Vec<PeerStep>,
     next: usize,
@@ -46,13 +48,13 @@ impl Peer {
     /// Takes or refuses a connection. What is left of the one before is skipped.
     pub(crate) fn connect(&mut self) -> Result<(), WireFault> {
         for at in self.next..self.steps.len() {
-            match &self.steps[at] {
-                PeerStep::Accept => {
-                    self.go_to(at + 1);
+            match self.steps.get(at) {
+                Some(PeerStep::Accept) => {
+                    self.go_to(at.saturating_add(1));
                     return Ok(());
                 }
-                PeerStep::Refuse => {
-                    self.go_to(at + 1);
+                Some(PeerStep::Refuse) => {
+                    self.go_to(at.saturating_add(1));
                     return Err(WireFault::Other);
                 }
                 _ => {}
@@ -80,15 +82,15 @@ impl Peer {
     pub(crate) fn give(&mut self, buffer: &mut [u8]) -> Result<usize, WireFault>
         ensures { IfOk result (λ count. count ≤ length buffer.new) }
     {
-        let fault = match self.steps.get(self.next) {
-            Some(PeerStep::Send(bytes)) => {
-                let count = copy_from(bytes.as_slice(), self.given, buffer);
-                self.given = self.given.saturating_add(count);
-                if self.given >= bytes.len() {
-                    self.go_to(self.next.saturating_add(1));
-                }
-                return Ok(count);
+        if let Some((bytes, most)) = self.sending() {
+            let count = copy_from(bytes, self.given, most, buffer);
+            self.given = self.given.saturating_add(count);
+            if self.given >= bytes.len() {
+                self.go_to(self.next.saturating_add(1));
             }
+            return Ok(count);
+        }
+        let fault = match self.steps.get(self.next) {
             Some(PeerStep::Close) => return Ok(0),
             Some(PeerStep::Stall) => WireFault::TimedOut,
             Some(PeerStep::Fail) => WireFault::Other,
@@ -98,11 +100,20 @@ impl Peer {
         Err(fault)
     }
 
+    /// The bytes that come now, and how many of them in one read at most.
+    fn sending(&self) -> Option<(&'static [u8], usize)> {
+        match self.steps.get(self.next) {
+            Some(PeerStep::Send(bytes)) => Some((*bytes, bytes.len())),
+            Some(PeerStep::Drip(bytes)) => Some((*bytes, 1)),
+            _ => None,
+        }
+    }
+
     /// Whether it neither closed the connection nor sent something unasked.
     pub(crate) fn is_quiet(&self) -> bool {
         !matches!(
             self.steps.get(self.next),
-            Some(PeerStep::Send(_) | PeerStep::Close)
+            Some(PeerStep::Send(_) | PeerStep::Drip(_) | PeerStep::Close)
         )
     }
 
@@ -112,14 +123,14 @@ impl Peer {
     }
 }
 
-/// Copies bytes from a place on to the front of the buffer, as many as it has room for.
-fn copy_from(bytes: &[u8], at: usize, buffer: &mut [u8]) -> usize
+/// Copies at most `most` bytes from a place on to the front of the buffer.
+fn copy_from(bytes: &[u8], at: usize, most: usize, buffer: &mut [u8]) -> usize
     ensures { result ≤ length buffer.new }
 {
     let Some(left) = bytes.get(at..) else {
         return 0;
     };
-    let count = left.len().min(buffer.len());
+    let count = left.len().min(most).min(buffer.len());
     buffer[..count].copy_from_slice(&left[..count]);
     count
 }

@@ -48,11 +48,11 @@ impl TcpConnection {
         })
     }
 
-    /// Begins an exchange: whether the connection can be used for it.
-    pub(crate) fn begin<R: IoRuntime>(&mut self, rt: &R) -> bool
-        ensures { Begins self.old self.new }
+    /// Begins an exchange with this time limit: whether the connection can be used for it.
+    pub(crate) fn begin<R: IoRuntime>(&mut self, rt: &R, limit: Duration) -> bool
+        ensures { Begins limit self.old self.new }
     {
-        self.time = ExchangeTime::begin(rt, self.time.limit);
+        self.time = ExchangeTime::begin(rt, limit);
         self.has_waited = false;
         self.socket.is_quiet()
     }

@@ -15,17 +15,15 @@ use std::time::Duration;
 #[derive(Drop)]
 pub(crate) struct TcpServer {
     address: String,
-    limit: Duration,
     connection: Option<TcpConnection>,
 }
 
 impl TcpServer {
-    pub(crate) fn new(address: String, limit: Duration) -> TcpServer
+    pub(crate) fn new(address: String) -> TcpServer
         ensures { is_open result ≡ false }
     {
         TcpServer {
             address,
-            limit,
             connection: None,
         }
     }
@@ -37,14 +35,13 @@ impl TcpServer {
     }
 
     /// Begins an exchange by connecting. A connection that was there is given up.
-    pub(crate) fn connect<R: IoRuntime>(&mut self, rt: &R) -> Result<(), WireFault>
+    pub(crate) fn connect<R: IoRuntime>(&mut self, rt: &R, limit: Duration) -> Result<(), WireFault>
         ensures connected { is_open self.new ≡ is_ok result }
         ensures opened { OnOk result (IfSome self.new.connection (λ connection.
-            (time : ExchangeTime) × (time.limit ≡ self.old.limit) × IsOpened time connection)) }
-        ensures limit { self.new.limit ≡ self.old.limit }
+            (time : ExchangeTime) × (time.limit ≡ limit) × IsOpened time connection)) }
     {
         self.shut();
-        let time = ExchangeTime::begin(rt, self.limit);
+        let time = ExchangeTime::begin(rt, limit);
         let connection = TcpConnection::open(rt, self.address.as_str(), time)?;
         self.connection = Some(connection);
         Ok(())
@@ -75,18 +72,17 @@ impl TcpServer {
     }
 
     /// Begins an exchange: whether the connection can be used for it.
-    pub(crate) fn begin<R: IoRuntime>(&mut self, rt: &R) -> bool
+    pub(crate) fn begin<R: IoRuntime>(&mut self, rt: &R, limit: Duration) -> bool
         ensures { is_open self.new ≡ is_open self.old }
     {
         match &mut self.connection {
-            Some(connection) => connection.begin(rt),
+            Some(connection) => connection.begin(rt, limit),
             None => false,
         }
     }
 
     pub(crate) fn shut(&mut self)
         ensures closed { is_open self.new ≡ false }
-        ensures limit { self.new.limit ≡ self.old.limit }
     {
         self.connection = None;
     }

@@ -4,24 +4,9 @@ ghost use Rattle.std.specs.Prelude.{◌≡◌, [], ◌∷◌, false, IfOk};
 use crate::tcp_address::host_and_port;
 use crate::{TcpWire, Wire, WireFault};
 use std::alloc::Global;
-use std::io::Write;
-use std::net::{Ipv4Addr, Net, SocketAddr, TcpListener, TcpStream};
+use std::net::{Ipv4Addr, SocketAddr, TcpListener};
 use std::test::Fail;
-use std::time::{Clock, Duration};
-use std::{io, thread};
-
-fn listen<R: Net<Stream = TcpStream, Listener = TcpListener>>(rt: &R) -> io::Result<TcpListener> {
-    TcpListener::bind(rt, SocketAddr::from((Ipv4Addr::LOCALHOST, 0)))
-}
-
-/// A wire to this listener.
-fn wire_to(alloc: Global, listener: &TcpListener, limit: u32) -> Result<TcpWire, Fail>
-    ensures { IfOk result (λ wire. wire ≡ record { connected = false ∷ []; failures = 0 }) }
-{
-    let port = listener.local_addr()?.port();
-    let address = format!(in alloc; "127.0.0.1:{port}")?;
-    Ok(TcpWire::new(alloc, vec![in alloc; address]?.as_slice(), limit)?)
-}
+use tko_bytes::NoMemory;
 
 #[test]
 fn addresses_are_parted_at_the_last_colon(rt: HostRuntime) {
@@ -39,41 +24,24 @@ fn addresses_are_parted_at_the_last_colon(rt: HostRuntime) {
     }
 }
 
+/// A wire to the server with this address.
+fn wire_to(alloc: Global, address: String) -> Result<TcpWire, NoMemory>
+    ensures { IfOk result (λ wire. wire ≡ record { connected = false ∷ []; failures = 0 }) }
+{
+    TcpWire::new(alloc, &[address], 50)
+}
+
+/// A name that cannot be looked up, and a listener that answers nothing.
 #[test]
-fn closed_port_and_unknown_name_are_faults(rt: HostRuntime) -> Result<(), Fail> {
+fn faults_of_a_socket(rt: HostRuntime) -> Result<(), Fail> {
     let alloc = rt.alloc();
-    let mut wire = wire_to(alloc, &listen(&rt)?, 50)?;
-    assert_eq!(rt; wire.connect(&rt, 0), Err(WireFault::Other));
-    let name = String::from_str(alloc, "a..b:1")?;
-    let mut wire = TcpWire::new(alloc, vec![in alloc; name]?.as_slice(), 50)?;
-    assert_eq!(rt; wire.connect(&rt, 0), Err(WireFault::Other));
-    Ok(())
-}
-
-#[test]
-fn silent_peer_is_a_time_out(rt: HostRuntime) -> Result<(), Fail> {
-    let listener = listen(&rt)?;
-    let mut wire = wire_to(rt.alloc(), &listener, 50)?;
-    assert_eq!(rt; wire.connect(&rt, 0), Ok(()));
-    assert_eq!(rt; wire.read(&rt, 0, &mut [0; 9]), Err(WireFault::TimedOut));
-    Ok(())
-}
-
-#[test]
-fn a_connection_is_looked_at_before_each_exchange(rt: HostRuntime) -> Result<(), Fail> {
-    for (is_closed, sent, is_usable) in [
-        (false, b"".as_slice(), true),
-        (true, b"".as_slice(), false),
-        (false, b"END\r\n".as_slice(), false),
-    ] {
-        let listener = listen(&rt)?;
-        let mut wire = wire_to(rt.alloc(), &listener, 50)?;
-        assert_eq!(rt; wire.connect(&rt, 0), Ok(()));
-        let (mut stream, _) = listener.accept()?;
-        stream.write_all(sent)?;
-        let _open = (!is_closed).then_some(stream);
-        thread::sleep(&rt, Duration::from_millis(5));
-        assert_eq!(rt; wire.is_usable(&rt, 0), is_usable);
-    }
+    let mut unknown = wire_to(alloc, String::from_str(alloc, "a..b:1")?)?;
+    assert_eq!(rt; unknown.connect(&rt, 0), Err(WireFault::Other));
+    let listener = TcpListener::bind(&rt, SocketAddr::from((Ipv4Addr::LOCALHOST, 0)))?;
+    let address = format!(in alloc; "{}", listener.local_addr()?)?;
+    let mut silent = wire_to(alloc, address)?;
+    assert_eq!(rt; silent.connect(&rt, 0), Ok(()));
+    assert!(rt; silent.is_usable(&rt, 0));
+    assert_eq!(rt; silent.read(&rt, 0, &mut [0; 9]), Err(WireFault::TimedOut));
     Ok(())
 }

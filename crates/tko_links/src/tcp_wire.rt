@@ -8,6 +8,7 @@ ghost use Rattle.tko_links.specs.Wires.{faults_in, refusals_in};
 
 use crate::counting::{counted, counted_write};
 use crate::io_runtime::IoRuntime;
+use crate::probe_time::ProbeTime;
 use crate::tcp_server::TcpServer;
 use crate::wire::{Wire, WireFault};
 use std::alloc::Global;
@@ -20,6 +21,9 @@ use tko_bytes::NoMemory;
 pub struct TcpWire {
     servers: Vec<TcpServer>,
     failures: u64,
+    /// The time limit of the next exchange.
+    limit: Duration,
+    probe_time: ProbeTime,
 }
 
 impl Model for TcpWire {
@@ -36,20 +40,22 @@ impl Model for TcpWire {
 
 impl TcpWire {
     /// Connections to the servers with these addresses, none of which is connected yet. An exchange
-    /// may take `time_limit_ms` milliseconds, of which connecting is a part.
+    /// may take `time_limit_ms` milliseconds, of which connecting is a part; probes share that time.
     pub fn new(alloc: Global, addresses: &[String], time_limit_ms: u32) -> Result<TcpWire, NoMemory>
         ensures { IfOk result (λ wire. wire
             ≡ record { connected = replicate (length addresses.now) false; failures = 0 }) }
     {
-        let limit = Duration::from_millis(u64::from(time_limit_ms));
         let mut servers = Vec::new(alloc);
         for address in addresses {
             let address = String::from_str(alloc, address.as_str())?;
-            servers.push(TcpServer::new(address, limit))?;
+            servers.push(TcpServer::new(address))?;
         }
+        let probe_time = ProbeTime::new(time_limit_ms);
         Ok(TcpWire {
             servers,
             failures: 0,
+            limit: probe_time.whole(),
+            probe_time,
         })
     }
 }
@@ -64,7 +70,7 @@ impl Wire for TcpWire {
     ghost steps = { λ old it new. IsTcpStep old it new };
 
     fn connect<R: IoRuntime>(&mut self, rt: &R, server: usize) -> Result<(), WireFault> {
-        let connected = self.servers[server].connect(rt);
+        let connected = self.servers[server].connect(rt, self.limit);
         counted(rt, &mut self.failures, connected)
     }
 
@@ -93,7 +99,16 @@ impl Wire for TcpWire {
     }
 
     fn is_usable<R: IoRuntime>(&mut self, rt: &R, server: usize) -> bool {
-        self.servers[server].begin(rt)
+        self.servers[server].begin(rt, self.limit)
+    }
+
+    fn set_probing<R: IoRuntime>(&mut self, rt: &R, is_probe: bool) {
+        if is_probe {
+            self.limit = self.probe_time.begin(rt);
+        } else {
+            self.probe_time.end(rt);
+            self.limit = self.probe_time.whole();
+        }
     }
 
     fn is_connected(&self, server: usize) -> bool {

@@ -92,6 +92,11 @@ pub trait Wire {
         ensures failures { failures self.new ≡ failures self.old }
         ensures servers { servers self.new ≡ servers self.old };
 
+    /// The next exchange is a probe, or one that is none. A probe may have a shorter time limit,
+    /// which contracts do not see. It is called before a probe and after it.
+    fn set_probing<R: IoRuntime>(&mut self, rt: &R, is_probe: bool)
+        ensures { self.new ≡ self.old };
+
     /// Whether a server is connected.
     fn is_connected(&self, server: usize) -> bool
         requires { server < servers self.now }

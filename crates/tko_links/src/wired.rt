@@ -98,6 +98,20 @@ impl<W: Wire> Wired<W> {
         self.buffers.release();
         came
     }
+
+    /// Sends a probe that was counted, under the time limit of probes.
+    fn probe_counted<R: IoRuntime>(&mut self, rt: &R, server: usize) -> Result<Outcome, NoMemory>
+        requires { server < W.servers self.old.wire }
+        ensures exchange { IsExchange W.servers W.is_connected W.failures W.steps server
+            Request.Version self.old.wire (outcome_in result) self.new.wire }
+        ensures counts { self.new ≡ record self.old { wire = self.new.wire } }
+        ensures counted { is_counted result ≡ true }
+    {
+        self.wire.set_probing(rt, true);
+        let came = self.exchange_counted(rt, server, &Request::Version);
+        self.wire.set_probing(rt, false);
+        came
+    }
 }
 
 /// The clauses are those of `Links`; `record` says what an item is.
@@ -153,7 +167,7 @@ impl<W: Wire> Links for Wired<W> {
             return Ok(Outcome::Spent);
         }
         self.probes[server] += 1;
-        self.exchange_counted(rt, server, &Request::Version)
+        self.probe_counted(rt, server)
     }
 
     fn sends(&self, server: usize) -> u64 {

@@ -1,17 +1,32 @@
 //! One worker over visits and scripted servers.
 
 use super::screen::{Visit, Visits};
-use super::{SERVER_ERROR, SETTINGS, Two, config, delays};
+use super::{SETTINGS, config};
 use crate::{Account, WorkerParts, WorkerReport, worker};
-use std::alloc::Global;
+use std::alloc::{AllocError, Global};
 use std::net::{Net, TcpStream};
 use std::sync::{Mutex, Wait};
 use std::test::Fail;
 use std::time::Clock;
 use tko_desk::{Book, Kind, Numbers};
-use tko_health::LockedSeating;
+use tko_health::{LockedSeating, TrackerSettings};
 use tko_links::{Script, Scripted};
+use tko_prober::Delays;
 use tko_session::{Listed, Probers};
+
+/// Names the settings of one server and one thread.
+struct One;
+
+impl TrackerSettings for One {
+    ghost settings = { record {
+      servers = 1;
+      threads = 1;
+      failures = 1;
+      limit = 40;
+      tries = 8;
+      opening_stamp = 0;
+    } };
+}
 
 /// What one worker left.
 #[derive(Drop)]
@@ -22,21 +37,21 @@ struct Left {
     report: WorkerReport,
 }
 
-/// A worker serves these visits at these moments, over one server with these scripts. Its share has
-/// counted so many requests already.
+/// A worker serves these visits at these moments, over one server that is away at first. Its share
+/// has counted `requests` requests already.
 fn work<R: Wait + Net<Stream = TcpStream> + Clock>(
     rt: &R,
     alloc: Global,
     visits: &[Visit],
-    moments: Vec<u64>,
-    scripts: Vec<Script>,
+    moments: &[u64],
     requests: u64,
 ) -> Result<Left, Fail> {
-    let (seating, mut seats) = LockedSeating::<Two>::open(alloc, SETTINGS)?;
+    let (seating, mut seats) = LockedSeating::<One>::open(alloc, SETTINGS)?;
     let (mut book, mut shares) = Book::open(alloc, 0, 1)?;
     let mut share = shares.pop().ok_or("a share")?;
-    book.add_many(&mut share, Kind::Request, requests)
-        .map_err(|_| "a ledger with room")?;
+    if book.add_many(&mut share, Kind::Request, requests).is_err() {
+        return Err("a ledger with room".into());
+    }
     let book = Mutex::new(book);
     let text = Mutex::new(Vec::new(alloc));
     let source = Visits {
@@ -46,10 +61,10 @@ fn work<R: Wait + Net<Stream = TcpStream> + Clock>(
     };
     let parts = WorkerParts {
         seating: &seating,
-        links: Scripted::new(alloc, 1, scripts)?,
-        config: config(alloc, "s:1")?,
-        probers: Probers::new(alloc, delays()?, 1)?,
-        moments: Listed::new(moments),
+        links: Scripted::new(alloc, 1, outages(alloc)?)?,
+        config: config(alloc)?,
+        probers: Probers::new(alloc, Delays::new(10_000, 60_000).ok_or("delays")?, 1)?,
+        moments: Listed::new(moments.to_vec(alloc)?),
         account: Account {
             book: &book,
             share: &mut share,
@@ -64,31 +79,36 @@ fn work<R: Wait + Net<Stream = TcpStream> + Clock>(
     })
 }
 
-/// A server that does not answer at first, and then answers a probe and a `get`.
-fn outage(alloc: Global) -> Result<Vec<Script>, Fail> {
+/// A server that does not answer at first, and then answers a probe and a `get`; and the same once
+/// more, but for the `get`.
+fn outages(alloc: Global) -> Result<Vec<Script>, AllocError> {
     let mut scripts = Vec::new(alloc);
-    scripts.push(Script::Timeout)?;
-    scripts.push(Script::Bytes(b"VERSION 1.6\r\n".to_vec(alloc)?))?;
-    scripts.push(Script::Bytes(b"END\r\n".to_vec(alloc)?))?;
+    for text in ["", "VERSION 1.6\r\n", "END\r\n", "", "VERSION 1.6\r\n"] {
+        if text.is_empty() {
+            scripts.push(Script::Timeout)?;
+        } else {
+            scripts.push(Script::Bytes(text.as_bytes().to_vec(alloc)?))?;
+        }
+    }
     Ok(scripts)
 }
 
-/// A timeout marks the server. Its probe is due with the second idle turn, and is answered.
+/// A timeout marks the server. Its probe is due with the second idle turn, and is answered. The
+/// second probe comes after the last client, and is counted too.
 #[test]
 fn idle_worker_probes(rt: HostRuntime) -> Result<(), Fail> {
     let _stream: Option<TcpStream> = None;
-    let alloc = rt.alloc();
     let client = Visit::Client(b"get a\r\n");
-    let visits = [client, Visit::Idle, Visit::Idle, client];
-    let moments = vec![in alloc; 0, 9_999, 10_000, 10_001, 10_002]?;
-    let left = work(&rt, alloc, &visits, moments, outage(alloc)?, 0)?;
-    let mut replies = SERVER_ERROR.to_vec(alloc)?;
-    replies.extend_from_slice(b"END\r\n")?;
-    assert_eq!(rt; left.text, replies);
-    assert_eq!(rt; left.numbers.of(Kind::Probe), 1);
-    assert_eq!(rt; left.numbers.of(Kind::Attempt), 2);
+    let idle = Visit::Idle;
+    let visits = [client, idle, idle, client, client, idle, idle];
+    let moments = [0, 9_999, 10_000, 10_001, 10_002, 20_000, 29_999, 30_000];
+    let left = work(&rt, rt.alloc(), &visits, &moments, 0)?;
+    let replies = b"SERVER_ERROR no server\r\nEND\r\nSERVER_ERROR no server\r\n";
+    assert_eq!(rt; left.text.as_slice(), replies.as_slice());
+    assert_eq!(rt; left.numbers.of(Kind::Probe), 2);
+    assert_eq!(rt; left.numbers.of(Kind::Attempt), 3);
     let report = WorkerReport {
-        sessions: 2,
+        sessions: 3,
         faults: 0,
         memory: false,
         ledger_full: false,
@@ -101,11 +121,9 @@ fn idle_worker_probes(rt: HostRuntime) -> Result<(), Fail> {
 #[test]
 fn faults_and_a_full_ledger_are_reported(rt: HostRuntime) -> Result<(), Fail> {
     let _stream: Option<TcpStream> = None;
-    let alloc = rt.alloc();
-    let long = vec![in alloc; b'x'; 65_537]?;
+    let long = vec![in rt.alloc(); b'x'; 65_537]?;
     let visits = [Visit::Client(&long), Visit::Client(b"get a\r\n")];
-    let scripts = outage(alloc)?;
-    let left = work(&rt, alloc, &visits, Vec::new(alloc), scripts, u64::MAX)?;
+    let left = work(&rt, rt.alloc(), &visits, &[], u64::MAX)?;
     let report = WorkerReport {
         sessions: 2,
         faults: 1,
@@ -115,17 +133,5 @@ fn faults_and_a_full_ledger_are_reported(rt: HostRuntime) -> Result<(), Fail> {
     assert_eq!(rt; left.report, report);
     assert_eq!(rt; left.numbers.of(Kind::Request), u64::MAX);
     assert_eq!(rt; left.numbers.of(Kind::Attempt), 1);
-    Ok(())
-}
-
-/// The probe of a server that the last client's request marked.
-#[test]
-fn probes_after_the_last_client_are_counted(rt: HostRuntime) -> Result<(), Fail> {
-    let _stream: Option<TcpStream> = None;
-    let alloc = rt.alloc();
-    let visits = [Visit::Client(b"get a\r\n"), Visit::Idle, Visit::Idle];
-    let moments = vec![in alloc; 0, 9_999, 10_000, 10_001]?;
-    let left = work(&rt, alloc, &visits, moments, outage(alloc)?, 0)?;
-    assert_eq!(rt; left.numbers.of(Kind::Probe), 1);
     Ok(())
 }
