@@ -21,7 +21,7 @@ started = []
 
 
 def start(words, **options):
-    process = subprocess.Popen(words, stdin=subprocess.DEVNULL, **options)
+    process = subprocess.Popen(words, **{"stdin": subprocess.DEVNULL, **options})
     started.append(process)
     return process
 
