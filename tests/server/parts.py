@@ -21,7 +21,7 @@ started = []
 
 
 def start(words, **options):
-    process = subprocess.Popen(words, stdin=subprocess.DEVNULL, **options)
+    process = subprocess.Popen(words, **{"stdin": subprocess.DEVNULL, **options})
     started.append(process)
     return process
 
@@ -92,15 +92,17 @@ def serve_words(port, config, options):
 
 
 class Proxy:
-    """The running program, from its line `ready` on. It may have `open_files` files open, where that is given. A server
-    may take long to answer, since this machine may be busy, unless a test says otherwise."""
+    """The running program, from its line `ready` on. It may have `open_files` files open and `memory` KiB of addresses,
+    where these are given. A server may take long to answer, since this machine may be busy, unless a test says
+    otherwise."""
 
-    def __init__(self, config, port=None, open_files=None, **options):
+    def __init__(self, config, port=None, open_files=None, memory=None, **options):
         options = {"timeout": 5000, **options}
         self.port = port or free_port()
         self.errors = tempfile.TemporaryFile()
-        # A limit is set in a shell, since a fork with threads beside it may hang.
-        limited = ["sh", "-c", f'ulimit -S -n {open_files} && exec "$@"', "sh"] if open_files else []
+        # Limits are set in a shell, since a fork with threads beside it may hang.
+        limits = "".join(f"ulimit -S -{which} {most} && " for which, most in (("n", open_files), ("v", memory)) if most)
+        limited = ["sh", "-c", f'{limits}exec "$@"', "sh"] if limits else []
         self.process = start(limited + serve_words(self.port, config, options), bufsize=0, stdout=subprocess.PIPE,
                              stderr=self.errors)
         ready, _, _ = select.select([self.process.stdout], [], [], 20)

@@ -25,6 +25,14 @@ class Values(ServerTest):
             self.assertTrue(self.direct.ask(b"get %s\r\n" % KEY) == expected, f"{size} bytes did not reach the server")
             self.assertTrue(self.proxied.ask(b"get %s\r\n" % KEY) == expected, f"{size} bytes did not come back")
 
+    def test_the_largest_value_in_small_pieces(self):
+        value = random.Random(3).randbytes(LARGEST)
+        request = store(KEY, value)
+        for place in range(0, len(request), 4096):
+            self.proxied.send(request[place:place + 4096])
+        self.assertEqual(self.proxied.reply(), b"STORED\r\n")
+        self.assertTrue(self.direct.ask(b"get %s\r\n" % KEY) == values((KEY, value)))
+
     def test_values_that_look_like_the_protocol(self):
         for value in (b"\r\n", b"END\r\n", b"\r\nEND\r\n", b"\0\r\0\n", b"VALUE k 0 1\r\nx\r\nEND\r\n", b"\n" * 1000):
             self.assertEqual(self.proxied.ask(store(b"k", value)), b"STORED\r\n")

@@ -1,0 +1,69 @@
+"""Requests for more than a worker should hold: the room of replies, and a proxy whose memory is limited."""
+from parts import ServerTest, configuration
+from ports import wait_until
+from talk import store, values
+
+KEY = b"k"
+VALUE = b"x" * 1048576
+VERSION = b"VERSION tkoproxy 1\r\n"
+# In KiB, as the sizes in /proc are.
+MIB = 1024
+# A connection that says nothing for so many seconds has failed.
+LIMIT = 600
+
+
+def get_of(count):
+    return b"get" + b" %s" % KEY * count + b"\r\n"
+
+
+class Memory(ServerTest):
+    def setUp(self):
+        self.server = self.memcached("-I", "2m")
+        with self.server.client() as direct:
+            self.assertEqual(direct.ask(store(KEY, VALUE)), b"STORED\r\n")
+
+    def served(self, **options):
+        return self.proxy(configuration(only=[self.server]), timeout=60000, **options)
+
+    def assert_values(self, client, count):
+        """The client gets the value so many times, and nothing else."""
+        lines = values((KEY, VALUE)).removesuffix(b"END\r\n")
+        for place in range(count):
+            self.assertTrue(client.file.read(len(lines)) == lines, f"value {place} of {count}")
+        self.assertEqual(client.reply(), b"END\r\n")
+
+    def test_the_room_of_a_reply_is_given_back(self):
+        proxy = self.served(threads=1)
+        with proxy.client(limit=LIMIT) as client:
+            self.assertEqual(client.ask(b"version\r\n"), VERSION)
+            before = proxy.status("VmRSS")
+            client.send(get_of(150))
+            self.assert_values(client, 150)
+            # It held all values at once, and the client is still connected.
+            self.assertGreater(proxy.status("VmHWM"), before + 150 * MIB)
+            wait_until(lambda: proxy.status("VmRSS") < before + 10 * MIB, LIMIT,
+                       "the room of the reply is given back")
+            self.assertEqual(client.ask(b"version\r\n"), VERSION)
+
+    def test_a_reply_larger_than_the_memory_ends_its_session_alone(self):
+        proxy = self.served(threads=2, memory=600 * MIB, connections=3)
+        with proxy.client(limit=LIMIT) as other:
+            self.assertEqual(other.ask(b"version\r\n"), VERSION)
+            with proxy.client(limit=LIMIT) as greedy:
+                greedy.send(get_of(2000))
+                self.assertEqual(greedy.rest(), b"")
+            with proxy.client(limit=LIMIT) as later:
+                for client in (other, later):
+                    client.send(get_of(3))
+                    self.assert_values(client, 3)
+                    self.assertEqual(proxy.marks_by(client)[self.server.address], "up:0")
+        self.assertEqual(proxy.end(LIMIT)[0], 0)
+        self.assertIn(b"note: memory ran out in a session or in a round\n", proxy.error_text())
+
+    def test_as_many_keys_as_a_line_may_have(self):
+        # 65,536 bytes with the CR.
+        most = 32766
+        with self.served(threads=1).client(limit=LIMIT) as client:
+            self.assertEqual(client.ask(b"get" + b" a" * most + b"\r\n"), b"END\r\n")
+            self.assertEqual(client.ask(b"get" + b" a" * most + b" \r\n"), b"CLIENT_ERROR line too long\r\n")
+            self.assertEqual(client.rest(), b"")
