@@ -1,5 +1,7 @@
-//! Ledgers: what the workers counted, and the sum of it.
+//! What workers share beside the health of the servers: the passes that no worker uses, and ledgers
+//! of what they counted.
 //!
+//! - `Desk`: the idle passes of one tracker, which workers take and give back.
 //! - `Kind`: what is counted; `Numbers`: a number for each kind.
 //! - `Book`: the totals of a ledger; `Share`: one worker's part of it. Each number is counted
 //!   twice, in the book and in the share of the worker that counted it.
@@ -7,10 +9,13 @@
 #![tactic(auto)]
 
 mod book;
+mod desk;
 mod gathering;
+mod held;
 mod numbers;
 
 pub use book::{Book, LedgerFull, Share};
+pub use desk::Desk;
 pub use gathering::{Totals, gather};
 pub use numbers::{Kind, Numbers};
 pub use tko_bytes::NoMemory;

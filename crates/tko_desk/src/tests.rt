@@ -1,5 +1,7 @@
 //! A ledger that is opened, added to and gathered.
 
+mod desk;
+
 use crate::{Book, Kind, LedgerFull, gather};
 use std::test::Fail;
 

@@ -179,6 +179,25 @@ calm-lost_try s call =
 calm-both : (call : Call) (test : Bool) (one other : Decision) → IsCalm call one → IsCalm call other → IsCalm call (cond test one other)
 calm-both call test one other first second = cond_both test one other (IsCalm call) (λ e. first) (λ e. second)
 
+-- the exchange of its own loosened mark is not lost
+abbrev pub IsSure : Call → Shared → Phase → Type 0
+IsSure call shared (Loosened found mark answer) = same_server (server_at shared.servers call.server) found ≡ true
+IsSure call shared phase = Unit {0}
+
+pub sure-from : (s : Settings) (call : Call) (shared : Shared) (phase : Phase) → IsPhase s call.number (server_at shared.servers call.server) phase
+    → IsSure call shared phase
+sure-from s call shared Start knows = tt
+sure-from s call shared (Read found mark answer) knows = tt
+sure-from s call shared (AtThreshold found) knows = tt
+sure-from s call shared (Limit found) knows = tt
+sure-from s call shared (Reserving found slots) knows = tt
+sure-from s call shared (Holding found) knows = tt
+sure-from s call shared Firming knows = tt
+sure-from s call shared Losing knows = tt
+sure-from s call shared (Loosening found mark answer) knows = tt
+sure-from s call shared (Loosened found mark answer) knows = eq-same_server (server_at shared.servers call.server) found knows.2
+sure-from s call shared (Emptied answer) knows = tt
+
 module _ (s : Settings) (call : Call) (mine : List Made) (at : ℕ) where
   abbrev pub before : List Change
   before = changes_in call.number mine
@@ -206,8 +225,7 @@ module _ (s : Settings) (call : Call) (mine : List Made) (at : ℕ) where
   answered answer changes =
       append-nil _ ∙ one_more answer ∙ ap (λ it. before ++ it) (cond-true (is_change answer) (change_by call answer ∷ []) [] changes)
 
-  pub told-next : (shared : Shared) (phase : Phase) → IsPlannedAt s call phase
-      → IsPhase s call.number (server_at shared.servers call.server) phase
+  pub told-next : (shared : Shared) (phase : Phase) → IsPlannedAt s call phase → IsSure call shared phase
       → Adds (pending_at call phase) (next_of s call phase (seen_by shared call.server (action_of call.number phase)))
       (changes_by call phase (is_done (seen_by shared call.server (action_of call.number phase))))
   told-next shared Start planned knows =
@@ -243,7 +261,7 @@ module _ (s : Settings) (call : Call) (mine : List Made) (at : ℕ) where
       let change = change_by call answer ∷ [] in
       by_test (λ won. Adds [] (goes call (Emptied answer)) (cond won change [])) (same_server (server_at shared.servers call.server) found)
       (λ won. ap (λ it. it ++ change) (sym (append-nil before)))
-      (λ lost. let won = eq-same_server (server_at shared.servers call.server) found knows.2 in let e : true ≡ false = sym won ∙ lost in cc)
+      (λ lost. let e : true ≡ false = sym knows ∙ lost in cc)
   told-next shared (Emptied answer) planned knows =
       answered answer planned ∙ sym (append-nil (before ++ change_by call answer ∷ []))
 

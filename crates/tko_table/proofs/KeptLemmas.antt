@@ -35,7 +35,7 @@ use Rattle.tko_table.specs.History.{Begins, Replays, change_by, changes_in, made
 use Rattle.tko_table.specs.Passes.{IsTold, OwnsItsMarks, TellsItsChanges, after_step, changes_by, decided_after, is_marked_by, mine_after, owns, pending}
 use Rattle.tko_table.specs.Rule.{IsKept, IsPlanned, IsPlannedAt, core_in, health_in, joined, shared_in, states_of}
 use Rattle.tko_table.specs.Steps.{Takes}
-use Rattle.tko_table.proofs.ChangeLemmas.{changes-drawn, made-changes, made_by-append, other-changes, told-next, told-other}
+use Rattle.tko_table.proofs.ChangeLemmas.{changes-drawn, made-changes, made_by-append, other-changes, sure-from, told-next, told-other}
 use Rattle.tko_table.proofs.EffectLemmas.{Effect, IsQuiet, IsWritten, effect-of}
 use Rattle.tko_table.proofs.HistoryLemmas.{Begins-all, Begins-more, Replays-push}
 use Rattle.tko_table.proofs.JoinedLemmas.{IsOneOf, one-joined}
@@ -205,7 +205,7 @@ module _ (s : Settings) (words new_words : List ℕ) (views : List (List Pass)) 
 
   told_after : changes_in call.number pass_after.mine ++ pending pass_after.state ≡ made_by call.number history_after
   told_after =
-      let adds = told-next s call pass.mine place_now (shared_in words) phase planned knows in
+      let adds = told-next s call pass.mine place_now (shared_in words) phase planned (sure-from s call (shared_in words) phase knows) in
       let decided : next_of pass.settings call phase it ≡ next_of s call phase it =
       ap (λ (with_settings : Settings). next_of with_settings call phase it) same_settings in
       ap (λ (decision : Decision). changes_in call.number (mine_after pass.mine call decision place_now) ++ pending (state_after call decision)) decided

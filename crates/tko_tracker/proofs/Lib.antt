@@ -1,3 +1,4 @@
+pub mod AddsLemmas
 pub mod ClosingLemmas
 pub mod KnowsLemmas
 pub mod OwnedLemmas

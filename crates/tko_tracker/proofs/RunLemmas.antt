@@ -1,5 +1,5 @@
 -- A call under way: what its loop keeps from step to step.
-use Rattle.std.proofs.Common.{◌≡◌, ℕ, ◌+◌, ◌<◌, ◌≤◌, true, eqb, List, [], ◌∷◌, refl, sym, ap, ◌∙◌, subst, arith}
+use Rattle.std.proofs.Common.{◌≡◌, ℕ, ◌+◌, ◌<◌, ◌≤◌, true, eqb, List, [], ◌∷◌, ◌++◌, refl, sym, ap, ◌∙◌, subst, arith}
 use Rattle.std.proofs.lemmas.Bool.{cond_both}
 use Rattle.tko_model.specs.declared.mark.Mark.{Mark}
 use Rattle.tko_model.specs.declared.mark.Mark.TheVariants.{Up, Soft, Hard}
@@ -23,10 +23,13 @@ use Rattle.tko_steps.specs.Cost.{most_steps}
 use Rattle.tko_steps.specs.Steps.{begun_by, in_call, is_done, state_after}
 use Rattle.tko_steps.specs.Table.{action_of, from_mark, from_up_by, next_of, on_others, on_own_hard_by, on_own_soft_by}
 use Rattle.tko_table.specs.declared.pass.Pass.{Pass}
+use Rattle.tko_table.specs.History.{changes_in, made_by, made_with, place_of_answer}
 use Rattle.tko_table.specs.Passes.{owned_after, owns}
 use Rattle.tko_table.specs.Steps.{IsSound}
 use Rattle.tko_tracker.specs.Calls.{Called, GoesOn, IsStep, Leads, Taken, answers_owner, can_answer, owned_left}
 use Rattle.tko_tracker.specs.Running.{CanCall, IsReady, Ran, Stepped}
+use Rattle.tko_tracker.specs.History.{Adds}
+use Rattle.tko_tracker.proofs.AddsLemmas.{HasAdded, HasAddedAfter, HasEnded, added-next, added-none}
 use Rattle.tko_tracker.proofs.KnowsLemmas.{Knows, KnowsAfter, knows-next, left}
 
 -- the call of the pass that the view had first, at this phase
@@ -46,6 +49,7 @@ pub record IsUnderWay
     pub on : call.server ≡ server
     pub stands : in_call now.state op server ≡ InCall call phase
     pub knows : Knows s first.steps first.owned call phase now.steps now.owned
+    pub added : HasAdded s first now call phase
     -- what follows makes a whole call
     pub rest : (steps : List Taken) (answer : Reply) (after : Pass) →
         Leads now call phase steps answer after → Called first op server answer after
@@ -68,6 +72,7 @@ begins s number op server view ranges can =
       on = refl;
       stands = ap (λ state. in_call state op server) can.state;
       knows = record { lost = omega (arith, ranges.tries.0); few = omega arith; at = refl; writes = tt; owner = λ own. tt };
+      added = added-none s can.pass (begun_by number op server);
       rest = λ steps answer after leads. record { number = number; idle = can.state; steps = steps; leads = leads };
     }
 
@@ -80,6 +85,22 @@ ready s number op server before call phase view at =
       settings = at.settings;
       stands = ap (λ it. in_call at.now.state it call.server) at.does ∙ ap (λ it. in_call at.now.state op it) at.on ∙ at.stands;
       writes = at.knows.writes;
+    }
+
+-- a call that ended, by the number, operation and server that it began with
+ended-adds : (first mid : Pass) (number : ℕ) (op : Op) (server : ℕ) (call : Call) (answer : Reply) → first.state ≡ Idle number
+    → call.number ≡ number → call.op ≡ op → call.server ≡ server → HasEnded first mid call answer → Adds first op server answer mid
+ended-adds first mid number op server call answer idle by does on ended =
+    let made : made_with call answer ended.at ≡ made_with (begun_by number op server) answer ended.at =
+    λ i. record { op = does i; server = on i; reply = answer; at = place_of_answer answer ended.at } in
+    record {
+      number = number;
+      idle = idle;
+      at = ended.at;
+      more = ended.more;
+      seen = ended.seen;
+      own = ap (λ it. made_by it ended.more) (sym by) ∙ ended.own ∙ (λ i. changes_in (by i) (made i ∷ []));
+      mine = ended.mine ∙ ap (λ it. first.mine ++ it ∷ []) made;
     }
 
 head : (one other : Pass) → one ∷ [] ≡ other ∷ [] → one ≡ other
@@ -123,6 +144,9 @@ module _ (s : Settings) (ranges : IsWithinRanges s) (number : ℕ) (op : Op) (se
       takes.shared phase (subst (IsSound s) takes.reads stepped.sound) (λ found mark is marked. sym takes.reads ∙ step.sure found mark is marked) at.knows (takes.own call.server) in
       subst R owned (subst Q steps (subst P (sym takes.reads) next))
 
+  added-mid : HasAddedAfter s at.first mid call (next_of s call phase read)
+  added-mid = added-next s at.first at.now mid call phase read at.added at.settings call.op at.first.owned at.now.owned at.knows.at step
+
   leads-mid : (decision : Decision) → next_of s call phase read ≡ decision → (steps : List Taken) (answer : Reply) (end : Pass)
       → GoesOn call decision (λ same later. Leads mid same later steps answer end) (λ given. (steps ≡ []) × (given ≡ answer) × (mid ≡ end))
       → Called at.first op server answer end
@@ -149,6 +173,7 @@ module _ (s : Settings) (ranges : IsWithinRanges s) (number : ℕ) (op : Op) (se
           on = at.on;
           stands = ap (λ state. in_call state op server) (state-mid ∙ ap (state_after call) is);
           knows = both.0;
+          added = subst (HasAddedAfter s at.first mid call) is added-mid;
           rest = λ steps answer end leads. leads-mid (Goes lost next) is steps answer end leads;
         },
         both.1,
@@ -163,6 +188,7 @@ module _ (s : Settings) (ranges : IsWithinRanges s) (number : ℕ) (op : Op) (se
         was = at.was;
         is = stepped.is;
         called = leads-mid (Answers answer) is [] answer mid (refl, refl, refl);
+        adds = ended-adds at.first mid number op server call answer at.idle at.by at.does at.on (subst (HasAddedAfter s at.first mid call) is added-mid);
         state = state-mid ∙ ap (state_after call) is ∙ ap Idle at.by;
         settings = settings-mid ∙ sym at.same;
         steps = subst (λ it. mid.steps ≤ at.first.steps + most_steps s it) at.does ends.few;

@@ -15,6 +15,7 @@ use Rattle.tko_table.specs.declared.pass.Pass.{Pass}
 use Rattle.tko_table.specs.Passes.{owns}
 use Rattle.tko_table.specs.Steps.{IsSound, IsWritable}
 use Rattle.tko_tracker.specs.Calls.{Called, IsStep, answers_owner, can_answer, owned_left}
+use Rattle.tko_tracker.specs.History.{Adds}
 
 -- the words that a call at this phase expects and leaves, now or later, can be packed
 abbrev pub CanWrite : ℕ → Phase → Type 0
@@ -64,6 +65,7 @@ pub record Ran
     pub was : before ≡ old ∷ []
     pub is : after ≡ new ∷ []
     pub called : Called old op server answer new
+    pub adds : Adds old op server answer new
     pub state : new.state ≡ Idle number
     pub settings : new.settings ≡ old.settings
     pub steps : new.steps ≤ old.steps + most_steps s op

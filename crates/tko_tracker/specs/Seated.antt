@@ -16,6 +16,7 @@ use Rattle.tko_table.specs.declared.words.Words.{Words}
 use Rattle.tko_table.specs.Passes.{new_pass, owns}
 use Rattle.tko_table.specs.Steps.{view_of}
 use Rattle.tko_tracker.specs.Calls.{Called, answers_owner, can_answer, owned_left}
+use Rattle.tko_tracker.specs.History.{Adds}
 use Rattle.tko_tracker.specs.Owned.{AreBitsOf}
 
 -- a tracker: its settings, and which table has its words
@@ -90,6 +91,7 @@ pub record Answered
   where
     pub of : IsOf tracker after
     pub called : Called before.pass op server answer after.pass
+    pub adds : Adds before.pass op server answer after.pass
     pub state : after.pass.state ≡ before.pass.state
     pub steps : after.pass.steps ≤ before.pass.steps + most_steps tracker.settings op
     pub allowed : can_answer op answer ≡ true

@@ -1,0 +1,52 @@
+//! A desk of three passes.
+ghost use Rattle.std.specs.Prelude.{◌≡◌};
+ghost use Rattle.tko_tracker.specs.Seated.{ArePasses};
+
+use crate::Desk;
+use std::marker::Brand;
+use std::sync::Wait;
+use std::test::Fail;
+use tko_model::Settings;
+use tko_tracker::{IdlePass, Named, Tracker, open};
+
+const SETTINGS: Settings = Settings {
+    servers: 1,
+    threads: 3,
+    failures: 1,
+    limit: 1,
+    tries: 1,
+    opening_stamp: 0,
+};
+
+/// Takes all passes, gives one back, and takes it again. Returns the numbers of the passes that it
+/// took, in order, or None if a pass is missing or there is one too many.
+fn lend<R: Wait, N: Named>(
+    rt: &R,
+    tracker: &Tracker,
+    passes: Vec<IdlePass>,
+) -> Option<(u32, u32, u32, u32)>
+    requires tracker { tracker.now ≡ N.tracker }
+    requires passes { ArePasses N.tracker passes.items }
+{
+    let _ = tracker;
+    let desk = Desk::<N>::open(passes);
+    let (one, two, three) = (desk.take(rt)?, desk.take(rt)?, desk.take(rt)?);
+    if desk.take(rt).is_some() {
+        return None;
+    }
+    let numbers = (one.number(), two.number(), three.number());
+    desk.give(rt, two).ok()?;
+    let again = desk.take(rt)?.number();
+    if desk.take(rt).is_some() {
+        return None;
+    }
+    Some((numbers.0, numbers.1, numbers.2, again))
+}
+
+#[test]
+fn three_passes_are_lent(rt: HostRuntime) -> Result<(), Fail> {
+    let (tracker, passes) = open(rt.alloc(), SETTINGS)?;
+    let numbers = lend::<_, Brand>(&rt, &tracker, passes);
+    assert_eq!(rt; numbers, Some((2, 1, 0, 1)));
+    Ok(())
+}

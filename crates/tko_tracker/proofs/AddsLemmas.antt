@@ -1,0 +1,145 @@
+-- What a call under way has added to the history, from step to step.
+use Rattle.std.proofs.Common.{◌≡◌, ℕ, true, List, [], ◌∷◌, ◌++◌, length, refl, sym, ap, ◌∙◌, subst}
+use Rattle.std.proofs.lemmas.List.{append-nil, append_assoc}
+use Rattle.tko_model.specs.declared.mark.Mark.{Mark}
+use Rattle.tko_model.specs.declared.mark.Op.{Op}
+use Rattle.tko_model.specs.declared.mark.Reply.{Reply}
+use Rattle.tko_model.specs.declared.settings.Settings.{Settings}
+use Rattle.tko_model.specs.declared.state.ServerState.{ServerState}
+use Rattle.tko_model.specs.Tracker.{server_at}
+use Rattle.tko_steps.specs.declared.phase.Call.{Call}
+use Rattle.tko_steps.specs.declared.phase.Phase.{Phase}
+use Rattle.tko_steps.specs.declared.phase.Phase.TheVariants.{Start, Read, AtThreshold, Limit, Reserving, Holding, Firming, Losing, Loosening, Loosened, Emptied}
+use Rattle.tko_steps.specs.declared.table.Action.TheVariants.{Exchange}
+use Rattle.tko_steps.specs.declared.table.Decision.{Decision}
+use Rattle.tko_steps.specs.declared.table.Decision.TheVariants.{Goes, Answers}
+use Rattle.tko_steps.specs.declared.table.Seen.{Seen}
+use Rattle.tko_steps.specs.declared.table.Seen.TheVariants as seen
+use Rattle.tko_steps.specs.Core.{Shared, seen_by}
+use Rattle.tko_steps.specs.Steps.{is_done, is_marked_state, state_after}
+use Rattle.tko_steps.specs.Table.{action_of, next_of, same_server}
+use Rattle.tko_table.specs.declared.pass.Change.{Change}
+use Rattle.tko_table.specs.declared.pass.Pass.{Pass}
+use Rattle.tko_table.specs.History.{changes_in, made_by, made_with}
+use Rattle.tko_table.specs.Passes.{changes_by, decided_after, mine_after, pending, pending_at}
+use Rattle.tko_table.specs.Rule.{IsPlanned, IsPlannedAt}
+use Rattle.tko_table.specs.Steps.{Takes}
+use Rattle.tko_table.proofs.ChangeLemmas.{IsSure, made-changes, made_by-append, told-next}
+use Rattle.tko_table.proofs.PlanLemmas.{plans-next}
+use Rattle.tko_tracker.specs.Calls.{IsStep}
+use Rattle.tko_tracker.proofs.KnowsLemmas.{KnowsAt}
+
+-- what a call at this phase has added, where its pass was the first as it began
+pub record HasAdded (s : Settings) (first now : Pass) (call : Call) (phase : Phase) : Type 0 where
+  pub more : List Change
+  pub seen : now.seen ≡ first.seen ++ more
+  pub own : made_by call.number more ≡ pending_at call phase
+  pub mine : now.mine ≡ first.mine
+  pub planned : IsPlannedAt s call phase
+
+-- the same where the call ended
+pub record HasEnded (first now : Pass) (call : Call) (answer : Reply) : Type 0 where
+  pub at : ℕ
+  pub more : List Change
+  pub seen : now.seen ≡ first.seen ++ more
+  pub own : made_by call.number more ≡ changes_in call.number (made_with call answer at ∷ [])
+  pub mine : now.mine ≡ first.mine ++ made_with call answer at ∷ []
+
+abbrev pub HasAddedAfter : Settings → Pass → Pass → Call → Decision → Type 0
+HasAddedAfter s first now call (Goes lost phase) = HasAdded s first now (record call { lost = lost }) phase
+HasAddedAfter s first now call (Answers answer) = HasEnded first now call answer
+
+pub added-none : (s : Settings) (first : Pass) (call : Call) → HasAdded s first first call Start
+added-none s first call = record { more = []; seen = sym (append-nil first.seen); own = refl; mine = refl; planned = tt }
+
+-- a thread does not lose the exchange of its own mark
+sure-at : (op : Op) (base owned : List ℕ) (call : Call) (shared : Shared) (read : Seen) (phase : Phase)
+    → KnowsAt op call.server base owned phase → read ≡ seen_by shared call.server (action_of call.number phase)
+    → ((found : ServerState) (mark : Mark) → action_of call.number phase ≡ Exchange found mark → is_marked_state found.mark ≡ true → read ≡ seen.Done true)
+    → IsSure call shared phase
+sure-at op base owned call shared read Start knows reads sure = tt
+sure-at op base owned call shared read (Read found mark answer) knows reads sure = tt
+sure-at op base owned call shared read (AtThreshold found) knows reads sure = tt
+sure-at op base owned call shared read (Limit found) knows reads sure = tt
+sure-at op base owned call shared read (Reserving found slots) knows reads sure = tt
+sure-at op base owned call shared read (Holding found) knows reads sure = tt
+sure-at op base owned call shared read Firming knows reads sure = tt
+sure-at op base owned call shared read Losing knows reads sure = tt
+sure-at op base owned call shared read (Loosening found mark answer) knows reads sure = tt
+sure-at op base owned call shared read (Loosened found mark answer) knows reads sure =
+    let both : seen.Done (same_server (server_at shared.servers call.server) found) ≡ seen.Done true = sym reads ∙ sure found mark refl knows.3 in cc
+sure-at op base owned call shared read (Emptied answer) knows reads sure = tt
+
+module _ (s : Settings) (first now mid : Pass) (call : Call) (phase : Phase) (read : Seen) (has : HasAdded s first now call phase)
+    (settings : now.settings ≡ s) (op : Op) (base owned : List ℕ) (knows : KnowsAt op call.server base owned phase)
+    (step : IsStep now call phase read mid) where
+  abbrev takes : Takes now call phase read mid
+  takes = step.takes
+
+  abbrev changes : List Change
+  changes = changes_by call phase (is_done read)
+
+  abbrev more : List Change
+  more = (has.more ++ takes.between) ++ changes
+
+  abbrev at : ℕ
+  at = decided_after phase now.decided_at (length (now.seen ++ takes.between))
+
+  seen-mid : mid.seen ≡ first.seen ++ more
+  seen-mid =
+      ap (λ (it : Pass). it.seen) takes.knows
+      ∙ ap (λ it. (it ++ takes.between) ++ changes) has.seen
+      ∙ ap (λ it. it ++ changes) (append_assoc first.seen has.more takes.between)
+      ∙ append_assoc first.seen (has.more ++ takes.between) changes
+
+  own-mid : made_by call.number more ≡ pending_at call phase ++ changes
+  own-mid =
+      made_by-append call.number (has.more ++ takes.between) changes
+      ∙ ap (λ it. it ++ made_by call.number changes) (made_by-append call.number has.more takes.between)
+      ∙ (λ i. (has.own i ++ takes.others i) ++ made-changes call phase (is_done read) i)
+      ∙ ap (λ it. it ++ changes) (append-nil (pending_at call phase))
+
+  abbrev decision : Decision
+  decision = next_of s call phase read
+
+  adds : changes_in call.number (mine_after [] call decision at) ++ pending (state_after call decision) ≡ pending_at call phase ++ changes
+  adds =
+      let sure = sure-at op base owned call takes.shared read phase knows takes.reads step.sure in
+      let told = told-next s call [] at takes.shared phase has.planned sure in
+      let P : Seen → Type 0 = λ it. changes_in call.number (mine_after [] call (next_of s call phase it) at) ++ pending (state_after call (next_of s call phase it))
+      ≡ pending_at call phase ++ changes_by call phase (is_done it) in
+      subst P (sym takes.reads) told
+
+  mine-mid : mid.mine ≡ mine_after first.mine call decision at
+  mine-mid =
+      ap (λ (it : Pass). it.mine) takes.knows
+      ∙ ap (λ it. mine_after now.mine call (next_of it call phase read) at) settings
+      ∙ ap (λ it. mine_after it call decision at) has.mine
+
+  planned-mid : IsPlanned s (state_after call decision)
+  planned-mid =
+      let P : Seen → Type 0 = λ it. IsPlanned s (state_after call (next_of s call phase it)) in
+      subst P (sym takes.reads) (plans-next s call takes.shared phase has.planned)
+
+  after-by : (it : Decision) → decision ≡ it → HasAddedAfter s first mid call it
+  after-by (Goes lost next) is =
+      let P : Decision → Type 0 = λ d. changes_in call.number (mine_after [] call d at) ++ pending (state_after call d) ≡ pending_at call phase ++ changes in
+      record {
+        more = more;
+        seen = seen-mid;
+        own = own-mid ∙ sym (subst P is adds);
+        mine = mine-mid ∙ ap (λ d. mine_after first.mine call d at) is;
+        planned = subst (λ d. IsPlanned s (state_after call d)) is planned-mid;
+      }
+  after-by (Answers answer) is =
+      let P : Decision → Type 0 = λ d. changes_in call.number (mine_after [] call d at) ++ pending (state_after call d) ≡ pending_at call phase ++ changes in
+      record {
+        at = at;
+        more = more;
+        seen = seen-mid;
+        own = own-mid ∙ sym (subst P is adds) ∙ append-nil (changes_in call.number (made_with call answer at ∷ []));
+        mine = mine-mid ∙ ap (λ d. mine_after first.mine call d at) is;
+      }
+
+  pub added-next : HasAddedAfter s first mid call decision
+  added-next = after-by decision refl
