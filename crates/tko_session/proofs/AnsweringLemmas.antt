@@ -25,7 +25,7 @@ use Rattle.tko_session.specs.TrailEvents.{TrailEvent, Tried}
 use Rattle.tko_session.specs.Turns.{AnswersItself, IsKeyRouted, by_keys, itself, request_for, request_keys}
 
 -- a request of one key is routed as it is
-request_for_alone : (request : Request) (key : List ℕ) → request_keys request ≡ key ∷ [] → request_for request key ≡ request
+pub request_for_alone : (request : Request) (key : List ℕ) → request_keys request ≡ key ∷ [] → request_for request key ≡ request
 request_for_alone (Get keys) key is = ap Get (sym is)
 request_for_alone (Gets keys) key is = ap Gets (sym is)
 request_for_alone (Store verb entry noreply) key is = refl
@@ -39,7 +39,7 @@ request_for_alone Quit key is = refl
 request_for_alone StatsTko key is = refl
 
 -- one of several keys is routed as the same key alone
-request_for_one : (keys : List (List ℕ)) (unique : Bool) (key : List ℕ)
+pub request_for_one : (keys : List (List ℕ)) (unique : Bool) (key : List ℕ)
     → request_for (retrieval (key ∷ []) unique) key ≡ request_for (retrieval keys unique) key
 request_for_one keys true key = refl
 request_for_one keys false key = refl

@@ -1,10 +1,10 @@
 -- Laws of events: these and then those, and what a round leaves.
-use Rattle.std.proofs.Common.{◌≡◌, ℕ, zero, suc, ◌+◌, Bool, true, false, List, [], ◌∷◌, ◌++◌, Option, Some, None, refl, sym, ap, subst, ◌∙◌, cond, map, slice_set}
+use Rattle.std.proofs.Common.{◌≡◌, ℕ, zero, suc, ◌+◌, Bool, true, false, List, [], ◌∷◌, ◌++◌, Option, Some, None, refl, ap, ◌∙◌, cond, map, slice_set}
 use Rattle.std.proofs.lemmas.Grind.{flat_map-append}
 use Rattle.std.specs.List.{list_any}
 use Rattle.std.proofs.lemmas.List.Folds.{list_any-append}
 use Rattle.std.proofs.lemmas.List.Sums.{sum_by-append}
-use Rattle.tko_model.specs.Records.{HealthItem, Gains, Lead}
+use Rattle.tko_model.specs.Records.{HealthItem, Lead}
 use Rattle.tko_links.specs.Links.{LinksItem}
 use Rattle.tko_session.specs.declared.parts.Parts.{Parts}
 use Rattle.tko_prober.specs.declared.delays.Delays.{Delays}
@@ -17,7 +17,6 @@ use Rattle.tko_session.specs.Events.{AreBegun, Event, IsRun, NoneMarked, NoneSho
 use Rattle.tko_session.specs.Probers.{begun_at, begun_slot, probed_of, slot_after, with_slot}
 use Rattle.tko_session.specs.Round as at_round
 use Rattle.tko_session.specs.Round.{Absent, IsRound, IsVisit, Rested, Stopped, Visit, is_probe, probes_in, ran_out}
-use Rattle.tko_session.specs.Turns.{Turn}
 
 pub turns-append : (events more : List Event) → turns_of (events ++ more) ≡ turns_of events ++ turns_of more
 turns-append events more = flat_map-append turn_in events more

@@ -1,4 +1,5 @@
 mod AnsweringLemmas
+mod CutLemmas
 mod EventLemmas
 mod ListLemmas
 mod NeverLemmas

@@ -1,13 +1,12 @@
 -- Laws of rounds: what each visit is, and visits one after another.
-use Rattle.std.proofs.Common.{◌≡◌, ◌↔◌, ℕ, zero, suc, ◌+◌, ◌<◌, Bool, true, false, ◌||◌, List, [], ◌∷◌, ◌++◌, Option, Some, None, Result, Ok, length, map, cond, count_by, slice_set, set-set, refl, sym, ap, subst, ◌∙◌, add-one, zero-add, arith}
+use Rattle.std.proofs.Common.{◌≡◌, ◌↔◌, ℕ, zero, suc, ◌+◌, Bool, true, false, ◌||◌, List, [], ◌∷◌, ◌++◌, Option, Some, None, Result, Ok, length, cond, set-set, refl, sym, ap, subst, ◌∙◌, add-one, zero-add, arith}
 use Rattle.std.specs.Prelude.{is_err}
-use Rattle.std.specs.List.{list_any}
 use Rattle.std.proofs.lemmas.List.{length-map, map-append, map-id}
 use Rattle.std.proofs.lemmas.List.Folds.{list_any-append}
 use Rattle.std.proofs.lemmas.List.FromFn.{map-range_with_len_more}
 use Rattle.std.proofs.lemmas.List.Sums.{sum_by-cons}
 use Rattle.tko_model.specs.declared.mark.Reply.{Reply}
-use Rattle.tko_model.specs.Records.{Gains, HealthItem, Lead, NoDuty}
+use Rattle.tko_model.specs.Records.{HealthItem, Lead, NoDuty}
 use Rattle.tko_model.proofs.RecordLemmas.{gains_none, gains_push}
 use Rattle.tko_links.specs.declared.links.NoMemory.{NoMemory}
 use Rattle.tko_links.specs.declared.links.Outcome.{Outcome}
@@ -22,7 +21,7 @@ use Rattle.tko_session.specs.declared.parts.Parts.{Parts}
 use Rattle.tko_session.specs.declared.probers.ProbeSlot.{ProbeSlot}
 use Rattle.tko_session.specs.declared.probers.ProbeSlot.TheVariants.{Quiet, Probing}
 use Rattle.tko_session.specs.Probers.{AreQuiet, ProbersState, begun_at, begun_slot, op_asked, probed_of, prober_of, slot_after, with_slot}
-use Rattle.tko_session.specs.Round.{Absent, AreVisited, IsProbed, IsRested, IsRound, IsStopped, IsVisit, IsVisited, Probed, Rested, Stopped, Visit, is_probe, probes_in, ran_out, visited}
+use Rattle.tko_session.specs.Round.{Absent, AreVisited, IsRound, IsVisit, IsVisited, Probed, Rested, Stopped, Visit, is_probe, probes_in, ran_out, visited}
 use Rattle.tko_session.proofs.ProberLemmas.{begun-quiet, prober-quiet, set-prober}
 
 numbers_below-more : (count : ℕ) → numbers_below (count + 1) ≡ numbers_below count ++ count ∷ []

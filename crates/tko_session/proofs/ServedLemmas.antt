@@ -1,10 +1,13 @@
 -- Laws of a whole session: nothing yet, one delivery more, one piece more, the end.
-use Rattle.std.proofs.Common.{◌≡◌, ◌≢◌, ℕ, Bool, ◌+◌, ◌<◌, ◌^◌, List, [], ◌∷◌, ◌++◌, length, refl, sym, ap, subst, ◌∙◌, append_assoc, append-nil, length-append, arith, add-zero, Some, false}
+use Rattle.std.proofs.Common.{◌≡◌, ◌≢◌, ℕ, Bool, true, ◌+◌, ◌<◌, ◌^◌, List, [], ◌∷◌, ◌++◌, length, refl, sym, ap, subst, ◌∙◌, append_assoc, append-nil, length-append, arith, add-zero, Some, false}
 use Rattle.tko_model.specs.Records.{HealthItem}
 use Rattle.tko_model.proofs.RecordLemmas.{gains_append, gains_none, gains_one}
 use Rattle.tko_links.specs.Links.{LinksItem}
 use Rattle.tko_session.specs.declared.parts.Parts.{Parts}
-use Rattle.tko_text.specs.Reading.{Gives, Never, fed, start}
+use Rattle.std.specs.Prelude.{MatchBool}
+use Rattle.tko_text.specs.declared.item.Item.{Item}
+use Rattle.tko_text.specs.declared.request.Request.{Request}
+use Rattle.tko_text.specs.Reading.{Gives, Never, Reading, fed, start}
 use Rattle.tko_text.proofs.CuttingLemmas.{fed-fed}
 use Rattle.tko_text.proofs.GivesLemmas.{Gives-append, Gives-fed, Gives-none}
 use Rattle.tko_text.proofs.ReadingLemmas.{NeedsMore-failed}
@@ -12,14 +15,14 @@ use Rattle.tko_session.specs.declared.session.Progress.{Progress}
 use Rattle.tko_session.specs.declared.session.Progress.TheVariants.{More, NeedsInput, LineTooLong, Quit}
 use Rattle.tko_session.specs.declared.session.Report.{Report}
 use Rattle.tko_session.specs.Io.{Writes, capped}
-use Rattle.tko_session.specs.Events.{Event, IdleRound, IsEvent, Rounded, turns_of}
+use Rattle.tko_session.specs.Events.{Event, IdleRound, IsEvent, IsRun, NoneRun, Rounded, turns_of}
 use Rattle.tko_session.specs.TrailEvents.{TrailEvent}
-use Rattle.tko_session.specs.SessionState.{SessionState, Answered, AnsweredPart, InSession, ProgressIs, fed_state, fresh, items_of, probed_by, sent_by, text_of}
-use Rattle.tko_session.specs.Served.{CameTooLong, Delivered, DeliveredPart, Served, ServedSoFar, StoppedByLine, StoppedByRead, StoppedByWrite, StoppedEarly, Transcript, at_end_of_input, at_quit}
+use Rattle.tko_session.specs.SessionState.{SessionState, Answered, AnsweredPart, GoesOn, InSession, IsBehind, ProgressIs, fed_state, fresh, items_of, probed_by, sent_by, text_of, cut_short, no_more}
+use Rattle.tko_session.specs.Served.{CameTooLong, Delivered, DeliveredPart, EndsAt, Served, ServedSoFar, StoppedByLine, StoppedByRead, StoppedByWrite, StoppedEarly, Transcript, after_cut, at_end_of_input, at_once, at_quit}
 use Rattle.tko_session.proofs.EventLemmas.{idles-append, order-append}
 use Rattle.tko_session.proofs.NeverLemmas.{reading_goes_on}
 use Rattle.tko_session.proofs.TextFacts.{open_start}
-use Rattle.tko_session.proofs.TurnLemmas.{capped-more, goes_on-none, in_session, in_session_of, items-append, text-append, turned_append, turned_idle, turned_none, events_in_session, events_progress}
+use Rattle.tko_session.proofs.TurnLemmas.{capped-more, goes_on-append, goes_on-none, in_session, in_session_of, items-append, text-append, turned_append, turned_idle, turned_none, events_in_session, events_progress, part_paid}
 
 module _ {O : Type 0} {takes : O → List ℕ → O → Type 0} where
   -- two writes are one
@@ -50,35 +53,54 @@ module _ {O : Type 0} {takes : O → List ℕ → O → Type 0} where
   pub writes_none : (x : O) (a : ℕ) → takes x [] x → Writes takes x [] x a a
   writes_none x a nothing = record { output = nothing; counted = ap capped (sym (add-zero a)) }
 
-module _ {O W : Type 0} {takes : O → List ℕ → O → Type 0} {step : W → Event → W → Type 0} where
+false_is_true : false ≡ true → ⊥
+false_is_true same = cc
+
+module _ {W : Type 0} {step : W → Event → W → Type 0} {cut : Request → W → W → Type 0} where
+  -- no round is owed, so that no request was cut short
+  ends_settled : {items : List Item} {left : Reading} {reached after : W} {owes : Bool} → IsBehind cut items left reached owes after
+      → owes ≡ false → EndsAt step cut items left reached after
+  ends_settled (no_more same none) settled = at_once same
+  ends_settled (cut_short it to goes emits is owed) settled = absurd (false_is_true (sym settled ∙ owed))
+
+  -- a session that ended after items ended after all of them
+  ends_after : {left : Reading} {reached after : W} (items more : List Item) → GoesOn items
+      → EndsAt step cut more left reached after → EndsAt step cut (items ++ more) left reached after
+  ends_after items more goes (at_once same) = at_once same
+  ends_after items more goes (after_cut it to mid visits going emits is round) =
+      after_cut it to mid visits (goes_on-append items more goes going) emits is round
+
+module _ {O W : Type 0} {takes : O → List ℕ → O → Type 0} {step : W → Event → W → Type 0} {cut : Request → W → W → Type 0} where
   -- nothing was answered
-  pub not_delivered : (at : SessionState) (writer : O) (written : ℕ) (world : W) → takes writer [] writer
-      → DeliveredPart takes step at writer written world writer written
-  not_delivered at writer written world nothing = record {
+  pub not_delivered : (at : SessionState) (writer : O) (written : ℕ) (world : W) → takes writer [] writer → at.owes ≡ false
+      → DeliveredPart takes step cut 0 at writer written world writer written world
+  not_delivered at writer written world nothing_out none = record {
     events = [];
     left = at.reading;
     reached = world;
-    owed = at.owes;
+    idle = refl;
+    ends = at_once refl;
     gives = Gives-none at.reading;
     gains = gains_none world;
-    order = refl;
+    order = ap Some none;
     in_session = in_session_of [] goes_on-none;
     front = [];
     unwritten = [];
     text = refl;
-    output = writes_none writer written nothing;
+    output = writes_none writer written nothing_out;
   }
 
   -- items were answered, and the front of their replies was written
-  pub part_delivered : {old mid : SessionState} {writer writer' : O} {written written' : ℕ} {before : W} (front unwritten : List ℕ)
-      → AnsweredPart step old before mid → old.outbox ≡ [] → mid.outbox ≡ front ++ unwritten
-      → Writes takes writer front writer' written written'
-      → DeliveredPart takes step old writer written before writer' written'
-  part_delivered front unwritten part empty split wrote = record {
+  part_delivered : {old mid : SessionState} {writer writer' : O} {written written' : ℕ} {before between after : W} (front unwritten : List ℕ)
+      → (part : AnsweredPart step cut old before mid between) → EndsAt step cut (items_of (turns_of part.events)) part.left part.reached after
+      → old.outbox ≡ [] → mid.outbox ≡ front ++ unwritten → Writes takes writer front writer' written written'
+      → DeliveredPart takes step cut 0 old writer written before writer' written' after
+  part_delivered front unwritten part ends empty split wrote = record {
     events = part.events;
     left = part.left;
     reached = part.reached;
-    owed = part.owed;
+    idle = part.idles;
+    ends = ends;
     gives = part.gives;
     gains = part.gains;
     order = part.order;
@@ -169,17 +191,18 @@ module _ {O W : Type 0} {takes : O → List ℕ → O → Type 0} {step : W → 
     progress_is = delivered.progress_is.0;
   }
 
-  pub delivered_part : {idles : ℕ} {progress : Progress} {old new : SessionState} {writer writer' : O} {written written' : ℕ} {before after : W}
+  pub delivered_part : {cut : Request → W → W → Type 0} {idles : ℕ} {progress : Progress} {old new : SessionState} {writer writer' : O} {written written' : ℕ} {before after : W}
       → Delivered takes step sent probed idles progress old writer written before new writer' written' after
-      → DeliveredPart takes step old writer written before writer' written'
-  delivered_part {idles} {progress} {old} {new} {writer} {writer'} {written} {written'} {before} {after} delivered = record {
+      → DeliveredPart takes step cut idles old writer written before writer' written' after
+  delivered_part {cut} {idles} {progress} {old} {new} {writer} {writer'} {written} {written'} {before} {after} delivered = record {
     events = delivered.events;
     left = new.reading;
     reached = after;
-    owed = new.owes;
+    idle = delivered.idle;
+    ends = at_once refl;
     gives = delivered.turned.gives;
     gains = delivered.turned.gains;
-    order = delivered.turned.order;
+    order = delivered.turned.order ∙ ap Some delivered.owes;
     in_session = in_session progress (items_of (turns_of delivered.events)) new.reading delivered.progress_is;
     front = text_of (turns_of delivered.events);
     unwritten = [];
@@ -188,20 +211,23 @@ module _ {O W : Type 0} {takes : O → List ℕ → O → Type 0} {step : W → 
   }
 
   pub part_append : ((x y z : O) (bytes more : List ℕ) → takes x bytes y → takes y more z → takes x (bytes ++ more) z)
-      → {idles : ℕ} {old mid : SessionState} {writer writer' writer'' : O} {written written' written'' : ℕ} {before between : W}
+      → {cut : Request → W → W → Type 0} {idles idles' : ℕ} {old mid : SessionState} {writer writer' writer'' : O} {written written' written'' : ℕ} {before between after : W}
       → Delivered takes step sent probed idles More old writer written before mid writer' written' between
-      → DeliveredPart takes step mid writer' written' between writer'' written''
-      → DeliveredPart takes step old writer written before writer'' written''
-  part_append goes_on {idles} {old} {mid} {writer} {writer'} {writer''} {written} {written'} {written''} first back = record {
+      → DeliveredPart takes step cut idles' mid writer' written' between writer'' written'' after
+      → DeliveredPart takes step cut (idles + idles') old writer written before writer'' written'' after
+  part_append goes_on {cut} {idles} {idles'} {old} {mid} {writer} {writer'} {writer''} {written} {written'} {written''} {before} {between} {after} first back = record {
     events = first.events ++ back.events;
     left = back.left;
     reached = back.reached;
-    owed = back.owed;
+    idle = omega (arith, first.idle, back.idle, idles-append first.events back.events);
+    ends =
+        subst (λ items. EndsAt step cut items back.left back.reached after) (sym (items-append first.events back.events))
+        (ends_after (items_of (turns_of first.events)) (items_of (turns_of back.events)) first.progress_is back.ends);
     gives =
         let gives = Gives-append _ _ _ _ _ first.turned.gives back.gives in
         subst (λ items. Gives old.reading items back.left) (sym (items-append first.events back.events)) gives;
     gains = gains_append first.turned.gains back.gains;
-    order = order-append old.owes mid.owes back.owed first.events back.events first.turned.order back.order;
+    order = order-append old.owes mid.owes false first.events back.events first.turned.order back.order;
     in_session = events_in_session first.events back.events first.progress_is back.in_session;
     front = text_of (turns_of first.events) ++ back.front;
     unwritten = back.unwritten;
@@ -340,23 +366,24 @@ module _ {I O W : Type 0} {gives : I → List ℕ → I → Type 0} {idled : I �
   -- a part of what a piece completed was answered and written
   pub stopped_early : ((x y z : I) (bytes more : List ℕ) → gives x bytes y → gives y more z → gives x (bytes ++ more) z)
       → ((x y z : O) (bytes more : List ℕ) → takes x bytes y → takes y more z → takes x (bytes ++ more) z)
-      → {reader reader' reader'' : I} {writer writer' writer'' : O} {written written' : ℕ} {parts parts' : W} {at : SessionState}
+      → {cut : Request → W → W → Type 0} {reader reader' reader'' : I} {writer writer' writer'' : O} {written written' : ℕ} {parts parts' parts'' : W} {at : SessionState}
       → (n : ℕ) (piece : List ℕ) → ServedSoFar gives idled takes step sent probed NeedsInput reader writer parts at reader' writer' written parts'
-      → gives reader' piece reader''
-      → DeliveredPart takes step (fed_state at piece) writer' written parts' writer'' written' → n ≡ capped written'
-      → StoppedByWrite gives idled takes step sent probed reader writer parts n reader'' writer''
-  stopped_early goes_in goes_out {reader} {reader'} {reader''} {writer} {writer'} {writer''} {written} {written'} {parts} {parts'} {at} n piece so_far read part is =
+      → gives reader' piece reader'' → idled reader'' ≡ idled reader'
+      → DeliveredPart takes step cut 0 (fed_state at piece) writer' written parts' writer'' written' parts'' → n ≡ capped written'
+      → StoppedByWrite gives idled takes step sent probed cut reader writer parts n reader'' writer'' parts''
+  stopped_early goes_in goes_out {cut} {reader} {reader'} {reader''} {writer} {writer'} {writer''} {written} {written'} {parts} {parts'} {parts''} {at} n piece so_far read calm part is =
       let all = part_append goes_out (delivered_fed piece so_far.delivered) part in record {
         early = record {
           bytes = so_far.bytes ++ piece;
           events = all.events;
           left = all.left;
           reached = all.reached;
-          owed = all.owed;
           input = goes_in reader reader' reader'' so_far.bytes piece so_far.input read;
           items = subst (λ from. Gives from (items_of (turns_of all.events)) all.left) (fed-fed start so_far.bytes piece) all.gives;
           gains = all.gains;
           order = all.order;
+          idles = omega (arith, so_far.idles, calm, all.idle);
+          ends = all.ends;
           in_session = all.in_session;
           front = all.front;
           unwritten = all.unwritten;
@@ -366,41 +393,20 @@ module _ {I O W : Type 0} {gives : I → List ℕ → I → Type 0} {idled : I �
         counted = is ∙ omega (arith, all.output.counted);
       }
 
-  -- no more was answered
-  pub stopped_at : {progress : Progress} {reader reader' : I} {writer writer' : O} {written : ℕ} {parts parts' : W} {at : SessionState}
-      → ServedSoFar gives idled takes step sent probed progress reader writer parts at reader' writer' written parts'
-      → StoppedEarly gives idled takes step sent probed reader writer parts reader' writer'
-  stopped_at so_far =
-      let all = delivered_part so_far.delivered in record {
-        bytes = so_far.bytes;
-        events = all.events;
-        left = all.left;
-        reached = all.reached;
-        owed = all.owed;
-        input = so_far.input;
-        items = all.gives;
-        gains = all.gains;
-        order = all.order;
-        in_session = all.in_session;
-        front = all.front;
-        unwritten = all.unwritten;
-        text = all.text;
-        output = all.output.output;
-      }
-
   -- nothing was read or written
-  pub stopped_at_once : (reader : I) (writer : O) (parts : W) → gives reader [] reader → takes writer [] writer
-      → StoppedEarly gives idled takes step sent probed reader writer parts reader writer
+  pub stopped_at_once : {cut : Request → W → W → Type 0} (reader : I) (writer : O) (parts : W) → gives reader [] reader → takes writer [] writer
+      → StoppedEarly gives idled takes step sent probed cut reader writer parts reader writer parts
   stopped_at_once reader writer parts nothing_in nothing_out = record {
     bytes = [];
     events = [];
     left = start;
     reached = parts;
-    owed = false;
     input = nothing_in;
     items = Gives-none start;
     gains = gains_none parts;
     order = refl;
+    idles = sym (add-zero (idled reader));
+    ends = at_once refl;
     in_session = in_session_of [] goes_on-none;
     front = [];
     unwritten = [];
@@ -448,11 +454,11 @@ module _ {I O H L T M : Type 0} {gives : I → List ℕ → I → Type 0} {idled
 
   -- the reader was idle, and memory ran out in the round
   pub stopped_idle : ((x y z : I) (bytes more : List ℕ) → gives x bytes y → gives y more z → gives x (bytes ++ more) z)
-      → {short : Bool} {reader reader' reader'' : I} {writer writer' : O} {written : ℕ} {parts parts' parts'' : Parts H L T M} {at : SessionState}
+      → {cut : Request → Parts H L T M → Parts H L T M → Type 0} {short : Bool} {reader reader' reader'' : I} {writer writer' : O} {written : ℕ} {parts parts' parts'' : Parts H L T M} {at : SessionState}
       → ServedSoFar gives idled takes (IsEvent steps grants exchanges sent probed records reads) (sent_by sent) (probed_by probed) NeedsInput reader writer parts at reader' writer' written parts'
       → gives reader' [] reader'' → idled reader'' ≡ idled reader' + 1 → Rounded steps grants exchanges sent probed reads short parts' parts''
-      → StoppedEarly gives idled takes (IsEvent steps grants exchanges sent probed records reads) (sent_by sent) (probed_by probed) reader writer parts reader'' writer'
-  stopped_idle goes_in {short} {reader} {reader'} {reader''} {writer} {writer'} {written} {parts} {parts'} {parts''} {at} so_far read idle rounded =
+      → StoppedEarly gives idled takes (IsEvent steps grants exchanges sent probed records reads) (sent_by sent) (probed_by probed) cut reader writer parts reader'' writer' parts''
+  stopped_idle goes_in {cut} {short} {reader} {reader'} {reader''} {writer} {writer'} {written} {parts} {parts'} {parts''} {at} so_far read idle rounded =
       let before = so_far.delivered in
       let last : List Event = IdleRound rounded.round.visits ∷ [] in
       let items : items_of (turns_of (before.events ++ last)) ≡ items_of (turns_of before.events) =
@@ -465,16 +471,55 @@ module _ {I O H L T M : Type 0} {gives : I → List ℕ → I → Type 0} {idled
         events = before.events ++ last;
         left = at.reading;
         reached = parts'';
-        owed = false;
         input =
             let all = goes_in reader reader' reader'' so_far.bytes [] so_far.input read in
             subst (λ bytes. gives reader bytes reader'') (append-nil so_far.bytes) all;
         items = subst (λ xs. Gives (fed start so_far.bytes) xs at.reading) (sym items) before.turned.gives;
         gains = gains_append before.turned.gains (gains_one (record { short = short; round = rounded.round; visited = refl }));
         order = order-append false at.owes false before.events last before.turned.order (rw before.owes refl);
+        idles = omega (arith, so_far.idles, idle, before.idle, idles-append before.events last);
+        ends = at_once refl;
         in_session = subst InSession (sym items) ended;
         front = text_of (turns_of before.events);
         unwritten = [];
         text = text ∙ sym (append-nil (text_of (turns_of before.events)));
         output = before.output.output;
       }
+
+module _ {O H L T M : Type 0} {takes : O → List ℕ → O → Type 0} {cut : Request → Parts H L T M → Parts H L T M → Type 0} {steps : H → HealthItem → H → Type 0} {grants : H → ℕ → Type 0} {exchanges : L → LinksItem → L → Type 0} {sent probed : L → ℕ → ℕ} {records : T → TrailEvent → T → Type 0} {reads : M → ℕ → M → Type 0} where
+  -- all items were answered, the owed round was run, and the front of the replies was written
+  pub ok_delivered : {progress : Progress} {short : Bool} {old mid : SessionState} {writer writer' : O} {written written' : ℕ} {before between after : Parts H L T M}
+      → (front unwritten : List ℕ)
+      → Answered (IsEvent steps grants exchanges sent probed records reads) (sent_by sent) (probed_by probed) progress old before mid between
+      → IsRun steps grants exchanges sent probed reads mid.owes short between after
+      → old.outbox ≡ [] → mid.outbox ≡ front ++ unwritten → Writes takes writer front writer' written written'
+      → DeliveredPart takes (IsEvent steps grants exchanges sent probed records reads) cut 0 old writer written before writer' written' after
+  ok_delivered {progress} {short} {old} {mid} {writer} {writer'} {written} {written'} {before} {between} {after} front unwritten answered run empty split wrote =
+      let settled : SessionState = record mid { owes = false } in
+      let part : AnsweredPart (IsEvent steps grants exchanges sent probed records reads) cut old before settled after =
+      part_paid {records = records} answered run refl in
+      part_delivered front unwritten part (ends_settled part.behind refl) empty split wrote
+
+module _ {H L T M : Type 0} {cut : Request → Parts H L T M → Parts H L T M → Type 0} {steps : H → HealthItem → H → Type 0} {grants : H → ℕ → Type 0} {exchanges : L → LinksItem → L → Type 0} {sent probed : L → ℕ → ℕ} {records : T → TrailEvent → T → Type 0} {reads : M → ℕ → M → Type 0} where
+  -- after a request that was cut short its round was run
+  ends_paid : {items : List Item} {left : Reading} {reached mid after : Parts H L T M} {owes short : Bool} → IsBehind cut items left reached owes mid
+      → IsRun steps grants exchanges sent probed reads owes short mid after
+      → EndsAt (IsEvent steps grants exchanges sent probed records reads) cut items left reached after
+  ends_paid {items} {left} {reached} {mid} {after} {owes} {short} (no_more same none) run =
+      let P : Bool → Type 0 = λ owes. MatchBool owes (Rounded steps grants exchanges sent probed reads short mid after) (NoneRun short mid after) in
+      at_once ((subst P none run.ran).same ∙ same)
+  ends_paid {items} {left} {reached} {mid} {after} {owes} {short} (cut_short it to goes emits is owed) run =
+      let P : Bool → Type 0 = λ owes. MatchBool owes (Rounded steps grants exchanges sent probed reads short mid after) (NoneRun short mid after) in
+      let rounded : Rounded steps grants exchanges sent probed reads short mid after = subst P owed run.ran in
+      after_cut it to mid rounded.round.visits goes emits is (record { short = short; round = rounded.round; visited = refl })
+
+module _ {O H L T M : Type 0} {takes : O → List ℕ → O → Type 0} {cut : Request → Parts H L T M → Parts H L T M → Type 0} {steps : H → HealthItem → H → Type 0} {grants : H → ℕ → Type 0} {exchanges : L → LinksItem → L → Type 0} {sent probed : L → ℕ → ℕ} {records : T → TrailEvent → T → Type 0} {reads : M → ℕ → M → Type 0} where
+  -- some items were answered, memory ran out, and the front of the replies was written
+  pub err_delivered : {short : Bool} {old mid : SessionState} {writer writer' : O} {written written' : ℕ} {before between after : Parts H L T M}
+      → (front unwritten : List ℕ)
+      → AnsweredPart (IsEvent steps grants exchanges sent probed records reads) cut old before mid between
+      → IsRun steps grants exchanges sent probed reads mid.owes short between after
+      → old.outbox ≡ [] → mid.outbox ≡ front ++ unwritten → Writes takes writer front writer' written written'
+      → DeliveredPart takes (IsEvent steps grants exchanges sent probed records reads) cut 0 old writer written before writer' written' after
+  err_delivered front unwritten part run empty split wrote =
+      part_delivered front unwritten part (ends_paid {records = records} part.behind run) empty split wrote

@@ -8,6 +8,7 @@ use Rattle.tko_model.specs.Records.{HealthItem, Gains}
 use Rattle.tko_model.proofs.RecordLemmas.{gains_none, gains_one, gains_append}
 use Rattle.tko_health.specs.Health.{look_item}
 use Rattle.tko_session.specs.Answering.{Extends}
+use Rattle.tko_session.specs.Cuts.{LooksSome}
 use Rattle.tko_session.specs.Status.{IsStatusAfter, Looked, addresses_in, looks_from, mark_line, mark_of, status_line}
 
 -- the first servers were looked up, and their lines were put at the end of a buffer
@@ -92,4 +93,14 @@ module _ {H : Type 0} {steps : H → HealthItem → H → Type 0} where
     is =
         more.is ∙ ap (λ xs. xs ++ more.more) has.lines
         ∙ append_assoc out (flat_map status_line has.servers) more.more;
+  }
+
+  -- these servers were looked up, and those that are left were not
+  pub looks_some : {addresses : List (List ℕ)} {old new : H} {out out' : List ℕ} (all unlooked : List (List ℕ))
+      → all ≡ addresses ++ unlooked → HasLines steps addresses old out new out' → LooksSome steps all old new
+  looks_some all unlooked is has = record {
+    servers = has.servers;
+    unlooked = unlooked;
+    parts = is ∙ ap (λ xs. xs ++ unlooked) (sym has.all);
+    looks = has.looks;
   }

@@ -1,5 +1,5 @@
 -- Laws of what a session answers: nothing, one item, these events and then those.
-use Rattle.std.proofs.Common.{◌≡◌, ◌≢◌, ℕ, ◌+◌, ◌<◌, length, length-append, List, [], ◌∷◌, ◌++◌, refl, sym, ap, subst, ◌∙◌, append_assoc, append-nil, arith, count_by, sum_by, add-zero, cond, Bool, true, false, inl, inr}
+use Rattle.std.proofs.Common.{◌≡◌, ◌≢◌, Some, ℕ, ◌+◌, ◌<◌, length, length-append, List, [], ◌∷◌, ◌++◌, refl, sym, ap, subst, ◌∙◌, append_assoc, append-nil, arith, count_by, sum_by, add-zero, cond, Bool, true, false, inl, inr}
 use Rattle.std.specs.Prelude.{MatchBool}
 use Rattle.std.proofs.lemmas.Bool.{cases_Bool}
 use Rattle.std.proofs.lemmas.Grind.{flat_map-append}
@@ -29,7 +29,7 @@ use Rattle.tko_session.specs.declared.session.Progress.{Progress}
 use Rattle.tko_session.specs.declared.session.Progress.TheVariants.{More, NeedsInput}
 use Rattle.tko_session.specs.declared.session.Progress.TheVariants as progress
 use Rattle.tko_session.specs.Io.{capped}
-use Rattle.tko_session.specs.SessionState.{SessionState, Turned, Answered, AnsweredPart, Replied, Continues, EndsWith, GoesOn, InSession, ProgressIs, BeginBelowBound, probed_by, progress_after, progress_of, reply_bound, sent_by, items_of, text_of, trails_of, requests_in, sends_to, line_too_long, quit}
+use Rattle.tko_session.specs.SessionState.{SessionState, Turned, Answered, AnsweredPart, Replied, Continues, EndsWith, GoesOn, InSession, IsBehind, ProgressIs, BeginBelowBound, probed_by, progress_after, progress_of, reply_bound, sent_by, items_of, text_of, trails_of, requests_in, sends_to, line_too_long, quit, cut_short, no_more}
 use Rattle.tko_text.proofs.GivesLemmas.{Gives-none, Gives-one, Gives-append}
 use Rattle.tko_session.proofs.EventLemmas.{idles-append, order-append, probes-append, short-append, turns-append}
 use Rattle.tko_session.proofs.NeverLemmas.{ends_reading}
@@ -72,7 +72,7 @@ begin-append waiting (turn ∷ turns) more (below, front) back =
     omega (arith, length-append turn.text (text_of turns)) in
     (below, begin-append (waiting + length turn.text) turns more front (subst (λ n. BeginBelowBound n more) sum back))
 
-goes_on-append : (items more : List Item) → GoesOn items → GoesOn more → GoesOn (items ++ more)
+pub goes_on-append : (items more : List Item) → GoesOn items → GoesOn more → GoesOn (items ++ more)
 goes_on-append items more front back = All-append Continues items more front back
 
 -- the last of the later items is the last of all
@@ -182,34 +182,46 @@ below-append outbox mid events more is front back =
     subst (BeginBelowBound (length outbox)) (sym (turns-append events more))
     (begin-append (length outbox) (turns_of events) (turns_of more) front (subst (λ n. BeginBelowBound n (turns_of more)) len back))
 
-module _ {W : Type 0} {step : W → Event → W → Type 0} where
+module _ {W : Type 0} {cut : Request → W → W → Type 0} where
+  -- what was done behind items was done behind all of them
+  behind_after : {left : Reading} {reached after : W} {owes : Bool} (items more : List Item) → GoesOn items
+      → IsBehind cut more left reached owes after → IsBehind cut (items ++ more) left reached owes after
+  behind_after items more goes (no_more same none) = no_more same none
+  behind_after items more goes (cut_short it to going emits is owed) =
+      cut_short it to (goes_on-append items more goes going) emits is owed
+
+module _ {W : Type 0} {step : W → Event → W → Type 0} {cut : Request → W → W → Type 0} where
   -- memory ran out before any event
-  pub part_none : (old new : SessionState) (world : W) → new.outbox ≡ old.outbox → AnsweredPart step old world new
-  part_none old new world same = record {
+  pub part_none : (old new : SessionState) (world : W) → new.outbox ≡ old.outbox → old.owes ≡ false → new.owes ≡ false
+      → AnsweredPart step cut old world new world
+  part_none old new world same before after = record {
     events = [];
     left = old.reading;
     reached = world;
-    owed = old.owes;
     gives = Gives-none old.reading;
     gains = gains_none world;
-    order = refl;
+    order = ap Some before;
+    idles = refl;
     in_session = in_session_of [] goes_on-none;
     outbox = same ∙ sym (append-nil old.outbox);
+    behind = no_more refl after;
   }
 
-  -- the same part, of a session with the same outbox
-  part_with : {old mid new : SessionState} {before : W} → new.outbox ≡ mid.outbox
-      → AnsweredPart step old before mid → AnsweredPart step old before new
-  part_with same part = record {
-    events = part.events;
-    left = part.left;
-    reached = part.reached;
-    owed = part.owed;
-    gives = part.gives;
-    gains = part.gains;
-    order = part.order;
-    in_session = part.in_session;
-    outbox = same ∙ part.outbox;
+  -- memory ran out in the first request
+  pub part_cut : (old new : SessionState) (it : Request) (to : Reading) (before after : W) → Emits old.reading (item.Request it) to
+      → cut it before after → new.outbox ≡ old.outbox → old.owes ≡ false → new.owes ≡ true
+      → AnsweredPart step cut old before new after
+  part_cut old new it to before after emits is same none owed = record {
+    events = [];
+    left = old.reading;
+    reached = before;
+    gives = Gives-none old.reading;
+    gains = gains_none before;
+    order = ap Some none;
+    idles = refl;
+    in_session = in_session_of [] goes_on-none;
+    outbox = same ∙ sym (append-nil old.outbox);
+    behind = cut_short it to goes_on-none emits is owed;
   }
 
 module _ {W : Type 0} {step : W → Event → W → Type 0} {sent probed : W → ℕ → ℕ} where
@@ -274,36 +286,40 @@ module _ {W : Type 0} {step : W → Event → W → Type 0} {sent probed : W →
     progress_is = events_progress progress front.events back.events new.reading front.progress_is back.progress_is;
   }
 
-  pub part_after : {old mid new : SessionState} {before between : W}
-      → Answered step sent probed More old before mid between → AnsweredPart step mid between new
-      → AnsweredPart step old before new
-  part_after {old} {mid} {new} front back = record {
+  pub part_after : {cut : Request → W → W → Type 0} {old mid new : SessionState} {before between after : W}
+      → Answered step sent probed More old before mid between → AnsweredPart step cut mid between new after
+      → AnsweredPart step cut old before new after
+  part_after {cut} {old} {mid} {new} {before} {between} {after} front back = record {
     events = front.events ++ back.events;
     left = back.left;
     reached = back.reached;
-    owed = back.owed;
     gives =
         let gives = Gives-append _ _ _ _ _ front.turned.gives back.gives in
         subst (λ items. Gives old.reading items back.left) (sym (items-append front.events back.events)) gives;
     gains = gains_append front.turned.gains back.gains;
-    order = order-append old.owes mid.owes back.owed front.events back.events front.turned.order back.order;
+    order = order-append old.owes mid.owes false front.events back.events front.turned.order back.order;
+    idles = omega (arith, front.idles, back.idles, idles-append front.events back.events);
     in_session = events_in_session front.events back.events front.progress_is back.in_session;
     outbox = waiting-append old.outbox mid.outbox new.outbox front.events back.events front.outbox back.outbox;
+    behind =
+        subst (λ items. IsBehind cut items back.left back.reached new.owes after) (sym (items-append front.events back.events))
+        (behind_after (items_of (turns_of front.events)) (items_of (turns_of back.events)) front.progress_is back.behind);
   }
 
   -- all events are a part of them
-  pub part_of : {progress : Progress} {old new : SessionState} {before after : W}
-      → Answered step sent probed progress old before new after → AnsweredPart step old before new
-  part_of {progress} {old} {new} {before} {after} answered = record {
+  pub part_of : {cut : Request → W → W → Type 0} {progress : Progress} {old new : SessionState} {before after : W}
+      → Answered step sent probed progress old before new after → new.owes ≡ false → AnsweredPart step cut old before new after
+  part_of {cut} {progress} {old} {new} {before} {after} answered none = record {
     events = answered.events;
     left = new.reading;
     reached = after;
-    owed = new.owes;
     gives = answered.turned.gives;
     gains = answered.turned.gains;
-    order = answered.turned.order;
+    order = answered.turned.order ∙ ap Some none;
+    idles = answered.idles;
     in_session = in_session progress (items_of (turns_of answered.events)) new.reading answered.progress_is;
     outbox = answered.outbox;
+    behind = no_more refl none;
   }
 
 module _ {H L T M : Type 0} {steps : H → HealthItem → H → Type 0} {grants : H → ℕ → Type 0} {exchanges : L → LinksItem → L → Type 0} {sent probed : L → ℕ → ℕ} {records : T → TrailEvent → T → Type 0} {reads : M → ℕ → M → Type 0} where
@@ -422,11 +438,11 @@ module _ {H L T M : Type 0} {steps : H → HealthItem → H → Type 0} {grants 
       ]
 
   -- the round that was owed was run, and memory ran out in it or did not
-  part_round : {progress : Progress} {short : Bool} {old mid new : SessionState} {before between after : Parts H L T M}
+  part_round : {cut : Request → Parts H L T M → Parts H L T M → Type 0} {progress : Progress} {short : Bool} {old mid new : SessionState} {before between after : Parts H L T M}
       → Answered (IsEvent steps grants exchanges sent probed records reads) (sent_by sent) (probed_by probed) progress old before mid between
-      → mid.owes ≡ true → Rounded steps grants exchanges sent probed reads short between after → new.outbox ≡ mid.outbox
-      → AnsweredPart (IsEvent steps grants exchanges sent probed records reads) old before new
-  part_round {progress} {short} {old} {mid} {new} {before} {between} {after} front owed rounded same =
+      → mid.owes ≡ true → Rounded steps grants exchanges sent probed reads short between after → new ≡ record mid { owes = false }
+      → AnsweredPart (IsEvent steps grants exchanges sent probed records reads) cut old before new after
+  part_round {cut} {progress} {short} {old} {mid} {new} {before} {between} {after} front owed rounded paid =
       let last : List Event = RoundAfter rounded.round.visits ∷ [] in
       let items : items_of (turns_of (front.events ++ last)) ≡ items_of (turns_of front.events) =
       items-append front.events last ∙ append-nil (items_of (turns_of front.events)) in
@@ -438,24 +454,28 @@ module _ {H L T M : Type 0} {steps : H → HealthItem → H → Type 0} {grants 
         events = front.events ++ last;
         left = mid.reading;
         reached = after;
-        owed = false;
         gives = subst (λ xs. Gives old.reading xs mid.reading) (sym items) front.turned.gives;
         gains = gains_append front.turned.gains (gains_one (record { short = short; round = rounded.round; visited = refl }));
         order = order-append old.owes mid.owes false front.events last front.turned.order (rw owed refl);
+        idles = omega (arith, front.idles, idles-append front.events last);
         in_session = subst InSession (sym items) ended;
-        outbox = same ∙ front.outbox ∙ ap (λ xs. old.outbox ++ xs) (sym text);
+        outbox = ap (λ s. s.outbox) paid ∙ front.outbox ∙ ap (λ xs. old.outbox ++ xs) (sym text);
+        behind = no_more refl (ap (λ s. s.owes) paid);
       }
 
   -- the same where a round was owed or none was
-  pub part_paid : {progress : Progress} {short : Bool} {old mid new : SessionState} {before between after : Parts H L T M}
+  pub part_paid : {cut : Request → Parts H L T M → Parts H L T M → Type 0} {progress : Progress} {short : Bool} {old mid new : SessionState} {before between after : Parts H L T M}
       → Answered (IsEvent steps grants exchanges sent probed records reads) (sent_by sent) (probed_by probed) progress old before mid between
-      → IsRun steps grants exchanges sent probed reads mid.owes short between after → new.outbox ≡ mid.outbox
-      → AnsweredPart (IsEvent steps grants exchanges sent probed records reads) old before new
-  part_paid {progress} {short} {old} {mid} {new} {before} {between} {after} front run same =
+      → IsRun steps grants exchanges sent probed reads mid.owes short between after → new ≡ record mid { owes = false }
+      → AnsweredPart (IsEvent steps grants exchanges sent probed records reads) cut old before new after
+  part_paid {cut} {progress} {short} {old} {mid} {new} {before} {between} {after} front run paid =
       let P : Bool → Type 0 = λ owes. MatchBool owes (Rounded steps grants exchanges sent probed reads short between after) (NoneRun short between after) in
       elim (cases_Bool mid.owes) [
-        | inl owed ↦ part_round front owed (subst P owed run.ran) same
-        | inr none ↦ part_with same (part_of front)
+        | inl owed ↦ part_round front owed (subst P owed run.ran) paid
+        | inr none ↦
+            let same : new ≡ mid = paid ∙ sym (ap (λ owes. record mid { owes = owes }) none) in
+            let still : after ≡ between = (subst P none run.ran).same in
+            rw (same, still) (part_of front none)
       ]
 
   -- the round at an idle turn is an event

@@ -1,5 +1,5 @@
 -- How many requests there were, and what became of them.
-use Rattle.std.specs.Prelude.{ℕ, ◌+◌, ◌==◌, Bool, true, false, List, count_by, if◌then◌else◌}
+use Rattle.std.specs.Prelude.{◌+◌, ◌==◌, Bool, true, false, List, count_by, if◌then◌else◌}
 use Rattle.tko_links.specs.declared.links.Outcome.{Outcome}
 use Rattle.tko_links.specs.declared.links.Outcome.TheVariants as outcome
 use Rattle.tko_route.specs.declared.attempt.Attempt.{Attempt}

@@ -1,5 +1,5 @@
 -- What a session does, in order: it answers items, and runs rounds of its probers.
-use Rattle.std.specs.Prelude.{◌≡◌, ℕ, ◌+◌, Bool, true, false, List, [], ◌∷◌, count_by, flat_map, MatchBool, Option, Some, None}
+use Rattle.std.specs.Prelude.{◌≡◌, ℕ, Bool, true, false, List, [], ◌∷◌, count_by, flat_map, MatchBool, Option, Some, None}
 use Rattle.std.specs.List.{list_any}
 use Rattle.tko_model.specs.Records.{HealthItem}
 use Rattle.tko_links.specs.Links.{LinksItem}

@@ -1,5 +1,6 @@
 pub mod Answering
 pub mod Counting
+pub mod Cuts
 pub mod Events
 pub mod Faults
 pub mod Io

@@ -1,6 +1,6 @@
 -- A round: at one moment each server that was marked gets its prober, and then each prober is
 -- stopped, rests or sends one probe, in number order.
-use Rattle.std.specs.Prelude.{◌≡◌, ◌↔◌, ℕ, ◌+◌, Bool, true, false, ◌&&◌, ◌==◌, List, length, map, count_by, Option, Some, None, Result, Ok, is_err}
+use Rattle.std.specs.Prelude.{◌≡◌, ◌↔◌, ℕ, ◌+◌, Bool, false, ◌&&◌, ◌==◌, List, length, map, count_by, Option, Some, None, Result, Ok, is_err}
 use Rattle.std.specs.List.{list_any}
 use Rattle.tko_model.specs.declared.mark.Reply.{Reply}
 use Rattle.tko_model.specs.Records.{Gains, HealthItem, NoDuty}

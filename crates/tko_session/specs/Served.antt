@@ -1,13 +1,15 @@
 -- What a whole session did.
-use Rattle.std.specs.Prelude.{◌≡◌, ℕ, ◌+◌, Bool, false, List, [], ◌++◌, Some, length}
+use Rattle.std.specs.Prelude.{◌≡◌, ℕ, ◌+◌, false, List, [], ◌++◌, Some, length}
 use Rattle.tko_model.specs.Records.{Gains}
 use Rattle.tko_text.specs.declared.item.Item.{Item}
-use Rattle.tko_text.specs.Reading.{Reading, Reads, Gives, NeedsMore, start, fed}
+use Rattle.tko_text.specs.declared.item.Item.TheVariants as item
+use Rattle.tko_text.specs.declared.request.Request.{Request}
+use Rattle.tko_text.specs.Reading.{Reading, Reads, Emits, Gives, NeedsMore, start, fed}
 use Rattle.tko_session.specs.declared.session.Progress.{Progress}
 use Rattle.tko_session.specs.declared.session.Report.{Report}
-use Rattle.tko_session.specs.Events.{Event, NoneShort, idle_rounds, owed_after, turns_of, visits_of}
+use Rattle.tko_session.specs.Events.{Event, NoneShort, RoundAfter, idle_rounds, owed_after, turns_of, visits_of}
 use Rattle.tko_session.specs.Io.{Writes, capped}
-use Rattle.tko_session.specs.Round.{probes_in}
+use Rattle.tko_session.specs.Round.{Visit, probes_in}
 use Rattle.tko_session.specs.SessionState.{SessionState, Turned, EndsWith, GoesOn, InSession, ProgressIs, fresh, fed_state, line_too_long, quit, items_of, text_of, trails_of, requests_in, sends_to}
 
 -- how a session comes to its end without a fault, after these items, and how many bytes of an item
@@ -17,6 +19,15 @@ pub data Ending (is_ended : Type 0) (items : List Item) (left : Reading) (unfini
   at_end_of_input : is_ended → GoesOn items → NeedsMore left → unfinished ≡ length left.unread
       → Ending is_ended items left unfinished
   at_quit : EndsWith quit items → unfinished ≡ 0 → Ending is_ended items left unfinished
+
+-- what a session did after the last event, where it ended early: nothing; or the next item is a
+-- request that was cut short because memory ran out, and its round was run
+pub data EndsAt {W : Type 0} (step : W → Event → W → Type 0) (cut : Request → W → W → Type 0)
+    (items : List Item) (left : Reading) (reached after : W) : Type 0 where
+  at_once : after ≡ reached → EndsAt step cut items left reached after
+  after_cut : (it : Request) (to : Reading) (mid : W) (visits : List Visit)
+      → GoesOn items → Emits left (item.Request it) to → cut it reached mid
+      → step mid (RoundAfter visits) after → EndsAt step cut items left reached after
 
 module _ {I O W : Type 0} (gives : I → List ℕ → I → Type 0) (idled : I → ℕ)
     (takes : O → List ℕ → O → Type 0) (step : W → Event → W → Type 0)
@@ -63,19 +74,20 @@ module _ {I O W : Type 0} (gives : I → List ℕ → I → Type 0) (idled : I �
     pub ends : EndsWith line_too_long (items_of (turns_of transcript.events))
     pub open_end : NeedsMore transcript.left
 
-  -- the first items that were read were answered, and the front of their text was written; what was
-  -- done for the item behind them is not said
-  pub record StoppedEarly (reader : I) (writer : O) (parts : W) (reader' : I) (writer' : O)
-      : Type 0 where
+  -- the first items that were read were answered, the rounds were run, the front of the text was
+  -- written, and then at most one more request was begun
+  pub record StoppedEarly (cut : Request → W → W → Type 0) (reader : I) (writer : O) (parts : W)
+      (reader' : I) (writer' : O) (parts' : W) : Type 0 where
     pub bytes : List ℕ
     pub events : List Event
     pub left : Reading
     pub reached : W
-    pub owed : Bool
     pub input : gives reader bytes reader'
     pub items : Gives (fed start bytes) (items_of (turns_of events)) left
     pub gains : Gains step parts events reached
-    pub order : owed_after false events ≡ Some owed
+    pub order : owed_after false events ≡ Some false
+    pub idles : idled reader' ≡ idled reader + idle_rounds events
+    pub ends : EndsAt step cut (items_of (turns_of events)) left reached parts'
     pub in_session : InSession (items_of (turns_of events))
     pub front : List ℕ
     pub unwritten : List ℕ
@@ -83,9 +95,9 @@ module _ {I O W : Type 0} (gives : I → List ℕ → I → Type 0) (idled : I �
     pub output : takes writer front writer'
 
   -- the writer failed after `written` bytes
-  pub record StoppedByWrite (reader : I) (writer : O) (parts : W) (written : ℕ)
-      (reader' : I) (writer' : O) : Type 0 where
-    pub early : StoppedEarly reader writer parts reader' writer'
+  pub record StoppedByWrite (cut : Request → W → W → Type 0) (reader : I) (writer : O) (parts : W)
+      (written : ℕ) (reader' : I) (writer' : O) (parts' : W) : Type 0 where
+    pub early : StoppedEarly cut reader writer parts reader' writer' parts'
     pub counted : written ≡ capped (length early.front)
 
 -- neither end failed
@@ -118,18 +130,20 @@ pub record Delivered {O W : Type 0} (takes : O → List ℕ → O → Type 0)
   pub owes : new.owes ≡ false
   pub progress_is : ProgressIs progress (items_of (turns_of events)) new.reading
 
--- there were events, and the front of their text was written and counted
+-- there were events, `idles` of them rounds at idle turns, the front of their text was written and
+-- counted, and then at most one more request was begun
 pub record DeliveredPart {O W : Type 0} (takes : O → List ℕ → O → Type 0)
-    (step : W → Event → W → Type 0)
+    (step : W → Event → W → Type 0) (cut : Request → W → W → Type 0) (idles : ℕ)
     (old : SessionState) (writer : O) (written : ℕ) (before : W)
-    (writer' : O) (written' : ℕ) : Type 0 where
+    (writer' : O) (written' : ℕ) (after : W) : Type 0 where
   pub events : List Event
   pub left : Reading
   pub reached : W
-  pub owed : Bool
+  pub idle : idle_rounds events ≡ idles
+  pub ends : EndsAt step cut (items_of (turns_of events)) left reached after
   pub gives : Gives old.reading (items_of (turns_of events)) left
   pub gains : Gains step before events reached
-  pub order : owed_after old.owes events ≡ Some owed
+  pub order : owed_after old.owes events ≡ Some false
   pub in_session : InSession (items_of (turns_of events))
   pub front : List ℕ
   pub unwritten : List ℕ

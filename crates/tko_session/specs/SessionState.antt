@@ -7,7 +7,7 @@ use Rattle.tko_text.specs.declared.fault.TextFault.{TextFault}
 use Rattle.tko_text.specs.declared.fault.TextFault.TheVariants.{LineTooLong}
 use Rattle.tko_text.specs.declared.request.Request.{Request}
 use Rattle.tko_text.specs.declared.request.Request.TheVariants.{Quit}
-use Rattle.tko_text.specs.Reading.{Reading, Never, Gives, NeedsMore, start, fed}
+use Rattle.tko_text.specs.Reading.{Reading, Never, Emits, Gives, NeedsMore, start, fed}
 use Rattle.tko_route.specs.declared.attempt.Attempt.{Attempt}
 use Rattle.tko_links.specs.Links.{LinksItem}
 use Rattle.tko_route.specs.Trail.{sends_in}
@@ -179,15 +179,26 @@ module _ {W : Type 0} (step : W → Event → W → Type 0) (sent probed : W →
     pub begin : BeginBelowBound (length old.outbox) (turns_of events)
     pub progress_is : ProgressIs progress (items_of (turns_of events)) new.reading
 
--- memory ran out after these events; what the item behind them changed is not said
+-- what was done after the last of these items where memory ran out: nothing; or the next item is a
+-- request that was cut short, and its round is owed
+pub data IsBehind {W : Type 0} (cut : Request → W → W → Type 0) (items : List Item)
+    (left : Reading) (reached : W) (owes : Bool) (after : W) : Type 0 where
+  no_more : after ≡ reached → owes ≡ false → IsBehind cut items left reached owes after
+  cut_short : (it : Request) (to : Reading) → GoesOn items → Emits left (item.Request it) to
+      → cut it reached after → owes ≡ true → IsBehind cut items left reached owes after
+
+-- memory ran out after these events, none of them at an idle turn, or in the round that is the last
+-- of them
 pub record AnsweredPart {W : Type 0} (step : W → Event → W → Type 0)
-    (old : SessionState) (before : W) (new : SessionState) : Type 0 where
+    (cut : Request → W → W → Type 0)
+    (old : SessionState) (before : W) (new : SessionState) (after : W) : Type 0 where
   pub events : List Event
   pub left : Reading
   pub reached : W
-  pub owed : Bool
   pub gives : Gives old.reading (items_of (turns_of events)) left
   pub gains : Gains step before events reached
-  pub order : owed_after old.owes events ≡ Some owed
+  pub order : owed_after old.owes events ≡ Some false
+  pub idles : idle_rounds events ≡ 0
   pub in_session : InSession (items_of (turns_of events))
   pub outbox : new.outbox ≡ old.outbox ++ text_of (turns_of events)
+  pub behind : IsBehind cut (items_of (turns_of events)) left reached new.owes after

@@ -1,6 +1,7 @@
 //! How a request is answered: by the proxy itself, or key by key over the targets of each key.
 ghost use Rattle.std.specs.Prelude.{◌≡◌, ◌<◌, ◌≤◌, ◌∷◌, [], ℕ, List, IfOk, OnOk, OnErr, length, take};
 ghost use Rattle.tko_session.specs.Answering.{AnsweredInto, Extends, IsNext, retrieval};
+ghost use Rattle.tko_session.specs.Cuts.{IsAnswerCut, IsKeyCut};
 ghost use Rattle.tko_session.specs.SessionState.{Reaches};
 ghost use Rattle.tko_session.specs.Turns.{request_keys};
 
@@ -29,6 +30,8 @@ pub(crate) fn answer<R: IoRuntime, H: Health, L: Links, T: Trails, M>(
     ensures ok { OnOk result (AnsweredInto H.steps L.exchanges L.sent L.probed T.records
         request parts.old outbox.old parts.new outbox.new) }
     ensures err { OnErr result (Extends outbox.old outbox.new) }
+    ensures cut { OnErr result (IsAnswerCut H.steps L.exchanges L.sent L.probed T.records
+        request parts.old parts.new) }
     ensures reach { Reaches H.servers L.servers parts.new }
 {
     match request {
@@ -57,6 +60,8 @@ fn answer_keys<R: IoRuntime, H: Health, L: Links, T: Trails, M>(
     ensures ok { OnOk result (AnsweredInto H.steps L.exchanges L.sent L.probed T.records
         (retrieval keys unique) parts.old outbox.old parts.new outbox.new) }
     ensures err { OnErr result (Extends outbox.old outbox.new) }
+    ensures cut { OnErr result (IsAnswerCut H.steps L.exchanges L.sent L.probed T.records
+        (retrieval keys unique) parts.old parts.new) }
     ensures reach { Reaches H.servers L.servers parts.new }
 {
     if keys.as_slice().len() > 1 {
@@ -80,6 +85,8 @@ fn answer_key<R: IoRuntime, H: Health, L: Links, T: Trails, M>(
     ensures ok { OnOk result (AnsweredInto H.steps L.exchanges L.sent L.probed T.records
         request.old parts.old outbox.old parts.new outbox.new) }
     ensures err { OnErr result (Extends outbox.old outbox.new) }
+    ensures cut { OnErr result (IsAnswerCut H.steps L.exchanges L.sent L.probed T.records
+        request.old parts.old parts.new) }
     ensures reach { Reaches H.servers L.servers parts.new }
 {
     let silent = request.is_silent();
@@ -105,6 +112,8 @@ fn answer_each<R: IoRuntime, H: Health, L: Links, T: Trails, M>(
     ensures ok { OnOk result (AnsweredInto H.steps L.exchanges L.sent L.probed T.records
         (retrieval keys.items unique) parts.old outbox.old parts.new outbox.new) }
     ensures err { OnErr result (Extends outbox.old outbox.new) }
+    ensures cut { OnErr result (IsAnswerCut H.steps L.exchanges L.sent L.probed T.records
+        (retrieval keys.items unique) parts.old parts.new) }
     ensures reach { Reaches H.servers L.servers parts.new }
 {
     let waiting = outbox.len();
@@ -137,6 +146,8 @@ fn answer_next<R: IoRuntime, H: Health, L: Links, T: Trails, M>(
         → IsNext H.steps L.exchanges L.sent L.probed T.records request.old key waiting listed
         parts.old outbox.old parts.new outbox.new) }
     ensures err { OnErr result (Extends (take waiting outbox.old) outbox.new) }
+    ensures cut { OnErr result ((key : List ℕ) → request_keys request.old ≡ key ∷ []
+        → IsKeyCut H.steps L.exchanges L.sent L.probed request.old key parts.old parts.new) }
     ensures reach { Reaches H.servers L.servers parts.new }
 {
     let routed = parts.route(rt, alloc, targets, request)?;

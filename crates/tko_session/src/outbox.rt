@@ -2,6 +2,7 @@
 ghost use Rattle.std.specs.Prelude.{◌≡◌, ◌≤◌, ◌↔◌, ◌++◌, if◌then◌else◌, [], IfOk, MatchBool, IsSome, IsTrue, OnOk, OnErr, length, map, string_bytes, take, unwrap_or};
 ghost use Rattle.std.specs.Option.{option_copied};
 ghost use Rattle.tko_session.specs.Answering.{Extends};
+ghost use Rattle.tko_session.specs.Cuts.{LooksSome};
 ghost use Rattle.tko_session.specs.Replies.{text_of_answer, values_in};
 ghost use Rattle.tko_session.specs.SessionState.{reply_bound};
 ghost use Rattle.tko_session.specs.Status.{IsStatusAfter};
@@ -160,6 +161,8 @@ impl Outbox {
         ensures ok { OnOk result (IsStatusAfter H.steps (map string_bytes addresses.now)
             health.old self.old health.new self.new) }
         ensures err { OnErr result (Extends self.old self.new) }
+        ensures cut { OnErr result (LooksSome H.steps (map string_bytes addresses.now)
+            health.old health.new) }
         ensures servers { H.servers health.new ≡ H.servers health.old }
     {
         append_status(rt, health, addresses, &mut self.bytes)

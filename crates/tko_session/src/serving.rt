@@ -2,6 +2,7 @@
 ghost use Rattle.std.specs.Prelude.{◌≡◌, ◌≢◌, ◌<◌, ℕ, [], false, Err, IfOk, OnOk, OnErr, IsErrOf};
 ghost use Rattle.tko_text.specs.Reading.{Never};
 ghost use Rattle.tko_session.specs.Io.{capped};
+ghost use Rattle.tko_session.specs.Cuts.{IsRequestCut};
 ghost use Rattle.tko_session.specs.Events.{IsEvent, NoneMarked};
 ghost use Rattle.tko_session.specs.SessionState.{Reaches, fed_state, pause_of, probed_by, sent_by};
 ghost use Rattle.tko_session.specs.Served.{CameTooLong, Delivered, DeliveredPart, IsCalm, Served, StoppedByLine, StoppedByRead, StoppedByWrite, StoppedEarly};
@@ -35,7 +36,8 @@ pub fn serve<R: IoRuntime, I: Inlet, O: Outlet, H: Health, L: Links, T: Trails, 
         → StoppedByWrite I.gives I.idles O.takes
         (IsEvent H.steps H.grants L.exchanges L.sent L.probed T.records M.reads)
         (sent_by L.sent) (probed_by L.probed)
-        reader.old writer.old parts.old written reader.new writer.new }
+        (IsRequestCut H.steps L.exchanges L.sent L.probed T.records)
+        reader.old writer.old parts.old written reader.new writer.new parts.new }
     ensures too_long { IsErrOf result SessionFault.LineTooLong
         → CameTooLong I.gives reader.old reader.new }
     ensures answered { IsErrOf result SessionFault.LineTooLong
@@ -46,7 +48,8 @@ pub fn serve<R: IoRuntime, I: Inlet, O: Outlet, H: Health, L: Links, T: Trails, 
     ensures memory { IsErrOf result SessionFault.Memory → StoppedEarly I.gives I.idles O.takes
         (IsEvent H.steps H.grants L.exchanges L.sent L.probed T.records M.reads)
         (sent_by L.sent) (probed_by L.probed)
-        reader.old writer.old parts.old reader.new writer.new }
+        (IsRequestCut H.steps L.exchanges L.sent L.probed T.records)
+        reader.old writer.old parts.old reader.new writer.new parts.new }
     // Each server that the session marked gets its prober, also where it ends by a fault.
     ensures begun { NoneMarked parts.old.probers → NoneMarked parts.new.probers }
     // An end that failed ends the session, and is the fault that it ends with.
@@ -119,8 +122,9 @@ fn serve_piece<R: IoRuntime, O: Outlet, H: Health, L: Links, T: Trails, M: Momen
         session.new writer.new written.new parts.new }
     ensures err { OnErr result (DeliveredPart O.takes
         (IsEvent H.steps H.grants L.exchanges L.sent L.probed T.records M.reads)
+        (IsRequestCut H.steps L.exchanges L.sent L.probed T.records) 0
         (fed_state session.old piece.now) writer.old written.old parts.old
-        writer.new written.new) }
+        writer.new written.new parts.new) }
     ensures calm { OnOk result (O.failures writer.new ≡ O.failures writer.old) }
     ensures calm_memory { IsErrOf result SessionFault.Memory
         → O.failures writer.new ≡ O.failures writer.old }
@@ -166,7 +170,8 @@ fn deliver<R: IoRuntime, O: Outlet, H: Health, L: Links, T: Trails, M: Moments>(
         session.new writer.new written.new parts.new) }
     ensures err { OnErr result (DeliveredPart O.takes
         (IsEvent H.steps H.grants L.exchanges L.sent L.probed T.records M.reads)
-        session.old writer.old written.old parts.old writer.new written.new) }
+        (IsRequestCut H.steps L.exchanges L.sent L.probed T.records) 0
+        session.old writer.old written.old parts.old writer.new written.new parts.new) }
     ensures calm { OnOk result (O.failures writer.new ≡ O.failures writer.old) }
     ensures calm_memory { IsErrOf result SessionFault.Memory
         → O.failures writer.new ≡ O.failures writer.old }

@@ -3,6 +3,7 @@ ghost use Rattle.std.specs.Prelude.{◌≡◌, ◌≢◌, ◌≤◌, ◌<◌, �
 ghost use Rattle.std.specs.Option.{option_copied};
 ghost use Rattle.tko_text.specs.Reading.{Emits, NeedsMore, Never, fed};
 ghost use Rattle.tko_text.specs.Requests.{fault_text};
+ghost use Rattle.tko_session.specs.Cuts.{IsRequestCut};
 ghost use Rattle.tko_session.specs.Events.{IsEvent, IsRun, NoneMarked};
 ghost use Rattle.tko_session.specs.Probers.{AreQuiet};
 ghost use Rattle.tko_session.specs.SessionState.{Answered, AnsweredPart, Reaches, Replied, fed_state, fresh, probed_by, progress_after, progress_of, reply_bound, sent_by};
@@ -142,7 +143,8 @@ impl Session {
             → reply_bound ≤ length self.new.outbox }
         ensures err { OnErr result (AnsweredPart
             (IsEvent H.steps H.grants L.exchanges L.sent L.probed T.records M.reads)
-            self.old parts.old self.new) }
+            (IsRequestCut H.steps L.exchanges L.sent L.probed T.records)
+            self.old parts.old self.new parts.new) }
         ensures busy { OnOk result (self.new.owes ≡ true → ¬ AreQuiet parts.new.probers) }
         ensures begun { NoneMarked parts.old.probers → self.new.owes ≡ false
             → NoneMarked parts.new.probers }
@@ -202,7 +204,8 @@ impl Session {
         ensures more { result ≡ Ok Progress.More → ¬ NeedsMore self.old.reading }
         ensures err { OnErr result (AnsweredPart
             (IsEvent H.steps H.grants L.exchanges L.sent L.probed T.records M.reads)
-            self.old parts.old self.new) }
+            (IsRequestCut H.steps L.exchanges L.sent L.probed T.records)
+            self.old parts.old self.new parts.new) }
         ensures busy { OnOk result (self.new.owes ≡ true → ¬ AreQuiet parts.new.probers) }
         ensures begun { NoneMarked parts.old.probers → self.new.owes ≡ false
             → NoneMarked parts.new.probers }
@@ -263,6 +266,8 @@ impl Session {
             self.old parts.old request self.new parts.new) }
         ensures progress { IfOk result (λ progress. progress ≡ progress_of request) }
         ensures err { OnErr result (self.new ≡ record self.old { owes = true }) }
+        ensures cut { OnErr result (IsRequestCut H.steps L.exchanges L.sent L.probed T.records
+            request parts.old parts.new) }
         ensures reach { Reaches H.servers L.servers parts.new }
     {
         self.owes = true;

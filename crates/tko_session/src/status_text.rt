@@ -1,6 +1,7 @@
 //! The text of `stats tko`: the mark of each server.
 ghost use Rattle.std.specs.Prelude.{◌≡◌, ◌++◌, OnErr, OnOk, IfOk, length, map, string_bytes};
 ghost use Rattle.tko_session.specs.Answering.{Extends};
+ghost use Rattle.tko_session.specs.Cuts.{LooksSome};
 ghost use Rattle.tko_session.specs.Status.{IsStatus, IsStatusAfter, mark_of, mark_line};
 
 use std::alloc::Global;
@@ -19,6 +20,8 @@ pub fn status<R: Wait, H: Health>(
     requires { H.servers health.old ≡ length addresses.now }
     ensures ok { IfOk result (λ text. IsStatus H.steps (map string_bytes addresses.now)
         health.old text.items health.new) }
+    ensures cut { OnErr result (LooksSome H.steps (map string_bytes addresses.now)
+        health.old health.new) }
     ensures servers { H.servers health.new ≡ H.servers health.old }
 {
     let mut text = Vec::new(alloc);
@@ -37,6 +40,8 @@ pub(crate) fn append_status<R: Wait, H: Health>(
     ensures ok { OnOk result (IsStatusAfter H.steps (map string_bytes addresses.now)
         health.old out.old.items health.new out.new.items) }
     ensures err { OnErr result (Extends out.old.items out.new.items) }
+    ensures cut { OnErr result (LooksSome H.steps (map string_bytes addresses.now)
+        health.old health.new) }
     ensures servers { H.servers health.new ≡ H.servers health.old }
 {
     for (server, address) in addresses.iter().enumerate() {

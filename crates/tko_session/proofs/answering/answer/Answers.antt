@@ -1,5 +1,6 @@
 use Rattle.tko_session.proofs.AnsweringLemmas.{answered_quit, answered_status, answered_version}
-use Rattle.tko_session.proofs.ResultLemmas.{on_ok}
+use Rattle.tko_session.proofs.CutLemmas.{cut_at_once, cut_status}
+use Rattle.tko_session.proofs.ResultLemmas.{on_err, on_errs, on_ok}
 use Rattle.tko_session.proofs.answering.answer.Goals as goal
 
 pub returns-in-Version-clause-ok : goal.returns-in-Version-clause-ok
@@ -13,3 +14,11 @@ pub returns-in-StatsTko-clause-ok : goal.returns-in-StatsTko-clause-ok
 returns-in-StatsTko-clause-ok g c =
     let status = rw c.addresses.ensures at c.append_status.ensures.ok in
     on_ok c.append_status.result status (λ after. answered_status c.in-StatsTko.is after)
+
+pub returns-in-Version-clause-cut : goal.returns-in-Version-clause-cut
+returns-in-Version-clause-cut g c = on_err _ (cut_at_once c.args.request c.args.parts.now)
+
+pub returns-in-StatsTko-clause-cut : goal.returns-in-StatsTko-clause-cut
+returns-in-StatsTko-clause-cut g c =
+    let some = rw c.addresses.ensures at c.append_status.ensures.cut in
+    on_errs c.append_status.result some (λ looks. cut_status c.in-StatsTko.is looks)

@@ -1,7 +1,8 @@
 use Rattle.std.proofs.Common.{rules, ◌≡◌, ◌∷◌, [], length, sym, ap, ◌∙◌, arith}
 use Rattle.std.specs.Vec.Iter.{into_iter_items}
 use Rattle.tko_session.specs.Turns.{request_keys}
-use Rattle.tko_session.proofs.ResultLemmas.{on_ok}
+use Rattle.tko_session.proofs.CutLemmas.{cut_between, cut_next}
+use Rattle.tko_session.proofs.ResultLemmas.{on_err, on_ok}
 use Rattle.tko_session.proofs.AnsweringLemmas.{joins_cut, joins_end, joins_more, joins_none, nothing_left, retrieval_keys}
 use Rattle.tko_session.proofs.answering.answer_each.Goals as goal
 
@@ -36,6 +37,19 @@ loop-key-preserved g c =
       c.in_ok-answer_next.ensures.reach,
       omega (arith, c.loop-key.invariant.5, c.in-Some.ensures.steps.1, ap length c.in-Some.ensures.steps.0),
     )
+
+pub returns-in_err-request-clause-cut : goal.returns-in_err-request-clause-cut
+returns-in_err-request-clause-cut g c = on_err _ (cut_between c.args.keys.items c.args.unique c.loop-key.invariant.2)
+
+pub returns-in_err-answer_next-clause-cut : goal.returns-in_err-answer_next-clause-cut
+returns-in_err-answer_next-clause-cut g c =
+    let alone = c.in_ok-request.ensures in
+    let keys = ap request_keys alone ∙ retrieval_keys (c.in-Some.key ∷ []) c.args.unique in
+    let cut = rw alone at (c.in_err-answer_next.ensures.cut c.in-Some.key keys) in
+    on_err _ (cut_next c.args.keys.items c.args.unique c.in-Some.key _ c.loop-key.invariant.2 c.in-Some.ensures.steps.0 cut)
+
+pub returns-clause-cut : goal.returns-clause-cut
+returns-clause-cut g c = on_err _ (cut_between c.args.keys.items c.args.unique c.loop-key.invariant.2)
 
 pub returns-clause-ok : goal.returns-clause-ok
 returns-clause-ok g c =

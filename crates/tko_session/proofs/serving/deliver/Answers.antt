@@ -1,20 +1,22 @@
-use Rattle.std.proofs.Common.{◌≡◌, [], ap, drop, subst, sym, take, ◌∙◌, append-nil}
+use Rattle.std.proofs.Common.{[], ap, drop, subst, sym, take, ◌∙◌, append-nil}
 use Rattle.std.proofs.lemmas.List.{take-append-drop}
 use Rattle.tko_session.specs.Io.{Writes}
 use Rattle.tko_session.proofs.EventLemmas.{begun_paid}
-use Rattle.tko_session.proofs.ResultLemmas.{either_way, on_err}
-use Rattle.tko_session.proofs.ServedLemmas.{delivered_of, part_delivered}
-use Rattle.tko_session.proofs.TurnLemmas.{answered_paid, part_of, part_paid}
+use Rattle.tko_session.proofs.ResultLemmas.{either_way, on_err, on_errs}
+use Rattle.tko_session.proofs.ServedLemmas.{delivered_of, err_delivered, ok_delivered}
+use Rattle.tko_session.proofs.TurnLemmas.{answered_paid}
 use Rattle.tko_session.proofs.serving.deliver.Goals as goal
 
 pub returns-then-not-wrote-clause-err : goal.returns-then-not-wrote-clause-err
 returns-then-not-wrote-clause-err g c =
     let answer = c.answer-answered.ensures in
-    let part = either_way c.answer-answered.result answer.ok answer.err (λ progress answered. part_of answered) in
+    let run = c.run_owed_round-rounded.ensures.round in
     let wrote = rw c.if-not-wrote.true at c.write_all-wrote.ensures.part in
     let text = c.outbox.result.now in
-    part_delivered (take wrote.count text) (drop wrote.count text) part c.requires.outbox
-    (sym c.outbox.ensures ∙ sym (take-append-drop wrote.count text)) wrote.front
+    let split = sym c.outbox.ensures ∙ sym (take-append-drop wrote.count text) in
+    either_way c.answer-answered.result answer.ok
+    (on_errs c.answer-answered.result answer.err (λ part. err_delivered {records = g.T.Trails.records} (take wrote.count text) (drop wrote.count text) part run c.requires.outbox split wrote.front))
+    (λ progress answered. ok_delivered {records = g.T.Trails.records} (take wrote.count text) (drop wrote.count text) answered run c.requires.outbox split wrote.front)
 
 pub returns-then-not-wrote-clause-begun : goal.returns-then-not-wrote-clause-begun
 returns-then-not-wrote-clause-begun g c = λ begun.
@@ -24,7 +26,7 @@ pub returns-in_err-progress-clause-err : goal.returns-in_err-progress-clause-err
 returns-in_err-progress-clause-err g c =
     let wrote = rw c.if-not-wrote.false at c.write_all-wrote.ensures.all in
     let text = c.outbox.result.now in
-    on_err _ (part_delivered text [] c.in_err-progress.ensures.err c.requires.outbox
+    on_err _ (err_delivered {records = g.T.Trails.records} text [] c.in_err-progress.ensures.err c.run_owed_round-rounded.ensures.round c.requires.outbox
     (sym c.outbox.ensures ∙ sym (append-nil text)) wrote)
 
 pub returns-in_err-progress-clause-begun : goal.returns-in_err-progress-clause-begun
@@ -34,11 +36,9 @@ returns-in_err-progress-clause-begun g c = λ begun.
 pub returns-in_err-rounded-clause-err : goal.returns-in_err-rounded-clause-err
 returns-in_err-rounded-clause-err g c =
     let wrote = rw c.if-not-wrote.false at c.write_all-wrote.ensures.all in
-    let run = c.run_owed_round-rounded.ensures in
     let text = c.outbox.result.now in
-    let same = ap (λ s. s.outbox) run.none_owed ∙ sym c.outbox.ensures in
-    on_err _ (part_delivered text [] (part_paid {records = g.T.Trails.records} {new = c.run_owed_round-rounded.new.self} c.in_ok-progress.ensures.ok run.round (ap (λ s. s.outbox) run.none_owed)) c.requires.outbox
-    (same ∙ sym (append-nil text)) wrote)
+    on_err _ (ok_delivered {records = g.T.Trails.records} text [] c.in_ok-progress.ensures.ok c.run_owed_round-rounded.ensures.round c.requires.outbox
+    (sym c.outbox.ensures ∙ sym (append-nil text)) wrote)
 
 pub returns-in_err-rounded-clause-begun : goal.returns-in_err-rounded-clause-begun
 returns-in_err-rounded-clause-begun g c = λ begun.

@@ -97,7 +97,7 @@ returns-in_err-quit-in-Bytes-clause-write g c = λ written e.
     omega (arith, c.deref_mut.ensures.len, c.read_piece.auto.buffer) in
     let same : c.deref.result.now ≡ c.read_piece.new.buffer = c.deref.ensures.value ∙ take_at c.read_piece.new.buffer _ c.loop.buffer.len len in
     stopped_early g.met.I.Inlet.goes_on g.met.O.Outlet.goes_on written _ c.loop.invariant.0
-    (rw same c.in-Bytes.ensures.piece.bytes) c.in_err-quit-in-Bytes.ensures.err
+    (rw same c.in-Bytes.ensures.piece.bytes) (omega (arith, c.in-Bytes.ensures.idles)) c.in_err-quit-in-Bytes.ensures.err
     (c.in_err-quit-in-Bytes.ensures.counted written (ap Err is))
 
 pub returns-in_err-quit-in-Bytes-clause-too_long : goal.returns-in_err-quit-in-Bytes-clause-too_long
@@ -128,5 +128,5 @@ returns-in_err-quit-in-Bytes-clause-memory g c = λ e.
     omega (arith, c.deref_mut.ensures.len, c.read_piece.auto.buffer) in
     let same : c.deref.result.now ≡ c.read_piece.new.buffer = c.deref.ensures.value ∙ take_at c.read_piece.new.buffer _ c.loop.buffer.len len in
     let early = stopped_early g.met.I.Inlet.goes_on g.met.O.Outlet.goes_on (capped c.serve_piece.new.written) _ c.loop.invariant.0
-    (rw same c.in-Bytes.ensures.piece.bytes) c.in_err-quit-in-Bytes.ensures.err refl in
+    (rw same c.in-Bytes.ensures.piece.bytes) (omega (arith, c.in-Bytes.ensures.idles)) c.in_err-quit-in-Bytes.ensures.err refl in
     early.early

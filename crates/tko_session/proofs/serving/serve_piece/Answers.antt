@@ -6,7 +6,7 @@ use Rattle.tko_session.proofs.serving.serve_piece.Goals as goal
 
 pub returns-in_err-take-clause-err : goal.returns-in_err-take-clause-err
 returns-in_err-take-clause-err g c =
-    on_err _ (not_delivered _ c.args.writer.now c.args.written.now c.args.parts.now (g.met.O.Outlet.nothing c.args.writer.now))
+    on_err _ (not_delivered _ c.args.writer.now c.args.written.now c.args.parts.now (g.met.O.Outlet.nothing c.args.writer.now) c.requires.owes)
 
 pub loop-init : goal.loop-init
 loop-init g c =

@@ -1,4 +1,4 @@
-use Rattle.std.proofs.Common.{◌≡◌, ◌++◌, ap, drop, length, map, take, take_at, sym, ◌∙◌}
+use Rattle.std.proofs.Common.{◌≡◌, ap, drop, length, map, take_at, sym, ◌∙◌}
 use Rattle.std.proofs.lemmas.List.{length-map}
 use Rattle.tko_session.specs.Probers.{begun_slot}
 use Rattle.tko_session.proofs.ProberLemmas.{busy-begun}

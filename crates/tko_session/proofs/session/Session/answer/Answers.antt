@@ -1,4 +1,4 @@
-use Rattle.std.proofs.Common.{◌≡◌, false, ap, sym, ◌∙◌}
+use Rattle.std.proofs.Common.{ap, sym, ◌∙◌}
 use Rattle.tko_session.specs.SessionState.{SessionState}
 use Rattle.tko_session.proofs.ResultLemmas.{on_err}
 use Rattle.tko_session.proofs.TurnLemmas.{answered_none, answered_append, part_after}

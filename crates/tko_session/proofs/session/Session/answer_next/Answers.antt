@@ -1,12 +1,13 @@
 use Rattle.std.proofs.Common.{ap, ◌∙◌}
 use Rattle.tko_text.specs.Reading.{NeedsMore}
 use Rattle.tko_session.proofs.ResultLemmas.{both_ok, on_err, on_errs}
-use Rattle.tko_session.proofs.TurnLemmas.{answered_fault, answered_open, answered_paid, answered_request, part_none, part_paid}
+use Rattle.tko_session.proofs.TurnLemmas.{answered_fault, answered_open, answered_paid, answered_request, part_cut, part_none, part_paid}
 use Rattle.tko_session.proofs.session.Session.answer_next.Goals as goal
 
 pub returns-in_err-next-clause-err : goal.returns-in_err-next-clause-err
 returns-in_err-next-clause-err g c =
-    on_err _ (part_none _ _ c.args.parts.now (ap (λ s. s.outbox) c.in_err-next.ensures.others))
+    let others = c.in_err-next.ensures.others in
+    on_err _ (part_none _ _ c.args.parts.now (ap (λ s. s.outbox) others) c.requires.owes (ap (λ s. s.owes) others ∙ c.requires.owes))
 
 pub returns-in-None-clause-ok : goal.returns-in-None-clause-ok
 returns-in-None-clause-ok g c =
@@ -30,13 +31,18 @@ returns-in-Some-Fault-clause-more g c =
 
 pub returns-in-Some-Fault-clause-err : goal.returns-in-Some-Fault-clause-err
 returns-in-Some-Fault-clause-err g c =
+    let others = c.in_ok-next.ensures.others in
     on_errs c.answer_fault.result c.answer_fault.ensures.err (λ same.
-    part_none _ _ c.args.parts.now (ap (λ s. s.outbox) same ∙ ap (λ s. s.outbox) c.in_ok-next.ensures.others))
+    part_none _ _ c.args.parts.now (ap (λ s. s.outbox) same ∙ ap (λ s. s.outbox) others) c.requires.owes
+    (ap (λ s. s.owes) same ∙ ap (λ s. s.owes) others ∙ c.requires.owes))
 
 pub returns-in_err-progress-in-Some-Request-clause-err : goal.returns-in_err-progress-in-Some-Request-clause-err
 returns-in_err-progress-in-Some-Request-clause-err g c =
+    let told = rw c.in-Some-Request.is at c.in_ok-next.ensures.item in
+    let request_told = rw c.in-Some-Request.field-0-is at told in
     let same = c.in_err-progress-in-Some-Request.ensures.err in
-    on_err _ (part_none _ _ c.args.parts.now (ap (λ s. s.outbox) same ∙ ap (λ s. s.outbox) c.in_ok-next.ensures.others))
+    on_err _ (part_cut _ _ _ _ c.args.parts.now _ request_told c.in_err-progress-in-Some-Request.ensures.cut
+    (ap (λ s. s.outbox) same ∙ ap (λ s. s.outbox) c.in_ok-next.ensures.others) c.requires.owes (ap (λ s. s.owes) same))
 
 pub returns-then-not-is_quiet-clause-ok : goal.returns-then-not-is_quiet-clause-ok
 returns-then-not-is_quiet-clause-ok g c =
@@ -59,7 +65,7 @@ returns-in_err-run_owed_round-in-Some-Request-clause-err g c =
     let run = c.in_err-run_owed_round-in-Some-Request.ensures in
     on_err _ (part_paid {records = g.T.Trails.records}
     (answered_request {reads = g.M.Moments.reads} _ _ _ _ _ _ _ request_told c.in_ok-next.ensures.others replied.ok replied.progress c.requires.owes c.requires.room)
-    run.round (ap (λ s. s.outbox) run.none_owed))
+    run.round run.none_owed)
 
 pub returns-in_ok-run_owed_round-in-Some-Request-clause-ok : goal.returns-in_ok-run_owed_round-in-Some-Request-clause-ok
 returns-in_ok-run_owed_round-in-Some-Request-clause-ok g c =
