@@ -4,8 +4,9 @@
 //! the time limit of one exchange. It fills again while none is probed. A probe for which little is
 //! left still gets a sixteenth of the limit, so that a server that answers comes back also where
 //! many others do not.
-ghost use Rattle.std.specs.Prelude.{◌≡◌, ◌-◌};
-ghost use Rattle.tko_links.specs.ProbeTimes.{refilled, shared_limit};
+ghost use Rattle.std.specs.Prelude.{◌≡◌, ◌-◌, ◌*◌};
+ghost use Rattle.std.specs.Duration.{as_nanos};
+ghost use Rattle.tko_links.specs.ProbeTimes.{IsGiven, IsTaken, nanos_in_milli, refilled, shared_limit};
 
 use std::time::{Clock, Duration, Instant};
 
@@ -22,7 +23,10 @@ pub(crate) struct ProbeTime {
 }
 
 impl ProbeTime {
-    pub(crate) fn new(limit: u32) -> ProbeTime {
+    pub(crate) fn new(limit: u32) -> ProbeTime
+        ensures whole { result.whole ≡ limit }
+        ensures left { result.left ≡ limit }
+    {
         ProbeTime {
             whole: u64::from(limit),
             left: u64::from(limit),
@@ -31,18 +35,24 @@ impl ProbeTime {
     }
 
     /// The time limit of an exchange that is no probe.
-    pub(crate) fn whole(&self) -> Duration {
+    pub(crate) fn whole(&self) -> Duration
+        ensures { as_nanos result ≡ self.now.whole * nanos_in_milli }
+    {
         Duration::from_millis(self.whole)
     }
 
     /// A probe begins: its time limit.
-    pub(crate) fn begin<C: Clock>(&mut self, clock: &C) -> Duration {
+    pub(crate) fn begin<C: Clock>(&mut self, clock: &C) -> Duration
+        ensures { IsGiven self.old self.new result }
+    {
         let passed = self.passed(clock);
         Duration::from_millis(self.give(passed))
     }
 
     /// A probe ended.
-    pub(crate) fn end<C: Clock>(&mut self, clock: &C) {
+    pub(crate) fn end<C: Clock>(&mut self, clock: &C)
+        ensures { IsTaken self.old self.new }
+    {
         let passed = self.passed(clock);
         self.take(passed);
     }
