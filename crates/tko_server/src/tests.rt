@@ -1,31 +1,54 @@
-//! Workers over connections in memory, and the server at a listener that is none.
+//! Workers over connections in memory, and the server over loopback.
 ghost use Rattle.std.specs.Prelude.{◌≡◌, IfOk, length};
 
 use std::alloc::Global;
-use tko_bytes::NoMemory;
+use std::test::Fail;
+use tko_health::TrackerSettings;
 use tko_model::Settings;
 use tko_pools::Config;
 use tko_prober::Delays;
 
+mod gate;
+mod pools;
 mod screen;
 mod server;
 mod workers;
 
-/// One server, which one soft failure marks, and one thread.
+const SERVER_ERROR: &[u8] = b"SERVER_ERROR no server\r\n";
+
+/// One server, which one soft failure marks, and two threads.
 const SETTINGS: Settings = Settings {
     servers: 1,
-    threads: 1,
+    threads: 2,
     failures: 1,
     limit: 40,
     tries: 8,
     opening_stamp: 0,
 };
 
+/// Names these settings.
+struct Two;
+
+impl TrackerSettings for Two {
+    ghost settings = { record {
+      servers = 1;
+      threads = 2;
+      failures = 1;
+      limit = 40;
+      tries = 8;
+      opening_stamp = 0;
+    } };
+}
+
 /// The configuration of one server.
-fn config(alloc: Global) -> Result<Config, NoMemory>
+fn config(alloc: Global, address: &str) -> Result<Config, Fail>
     ensures { IfOk result (λ config. length config.addresses ≡ 1) }
 {
     let mut addresses = Vec::new(alloc);
-    addresses.push(String::from_str(alloc, "127.0.0.1:1")?)?;
-    Config::in_order(alloc, addresses)
+    addresses.push(String::from_str(alloc, address)?)?;
+    Ok(Config::in_order(alloc, addresses)?)
+}
+
+fn delays() -> Result<Delays, Fail> {
+    Ok(Delays::new(10_000, 60_000).ok_or("delays")?)
 }

@@ -1,16 +1,27 @@
-//! The server at a listener that is none.
+//! The server over loopback.
 
-use super::{SETTINGS, config};
+use super::{SERVER_ERROR, SETTINGS, config, delays};
 use crate::{Options, Patience, RunFault, run};
 use std::alloc::Global;
+use std::io::{Read, Write};
 use std::net::{Ipv4Addr, Net, SocketAddr, TcpListener, TcpStream};
 use std::os::fd::OwnedFd;
 use std::sync::Wait;
 use std::test::Fail;
 use std::thread::Threads;
-use std::time::Clock;
-use tko_desk::Totals;
-use tko_prober::Delays;
+use std::time::{Clock, Duration};
+use std::{io, thread};
+use tko_desk::{Kind, Totals};
+use tko_model::Settings;
+
+const PATIENCE: Patience = Patience {
+    write_timeout: 5_000,
+    idle_timeout: 0,
+};
+
+fn listen<R: Net<Stream = TcpStream, Listener = TcpListener>>(rt: &R) -> io::Result<TcpListener> {
+    TcpListener::bind(rt, SocketAddr::from((Ipv4Addr::LOCALHOST, 0)))
+}
 
 /// `run`, with its bounds written out.
 fn serve<R: Wait + Net<Stream = TcpStream, Listener = TcpListener> + Clock + Threads + Sync>(
@@ -22,25 +33,65 @@ fn serve<R: Wait + Net<Stream = TcpStream, Listener = TcpListener> + Clock + Thr
     run(rt, alloc, listener, options)
 }
 
+/// What a client reads that sends this.
+fn ask<R: Net<Stream = TcpStream>>(
+    rt: &R,
+    alloc: Global,
+    address: SocketAddr,
+    bytes: &[u8],
+) -> io::Result<Vec<u8>> {
+    let mut stream = TcpStream::connect(rt, address)?;
+    stream.set_read_timeout(Some(Duration::from_millis(10_000)))?;
+    stream.write_all(bytes)?;
+    let mut read = Vec::new(alloc);
+    stream.read_to_end(&mut read)?;
+    Ok(read)
+}
+
+/// One worker over the server at this port of the loopback, for two connections.
+fn options(alloc: Global, port: u16) -> Result<Options, Fail> {
+    Ok(Options {
+        config: config(alloc, format!(in alloc; "127.0.0.1:{port}")?.as_str())?,
+        settings: Settings {
+            threads: 1,
+            ..SETTINGS
+        },
+        delays: delays()?,
+        timeout: 1_000,
+        patience: PATIENCE,
+        open_files: None,
+        connections: 2,
+    })
+}
+
+/// The first request finds the closed port and marks the server; the second one skips it.
+#[test]
+fn totals_of_two_connections(rt: HostRuntime) -> Result<(), Fail> {
+    let alloc = rt.alloc();
+    let listener = listen(&rt)?;
+    let address = listener.local_addr()?;
+    let options = options(alloc, listen(&rt)?.local_addr()?.port())?;
+    let ask = || ask(&rt, alloc, address, b"get a\r\nquit\r\n");
+    let (totals, read) = thread::join(
+        &rt,
+        || serve(&rt, alloc, &listener, &options),
+        || (ask(), ask()),
+    );
+    assert_eq!(rt; read.0?.as_slice(), SERVER_ERROR);
+    assert_eq!(rt; read.1?.as_slice(), SERVER_ERROR);
+    let numbers = totals.map_err(|_| "run")?.numbers;
+    assert_eq!(rt; Kind::ALL.map(|kind| numbers.of(kind)), [4, 1, 1, 0, 2, 0]);
+    Ok(())
+}
+
 /// A connected socket does not listen.
 #[test]
 fn a_broken_listener_is_a_fault(rt: HostRuntime) -> Result<(), Fail> {
     let alloc = rt.alloc();
-    let listener = TcpListener::bind(&rt, SocketAddr::from((Ipv4Addr::LOCALHOST, 0)))?;
+    let listener = listen(&rt)?;
     let stream = TcpStream::connect(&rt, listener.local_addr()?)?;
     let broken = TcpListener::from(OwnedFd::from(stream));
-    let options = Options {
-        config: config(alloc)?,
-        settings: SETTINGS,
-        delays: Delays::new(10_000, 60_000).ok_or("delays")?,
-        timeout: 1_000,
-        patience: Patience {
-            write_timeout: 5_000,
-            idle_timeout: 0,
-        },
-        open_files: None,
-        connections: 2,
-    };
+    let options = options(alloc, 1)?;
     let ended = serve(&rt, alloc, &broken, &options);
     assert_eq!(rt; ended.err(), Some(RunFault::Accept));
     Ok(())

@@ -1,32 +1,21 @@
 //! One worker over visits and scripted servers.
+ghost use Rattle.std.specs.Prelude.{◌≡◌};
+ghost use Rattle.tko_tracker.specs.Seated.{ArePasses};
 
 use super::screen::{Visit, Visits};
-use super::{SETTINGS, config};
+use super::{SETTINGS, Two, config, delays};
 use crate::{Account, WorkerParts, WorkerReport, worker};
-use std::alloc::{AllocError, Global};
+use std::alloc::Global;
+use std::marker::Brand;
 use std::net::{Net, TcpStream};
 use std::sync::{Mutex, Wait};
 use std::test::Fail;
 use std::time::Clock;
 use tko_desk::{Book, Kind, Numbers};
-use tko_health::{LockedSeating, TrackerSettings};
+use tko_health::{LockedSeating, Named, Seating, SharedSeating};
 use tko_links::{Script, Scripted};
-use tko_prober::Delays;
 use tko_session::{Listed, Probers};
-
-/// Names the settings of one server and one thread.
-struct One;
-
-impl TrackerSettings for One {
-    ghost settings = { record {
-      servers = 1;
-      threads = 1;
-      failures = 1;
-      limit = 40;
-      tries = 8;
-      opening_stamp = 0;
-    } };
-}
+use tko_tracker::{IdlePass, Tracker, open};
 
 /// What one worker left.
 #[derive(Drop)]
@@ -37,21 +26,38 @@ struct Left {
     report: WorkerReport,
 }
 
-/// A worker serves these visits at these moments, over one server that is away at first. Its share
-/// has counted `requests` requests already.
-fn work<R: Wait + Net<Stream = TcpStream> + Clock>(
+/// What one worker meets.
+#[derive(Drop)]
+struct Case<'a> {
+    visits: &'a [Visit<'a>],
+    moments: Vec<u64>,
+    /// Those of the one server.
+    scripts: Vec<Script>,
+    /// How many requests its share has counted already.
+    requests: u64,
+}
+
+/// A worker with this seat meets the case.
+fn work<R: Wait + Net<Stream = TcpStream> + Clock, P: Drop, S: Seating<Idle = P> + Drop>(
     rt: &R,
     alloc: Global,
-    visits: &[Visit],
-    moments: &[u64],
-    requests: u64,
-) -> Result<Left, Fail> {
-    let (seating, mut seats) = LockedSeating::<One>::open(alloc, SETTINGS)?;
+    seating: S,
+    seat: P,
+    case: Case<'_>,
+) -> Result<Left, Fail>
+    requires own { S.own seating seat }
+    requires servers { S.servers seating ≡ 1 }
+{
+    let Case {
+        visits,
+        moments,
+        scripts,
+        requests,
+    } = case;
     let (mut book, mut shares) = Book::open(alloc, 0, 1)?;
     let mut share = shares.pop().ok_or("a share")?;
-    if book.add_many(&mut share, Kind::Request, requests).is_err() {
-        return Err("a ledger with room".into());
-    }
+    book.add_many(&mut share, Kind::Request, requests)
+        .map_err(|_| "a ledger with room")?;
     let book = Mutex::new(book);
     let text = Mutex::new(Vec::new(alloc));
     let source = Visits {
@@ -61,16 +67,15 @@ fn work<R: Wait + Net<Stream = TcpStream> + Clock>(
     };
     let parts = WorkerParts {
         seating: &seating,
-        links: Scripted::new(alloc, 1, outages(alloc)?)?,
-        config: config(alloc)?,
-        probers: Probers::new(alloc, Delays::new(10_000, 60_000).ok_or("delays")?, 1)?,
-        moments: Listed::new(moments.to_vec(alloc)?),
+        links: Scripted::new(alloc, 1, scripts)?,
+        config: config(alloc, "s:1")?,
+        probers: Probers::new(alloc, delays()?, 1)?,
+        moments: Listed::new(moments),
         account: Account {
             book: &book,
             share: &mut share,
         },
     };
-    let seat = seats.pop().ok_or("a seat")?;
     let (_, report) = worker(rt, alloc, source, seat, parts);
     Ok(Left {
         text: text.into_inner(),
@@ -79,41 +84,99 @@ fn work<R: Wait + Net<Stream = TcpStream> + Clock>(
     })
 }
 
-/// A server that does not answer at first, and then answers a probe and a `get`; and the same once
-/// more, but for the `get`.
-fn outages(alloc: Global) -> Result<Vec<Script>, AllocError> {
+/// A worker over a tracker in a lock.
+fn work_in_lock<R: Wait + Net<Stream = TcpStream> + Clock>(
+    rt: &R,
+    alloc: Global,
+    case: Case<'_>,
+) -> Result<Left, Fail> {
+    let (seating, mut seats) = LockedSeating::<Two>::open(alloc, SETTINGS)?;
+    let seat = seats.pop().ok_or("a seat")?;
+    work(rt, alloc, seating, seat, case)
+}
+
+/// A worker over a tracker without a lock.
+fn work_without_lock<R: Wait + Net<Stream = TcpStream> + Clock>(
+    rt: &R,
+    alloc: Global,
+    case: Case<'_>,
+) -> Result<Left, Fail> {
+    let (tracker, passes) = open(alloc, SETTINGS)?;
+    work_at::<R, Brand>(rt, alloc, &tracker, passes, case)
+}
+
+/// A worker over the tracker without a lock that `N` names.
+fn work_at<R: Wait + Net<Stream = TcpStream> + Clock, N: Named>(
+    rt: &R,
+    alloc: Global,
+    tracker: &Tracker,
+    passes: Vec<IdlePass>,
+    case: Case<'_>,
+) -> Result<Left, Fail>
+    requires named { tracker.now ≡ N.tracker }
+    requires passes { ArePasses N.tracker passes.items }
+    requires servers { N.tracker.settings.servers ≡ 1 }
+{
+    let mut passes = passes;
+    let seat = passes.pop().ok_or("a pass")?;
+    let seating = SharedSeating::<N>::new(tracker, 1);
+    work(rt, alloc, seating, seat, case)
+}
+
+/// A server that does not answer at first, and then answers a probe and a `get`.
+fn outage(alloc: Global) -> Result<Vec<Script>, Fail> {
     let mut scripts = Vec::new(alloc);
-    for text in ["", "VERSION 1.6\r\n", "END\r\n", "", "VERSION 1.6\r\n"] {
-        if text.is_empty() {
-            scripts.push(Script::Timeout)?;
-        } else {
-            scripts.push(Script::Bytes(text.as_bytes().to_vec(alloc)?))?;
-        }
-    }
+    scripts.push(Script::Timeout)?;
+    scripts.push(Script::Bytes(b"VERSION 1.6\r\n".to_vec(alloc)?))?;
+    scripts.push(Script::Bytes(b"END\r\n".to_vec(alloc)?))?;
     Ok(scripts)
 }
 
-/// A timeout marks the server. Its probe is due with the second idle turn, and is answered. The
-/// second probe comes after the last client, and is counted too.
-#[test]
-fn idle_worker_probes(rt: HostRuntime) -> Result<(), Fail> {
-    let _stream: Option<TcpStream> = None;
-    let client = Visit::Client(b"get a\r\n");
-    let idle = Visit::Idle;
-    let visits = [client, idle, idle, client, client, idle, idle];
-    let moments = [0, 9_999, 10_000, 10_001, 10_002, 20_000, 29_999, 30_000];
-    let left = work(&rt, rt.alloc(), &visits, &moments, 0)?;
-    let replies = b"SERVER_ERROR no server\r\nEND\r\nSERVER_ERROR no server\r\n";
-    assert_eq!(rt; left.text.as_slice(), replies.as_slice());
-    assert_eq!(rt; left.numbers.of(Kind::Probe), 2);
-    assert_eq!(rt; left.numbers.of(Kind::Attempt), 3);
+/// A client before and after the idle turns in which the probe of the server is due.
+const OUTAGE: [Visit<'static>; 4] = [
+    Visit::Client(b"get a\r\n"),
+    Visit::Idle,
+    Visit::Idle,
+    Visit::Client(b"get a\r\n"),
+];
+
+/// A timeout marks the server. Its probe is due with the second idle turn, and is answered.
+fn probed_when_idle(alloc: Global) -> Result<Case<'static>, Fail> {
+    Ok(Case {
+        visits: &OUTAGE,
+        moments: vec![in alloc; 0, 9_999, 10_000, 10_001, 10_002]?,
+        scripts: outage(alloc)?,
+        requests: 0,
+    })
+}
+
+/// What each worker of that case leaves: its replies, probes and attempts, and sessions.
+fn is_as_probed(left: &Left) -> bool {
     let report = WorkerReport {
-        sessions: 3,
+        sessions: 2,
         faults: 0,
         memory: false,
         ledger_full: false,
     };
-    assert_eq!(rt; left.report, report);
+    left.text.as_slice() == b"SERVER_ERROR no server\r\nEND\r\n".as_slice()
+        && left.numbers.of(Kind::Probe) == 1
+        && left.numbers.of(Kind::Attempt) == 2
+        && left.report == report
+}
+
+#[test]
+fn idle_worker_probes(rt: HostRuntime) -> Result<(), Fail> {
+    let _stream: Option<TcpStream> = None;
+    let case = probed_when_idle(rt.alloc())?;
+    assert!(rt; is_as_probed(&work_without_lock(&rt, rt.alloc(), case)?));
+    Ok(())
+}
+
+#[test]
+fn idle_worker_in_a_lock_probes(rt: HostRuntime) -> Result<(), Fail> {
+    let _stream: Option<TcpStream> = None;
+    let case = probed_when_idle(rt.alloc())?;
+    assert!(rt; is_as_probed(&work_in_lock(&rt, rt.alloc(), case)?));
     Ok(())
 }
 
@@ -121,9 +184,15 @@ fn idle_worker_probes(rt: HostRuntime) -> Result<(), Fail> {
 #[test]
 fn faults_and_a_full_ledger_are_reported(rt: HostRuntime) -> Result<(), Fail> {
     let _stream: Option<TcpStream> = None;
-    let long = vec![in rt.alloc(); b'x'; 65_537]?;
-    let visits = [Visit::Client(&long), Visit::Client(b"get a\r\n")];
-    let left = work(&rt, rt.alloc(), &visits, &[], u64::MAX)?;
+    let alloc = rt.alloc();
+    let long = vec![in alloc; b'x'; 65_537]?;
+    let case = Case {
+        visits: &[Visit::Client(&long), Visit::Client(b"get a\r\n")],
+        moments: Vec::new(alloc),
+        scripts: outage(alloc)?,
+        requests: u64::MAX,
+    };
+    let left = work_without_lock(&rt, alloc, case)?;
     let report = WorkerReport {
         sessions: 2,
         faults: 1,
@@ -133,5 +202,21 @@ fn faults_and_a_full_ledger_are_reported(rt: HostRuntime) -> Result<(), Fail> {
     assert_eq!(rt; left.report, report);
     assert_eq!(rt; left.numbers.of(Kind::Request), u64::MAX);
     assert_eq!(rt; left.numbers.of(Kind::Attempt), 1);
+    Ok(())
+}
+
+/// The probe of a server that the last client's request marked.
+#[test]
+fn probes_after_the_last_client_are_counted(rt: HostRuntime) -> Result<(), Fail> {
+    let _stream: Option<TcpStream> = None;
+    let alloc = rt.alloc();
+    let case = Case {
+        visits: &OUTAGE[..3],
+        moments: vec![in alloc; 0, 9_999, 10_000, 10_001]?,
+        scripts: outage(alloc)?,
+        requests: 0,
+    };
+    let left = work_without_lock(&rt, alloc, case)?;
+    assert_eq!(rt; left.numbers.of(Kind::Probe), 1);
     Ok(())
 }
