@@ -11,8 +11,9 @@ use Rattle.tko_pools.specs.declared.fault.ConfigFault.TheVariants as config_faul
 use Rattle.tko_cli.specs.declared.fault.ConfigFlaw.{ConfigFlaw}
 use Rattle.tko_cli.specs.declared.fault.ConfigFlaw.TheVariants as flaw
 use Rattle.tko_cli.specs.declared.fault.Fault.TheVariants as fault
-use Rattle.tko_cli.specs.declared.options.DryOptions.{DryOptions}
-use Rattle.tko_cli.specs.Configured.{IsFlawed, NoConfig, json_in, scripted_names, settings_of}
+use Rattle.tko_options.specs.declared.dry_options.DryOptions.{DryOptions}
+use Rattle.tko_cli.specs.Configured.{IsFlawed, NoConfig, json_in, scripted_names}
+use Rattle.tko_options.specs.Trackers.{dry_settings}
 use Rattle.tko_cli.specs.Faults.{fault_of_config}
 
 flawed : (options : DryOptions) (json : List ℕ) (cause : ConfigFault) (kind : ConfigFlaw)
@@ -55,5 +56,5 @@ names-few text names count e few =
 
 -- without a configuration the settings are judged first
 pub unset : (options : DryOptions) (name : SettingsFault) → options.config ≡ None
-    → first_fault (settings_of options options.servers) ≡ Some name → NoConfig options (fault.Settings name)
+    → first_fault (dry_settings options options.servers) ≡ Some name → NoConfig options (fault.Settings name)
 unset options name alone first = record { alone = rw alone refl; first = first }

@@ -14,8 +14,9 @@ use Rattle.tko_session.specs.SessionState.{Reaches, probed_by, sent_by}
 use Rattle.tko_pools.specs.Configs.{Configuration, in_order}
 use Rattle.tko_cli.specs.declared.fault.Fault.{Fault}
 use Rattle.tko_cli.specs.declared.fault.Fault.TheVariants as fault
-use Rattle.tko_cli.specs.declared.options.DryOptions.{DryOptions}
-use Rattle.tko_cli.specs.Configured.{ConfigOf, IsConfigured, IsUnset, NoConfig, scripted_names, settings_of}
+use Rattle.tko_options.specs.declared.dry_options.DryOptions.{DryOptions}
+use Rattle.tko_cli.specs.Configured.{ConfigOf, IsConfigured, IsUnset, NoConfig, scripted_names}
+use Rattle.tko_options.specs.Trackers.{dry_settings}
 use Rattle.tko_cli.specs.DryRuns.{AreFresh, Begins, DryFails, DryParts, IsDry, IsDryEvent, IsOutside, TrailsGo, probes_of, sends_of, words_in}
 use Rattle.tko_cli.specs.Faults.{fault_of_opening}
 use Rattle.tko_cli.specs.Outcomes.{AllAsk}
@@ -27,7 +28,7 @@ outside_alone options name scripts asked unset =
     let names = scripted_names options.servers in
     let count : length names ≡ options.servers = length-map-range_with_len _ 0 options.servers in
     let P : Option (List ℕ) → Type 0 = λ json. ConfigOf json options.servers (in_order names) in
-    let Q : ℕ → Type 0 = λ n. first_fault (settings_of options n) ≡ Some name in
+    let Q : ℕ → Type 0 = λ n. first_fault (dry_settings options n) ≡ Some name in
     record {
       scripts = scripts;
       asked = asked;
@@ -39,13 +40,13 @@ outside_alone options name scripts asked unset =
 -- parts over the configuration that the options name
 pub begun : (options : DryOptions) (scripts : List Script) (config : Configuration) (tracker : Tracker) (parts : DryParts)
     → AllAsk (words_in options) scripts → IsConfigured options config
-    → tracker ≡ opened (settings_of options (length config.addresses))
+    → tracker ≡ opened (dry_settings options (length config.addresses))
     → AreFresh scripts config tracker parts
     → Begins options parts
 begun options scripts config tracker parts asked configured opens is =
     let P : Configuration → Type 0 = λ it. IsConfigured options it in
     let Q : Tracker → Type 0 = λ it. AreFresh scripts config it parts in
-    let R : Configuration → Type 0 = λ it. AreFresh scripts it (opened (settings_of options (length it.addresses))) parts in
+    let R : Configuration → Type 0 = λ it. AreFresh scripts it (opened (dry_settings options (length it.addresses))) parts in
     record {
       scripts = scripts;
       asked = asked;
@@ -108,7 +109,7 @@ pub not_opened : {I O : Type 0} (gives : I → List ℕ → I → Type 0) (read_
     (options : DryOptions) (old : I) (from : O) (scripts : List Script) (config : Configuration) (cause : OpenFault)
     → AllAsk (words_in options) scripts → IsConfigured options config
     → ((name : SettingsFault) → cause ≡ open_fault.Settings name
-    → first_fault (settings_of options (length config.addresses)) ≡ Some name)
+    → first_fault (dry_settings options (length config.addresses)) ≡ Some name)
     → DryFails gives read_failures write_failures options old old from from (fault_of_opening cause)
 not_opened gives read_failures write_failures options old from scripts config (open_fault.Settings name) asked configured first =
     let outside : IsOutside options name = record {

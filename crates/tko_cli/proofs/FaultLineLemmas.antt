@@ -1,8 +1,9 @@
 -- What was written for a fault.
-use Rattle.std.proofs.Common.{◌≡◌, ℕ, ◌<◌, List, inl, inr, subst, OnErr, OnOk, Result, Ok, Err}
+use Rattle.std.proofs.Common.{◌≡◌, ℕ, ◌<◌, List, inl, inr, refl, OnErr, OnOk, Result, Ok, Err}
 use Rattle.tko_cli.specs.declared.fault.Fault.{Fault}
 use Rattle.tko_cli.specs.declared.fault.Fault.TheVariants as fault
-use Rattle.tko_cli.specs.FaultLines.{IsFaultTold, Alone, AfterNotices, IsFaultWritten, Written, Failed, HasLine}
+use Rattle.tko_cli.specs.FaultLines.{IsFaultTold, AfterReason, AfterNotices, IsReasonTold, IsFaultWritten, Written, Failed, HasLine}
+use Rattle.tko_cli.specs.Reasons.{HasLineOf, LeftOut, IsReason}
 use Rattle.tko_cli.specs.Serving.{IsSilentOrBegun, Silent, Begun}
 
 -- what holds where it is Ok
@@ -15,12 +16,17 @@ pub on_err : {T E : Type 0} {P : Type 0} (result : Result T E) → P → OnErr r
 on_err (Ok value) holds = tt
 on_err (Err error) holds = holds
 
+-- the line of a fault alone
+pub told_alone : {F : Type 0} (notes : F → List ℕ → F → Type 0) (faults : F → ℕ) (old new : F)
+    → IsFaultWritten notes faults old new → IsReasonTold notes faults old new
+told_alone notes faults old new told = record { middle = old; reason = LeftOut refl; line = told }
+
 -- the line of a fault after what a server noted
 pub fault_told : {O F : Type 0} (takes : O → List ℕ → O → Type 0) (failures : O → ℕ) (notes : F → List ℕ → F → Type 0)
     (faults : F → ℕ) (from to : O) (old middle new : F) → IsSilentOrBegun takes failures notes faults from to old middle
     → IsFaultWritten notes faults middle new → IsFaultTold takes failures notes faults from to old new
-fault_told {F = F} takes failures notes faults from to old middle new (Silent same) told =
-    Alone (subst (λ (at : F). IsFaultWritten notes faults at new) same told)
+fault_told takes failures notes faults from to old middle new (Silent same) told =
+    AfterReason (record { middle = middle; reason = LeftOut same; line = told })
 fault_told takes failures notes faults from to old middle new (Begun begun noted) told =
     AfterNotices middle begun noted told
 

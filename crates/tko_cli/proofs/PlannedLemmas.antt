@@ -5,8 +5,9 @@ use Rattle.tko_model.specs.Ranges.{first_fault}
 use Rattle.tko_model.specs.declared.settings.SettingsFault.{SettingsFault}
 use Rattle.tko_pools.specs.Configs.{Configuration, Means}
 use Rattle.tko_cli.specs.declared.fault.Fault.TheVariants as fault
-use Rattle.tko_cli.specs.declared.serve_options.ServeOptions.{ServeOptions}
-use Rattle.tko_cli.specs.Planned.{NoPlan, serve_settings}
+use Rattle.tko_options.specs.declared.serve_options.ServeOptions.{ServeOptions}
+use Rattle.tko_cli.specs.Planned.{NoPlan}
+use Rattle.tko_options.specs.Trackers.{serve_settings}
 
 -- a setting is outside its range
 pub unset_plan : (options : ServeOptions) (name : SettingsFault) (config : Configuration)

@@ -15,7 +15,7 @@ use Rattle.tko_cli.specs.Planned.{IsPlanned, IsServerOf}
 use Rattle.tko_cli.specs.Serving.{HasServed, ServeFails, ready_text}
 use Rattle.tko_cli.specs.Totals.{totals_text}
 use Rattle.tko_cli.specs.declared.planned.Plan.{Plan}
-use Rattle.tko_cli.specs.declared.serve_options.ServeOptions.{ServeOptions}
+use Rattle.tko_options.specs.declared.serve_options.ServeOptions.{ServeOptions}
 
 -- settings in their ranges have no fault
 no_fault : (s : Settings) → IsWithinRanges s → first_fault s ≡ None

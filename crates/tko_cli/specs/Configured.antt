@@ -1,30 +1,15 @@
 -- The configuration of a dry run, and why there is none.
 use Rattle.std.specs.Prelude.{◌≡◌, ℕ, List, ◌++◌, map, codes, decimal, Option, Some, None, option_map, string_bytes}
 use Rattle.tko_model.specs.Ranges.{first_fault}
-use Rattle.tko_model.specs.declared.settings.Settings.{Settings}
 use Rattle.tko_model.specs.declared.settings.SettingsFault.{SettingsFault}
 use Rattle.tko_pools.specs.Configs.{Configuration, Means, Refuses, in_order, numbers_below}
 use Rattle.tko_pools.specs.declared.fault.ConfigFault.{ConfigFault}
 use Rattle.tko_cli.specs.declared.fault.ConfigFlaw.{ConfigFlaw}
 use Rattle.tko_cli.specs.declared.fault.Fault.{Fault}
 use Rattle.tko_cli.specs.declared.fault.Fault.TheVariants as fault
-use Rattle.tko_cli.specs.declared.options.DryOptions.{DryOptions}
+use Rattle.tko_options.specs.declared.dry_options.DryOptions.{DryOptions}
 use Rattle.tko_cli.specs.Faults.{fault_of_config}
-
--- how many threads the tracker has
-abbrev pub dry_threads : ℕ
-dry_threads = 4
-
--- the settings that the options name, of a tracker of `servers` servers
-abbrev pub settings_of : DryOptions → ℕ → Settings
-settings_of options servers = record {
-  servers = servers;
-  threads = dry_threads;
-  failures = options.failures;
-  limit = options.limit;
-  tries = options.tries;
-  opening_stamp = 0;
-}
+use Rattle.tko_options.specs.Trackers.{dry_settings}
 
 -- the JSON of the configuration, if the options have one
 abbrev pub json_in : DryOptions → Option (List ℕ)
@@ -55,7 +40,7 @@ pub record IsFlawed (options : DryOptions) (flaw : ConfigFlaw) : Type 0 where
 -- without a configuration, this setting is the first one outside its range
 pub record IsUnset (options : DryOptions) (name : SettingsFault) : Type 0 where
   pub alone : json_in options ≡ None
-  pub first : first_fault (settings_of options options.servers) ≡ Some name
+  pub first : first_fault (dry_settings options options.servers) ≡ Some name
 
 -- why the options name no configuration
 abbrev pub NoConfig : DryOptions → Fault → Type 0

@@ -18,11 +18,12 @@ use Rattle.tko_session.specs.Served.{CameTooLong, Served}
 use Rattle.tko_session.specs.SessionState.{probed_by, sent_by}
 use Rattle.tko_session.specs.TrailEvents.{Keeps}
 use Rattle.tko_pools.specs.Configs.{Configuration}
-use Rattle.tko_cli.specs.Configured.{IsConfigured, IsFlawed, settings_of}
+use Rattle.tko_cli.specs.Configured.{IsConfigured, IsFlawed}
 use Rattle.tko_cli.specs.declared.fault.ConfigFlaw.{ConfigFlaw}
 use Rattle.tko_cli.specs.declared.fault.Fault.{Fault}
 use Rattle.tko_cli.specs.declared.fault.Fault.TheVariants as fault
-use Rattle.tko_cli.specs.declared.options.DryOptions.{DryOptions}
+use Rattle.tko_options.specs.declared.dry_options.DryOptions.{DryOptions}
+use Rattle.tko_options.specs.Trackers.{dry_settings}
 use Rattle.tko_cli.specs.Outcomes.{AllAsk, first_bad, words_of}
 use Rattle.tko_cli.specs.Texts.{trails_text}
 
@@ -71,7 +72,7 @@ pub record Begins (options : DryOptions) (parts : DryParts) : Type 0 where
   pub asked : AllAsk (words_in options) scripts
   pub config : IsConfigured options parts.config
   pub fresh : AreFresh scripts parts.config
-      (opened (settings_of options (length parts.config.addresses))) parts
+      (opened (dry_settings options (length parts.config.addresses))) parts
 
 -- every word of the list is good, the JSON is no configuration, and this is what is wrong with it
 pub record IsNoConfig (options : DryOptions) (flaw : ConfigFlaw) : Type 0 where
@@ -86,7 +87,7 @@ pub record IsOutside (options : DryOptions) (name : SettingsFault) : Type 0 wher
   pub asked : AllAsk (words_in options) scripts
   pub config : Configuration
   pub configured : IsConfigured options config
-  pub first : first_fault (settings_of options (length config.addresses)) ≡ Some name
+  pub first : first_fault (dry_settings options (length config.addresses)) ≡ Some name
 
 -- the number of sends to a server
 abbrev pub sends_of : ScriptedState → ℕ → ℕ

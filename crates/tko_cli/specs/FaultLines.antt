@@ -4,8 +4,9 @@ use Rattle.tko_cli.specs.declared.fault.Fault.{Fault}
 use Rattle.tko_cli.specs.declared.fault.Fault.TheVariants as fault
 use Rattle.tko_cli.specs.Faults.{fault_line}
 use Rattle.tko_cli.specs.Notices.{HasNotices}
+use Rattle.tko_cli.specs.Reasons.{HasLineOf, IsReason}
 use Rattle.tko_cli.specs.Serving.{HasBegun, HasServed}
-use Rattle.tko_cli.specs.declared.serve_options.ServeOptions.{ServeOptions}
+use Rattle.tko_options.specs.declared.serve_options.ServeOptions.{ServeOptions}
 
 -- the line of a fault with its LF
 abbrev pub fault_bytes : Fault → List ℕ
@@ -23,17 +24,26 @@ pub data IsFaultWritten {O : Type 0} (takes : O → List ℕ → O → Type 0) (
       → IsFaultWritten takes failures old new
   Failed : failures old < failures new → IsFaultWritten takes failures old new
 
--- a command was done: nothing was written for it, or a server served to its end and there are notices
-pub data IsQuiet {O F : Type 0} (takes : O → List ℕ → O → Type 0) (notes : F → List ℕ → F → Type 0)
-    (faults : F → ℕ) (from to : O) (old new : F) : Type 0 where
-  Nothing : new ≡ old → IsQuiet takes notes faults from to old new
-  Noted : (options : ServeOptions) → HasServed takes options from to → HasNotices notes faults old new
-      → IsQuiet takes notes faults from to old new
+-- a line may say why, and then the line of one fault was written, and nothing else
+pub record IsReasonTold {O : Type 0} (takes : O → List ℕ → O → Type 0) (failures : O → ℕ)
+    (old new : O) : Type 0 where
+  pub middle : O
+  pub reason : HasLineOf takes failures IsReason old middle
+  pub line : IsFaultWritten takes failures middle new
 
--- the line of one fault was written, and nothing else but notices of a server that had begun
+-- a command was done: nothing was written for it, or a server served to its end and there are
+-- notices
+pub data IsQuiet {O F : Type 0} (takes : O → List ℕ → O → Type 0)
+    (notes : F → List ℕ → F → Type 0) (faults : F → ℕ) (from to : O) (old new : F) : Type 0 where
+  Nothing : new ≡ old → IsQuiet takes notes faults from to old new
+  Noted : (options : ServeOptions) → HasServed takes options from to
+      → HasNotices notes faults old new → IsQuiet takes notes faults from to old new
+
+-- the line of one fault was written, and nothing else but a line that says why, or the notices of a
+-- server that had begun
 pub data IsFaultTold {O F : Type 0} (takes : O → List ℕ → O → Type 0) (failures : O → ℕ)
     (notes : F → List ℕ → F → Type 0) (faults : F → ℕ) (from to : O) (old new : F) : Type 0 where
-  Alone : IsFaultWritten notes faults old new
+  AfterReason : IsReasonTold notes faults old new
       → IsFaultTold takes failures notes faults from to old new
   AfterNotices : (middle : F) → HasBegun takes failures from to → HasNotices notes faults old middle
       → IsFaultWritten notes faults middle new

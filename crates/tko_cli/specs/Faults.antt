@@ -41,6 +41,7 @@ config_name flaw.Address = codes "address"
 config_name flaw.Route = codes "route"
 config_name flaw.NoSuchPool = codes "no-such-pool"
 config_name flaw.TooManyServers = codes "too-many-servers"
+config_name flaw.File = codes "file"
 
 -- the line of a fault, without its LF
 abbrev pub fault_line : Fault → List ℕ

@@ -1,4 +1,4 @@
-pub mod CommandLine
+pub mod Checks
 pub mod Configured
 pub mod DryRuns
 pub mod FaultLines
@@ -6,11 +6,9 @@ pub mod Faults
 pub mod Notices
 pub mod Outcomes
 pub mod Planned
-pub mod Program
 pub mod Readings
+pub mod Reasons
 pub mod Replays
-pub mod ServeCommand
-pub mod ServeWords
 pub mod Serving
 pub mod Texts
 pub mod Totals

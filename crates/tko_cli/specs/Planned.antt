@@ -1,7 +1,6 @@
 -- What `serve` runs on, and why its options name none of it.
 use Rattle.std.specs.Prelude.{◌≡◌, ℕ, length, true, false, Option, Some, string_bytes}
 use Rattle.tko_model.specs.Ranges.{IsWithinRanges, first_fault}
-use Rattle.tko_model.specs.declared.settings.Settings.{Settings}
 use Rattle.tko_model.specs.declared.settings.SettingsFault.{SettingsFault}
 use Rattle.tko_pools.specs.Addresses.{is_address}
 use Rattle.tko_pools.specs.Configs.{Configuration, Means, Refuses}
@@ -9,23 +8,13 @@ use Rattle.tko_pools.specs.declared.fault.ConfigFault.{ConfigFault}
 use Rattle.tko_prober.specs.Delay.{IsRange}
 use Rattle.tko_server.specs.declared.patience.Patience.{Patience}
 use Rattle.tko_server.specs.declared.running.Options.{Options as Server}
+use Rattle.tko_options.specs.Trackers.{serve_settings}
 use Rattle.tko_cli.specs.Faults.{fault_of_config}
 use Rattle.tko_cli.specs.declared.fault.ConfigFlaw.{ConfigFlaw}
 use Rattle.tko_cli.specs.declared.fault.Fault.{Fault}
 use Rattle.tko_cli.specs.declared.fault.Fault.TheVariants as fault
 use Rattle.tko_cli.specs.declared.planned.Plan.{Plan}
-use Rattle.tko_cli.specs.declared.serve_options.ServeOptions.{ServeOptions}
-
--- the settings that the options name, of a tracker of `servers` servers
-abbrev pub serve_settings : ServeOptions → ℕ → Settings
-serve_settings options servers = record {
-  servers = servers;
-  threads = options.threads;
-  failures = options.failures;
-  limit = options.limit;
-  tries = options.tries;
-  opening_stamp = 0;
-}
+use Rattle.tko_options.specs.declared.serve_options.ServeOptions.{ServeOptions}
 
 -- how long the server waits for a client
 abbrev pub serve_patience : ServeOptions → Patience

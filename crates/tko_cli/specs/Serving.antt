@@ -7,7 +7,7 @@ use Rattle.tko_cli.specs.Totals.{totals_text}
 use Rattle.tko_cli.specs.declared.fault.Fault.{Fault}
 use Rattle.tko_cli.specs.declared.fault.Fault.TheVariants as fault
 use Rattle.tko_cli.specs.declared.planned.Plan.{Plan}
-use Rattle.tko_cli.specs.declared.serve_options.ServeOptions.{ServeOptions}
+use Rattle.tko_options.specs.declared.serve_options.ServeOptions.{ServeOptions}
 
 -- what is printed once clients can connect
 abbrev pub ready_text : List ℕ

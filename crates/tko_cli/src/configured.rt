@@ -5,9 +5,9 @@ ghost use Rattle.tko_pools.specs.Configs.{in_order};
 ghost use Rattle.tko_cli.specs.Configured.{IsConfigured, NoConfig, scripted_names};
 
 use crate::Fault;
-use crate::options::DryOptions;
 use std::alloc::Global;
 use tko_bytes::NoMemory;
+use tko_options::DryOptions;
 use tko_pools::Config;
 
 /// The configuration of the JSON, or without one that of as many servers as the options name.

@@ -4,7 +4,6 @@ ghost use Rattle.tko_cli.specs.DryRuns.{AreDefaultDelays, AreFresh, DryFails, Is
 
 use crate::Fault;
 use crate::configured::config_of;
-use crate::options::DryOptions;
 use crate::outcomes::scripts_of;
 use crate::trail_lines::trail_lines;
 use crate::writing::write_text;
@@ -12,6 +11,7 @@ use std::alloc::Global;
 use tko_bytes::NoMemory;
 use tko_links::{IoRuntime, Script, Scripted};
 use tko_model::Plain;
+use tko_options::DryOptions;
 use tko_pools::Config;
 use tko_prober::Delays;
 use tko_route::PlainHealth;

@@ -40,6 +40,8 @@ pub enum ConfigFlaw {
     Route,
     NoSuchPool,
     TooManyServers,
+    /// Its file cannot be read.
+    File,
 }
 
 impl fmt::Display for Fault {
@@ -100,5 +102,6 @@ fn config_name(flaw: ConfigFlaw) -> &'static str
         ConfigFlaw::Route => "route",
         ConfigFlaw::NoSuchPool => "no-such-pool",
         ConfigFlaw::TooManyServers => "too-many-servers",
+        ConfigFlaw::File => "file",
     }
 }

@@ -7,20 +7,18 @@
 #![tactic(auto)]
 
 mod causes;
-mod command_line;
+mod checking;
 mod configured;
 mod dry;
 mod fault;
+mod loading;
 mod notice;
 mod open_files;
-mod options;
 mod outcomes;
 mod planned;
 mod program;
 mod reading;
 mod replay;
-mod serve_command;
-mod serve_options;
 mod serving;
 mod totals;
 mod trail_lines;

@@ -1,13 +1,14 @@
 //! What `serve` runs on, read from its options before anything is opened.
-ghost use Rattle.std.specs.Prelude.{IfOk, IfErr};
-ghost use Rattle.tko_cli.specs.Planned.{IsPlanned, IsServerOf, NoPlan};
+ghost use Rattle.std.specs.Prelude.{◌≡◌, IfOk, IfErr};
+ghost use Rattle.tko_cli.specs.Planned.{IsPlanned, IsServerOf, NoPlan, serve_patience};
 
 use crate::Fault;
-use crate::serve_options::ServeOptions;
 use std::alloc::Global;
 use tko_model::Settings;
+use tko_options::ServeOptions;
 use tko_pools::{Config, is_address};
 use tko_prober::Delays;
+use tko_server::Patience;
 
 /// What the options of `serve` name.
 #[derive(Drop)]
@@ -27,10 +28,20 @@ impl Plan {
             settings: self.settings,
             delays: self.delays,
             timeout: options.timeout,
-            patience: options.patience(),
+            patience: patience_of(options),
             open_files,
             connections: options.connections,
         }
+    }
+}
+
+/// How long the server waits for a client.
+fn patience_of(options: &ServeOptions) -> Patience
+    ensures { result ≡ serve_patience options.now }
+{
+    Patience {
+        write_timeout: options.write_timeout,
+        idle_timeout: options.idle_timeout,
     }
 }
 

@@ -1,21 +1,20 @@
 //! From the arguments to the status.
 ghost use Rattle.std.specs.Prelude.{◌≡◌, ◌≤◌, ◌<◌, OnOk, OnErr};
-ghost use Rattle.tko_cli.specs.FaultLines.{HasLine, IsFaultTold, IsFaultWritten, IsQuiet};
+ghost use Rattle.tko_cli.specs.FaultLines.{HasLine, IsFaultTold, IsFaultWritten, IsQuiet, IsReasonTold};
 
 use crate::Fault;
+use crate::checking::check;
 use crate::dry::dry;
-use crate::options::Options;
+use crate::loading::{loaded_check, loaded_dry, loaded_server};
 use crate::replay::replay;
-use crate::serve_options::ServeOptions;
 use crate::serving::serve;
 use crate::writing::{WriteFault, write_text};
-use clap::Error;
-use clap::error::ErrorKind;
 use std::alloc::Global;
 use std::fs::Files;
 use std::net::TcpListener;
 use std::thread::Threads;
 use tko_links::IoRuntime;
+use tko_options::{Asked, CheckOptions, DryOptions, Refusal, ServeOptions};
 use tko_session::{Inlet, Outlet};
 
 const DONE: u8 = 0;
@@ -40,16 +39,79 @@ pub fn command<
         output.old output.new faults.old faults.new }
     ensures refused { result ≡ 2 → (input.new ≡ input.old) × (output.new ≡ output.old) }
 {
-    let done = match Options::read(alloc, words) {
-        Ok(Options::Dry(options)) => dry(rt, alloc, &options, input, output),
-        Ok(Options::Replay) => replay(rt, alloc, input, output),
-        Ok(Options::Serve(options)) => return run_server(rt, alloc, &options, output, faults),
-        Err(refusal) if refusal.kind() == ErrorKind::OutOfMemory => Err(Fault::Memory),
-        Err(refusal) if refusal.use_stderr() => return refuse(rt, alloc, faults, &refusal),
-        Err(help) => show(rt, alloc, output, &help),
-    };
+    match Asked::read(alloc, words) {
+        Ok(Asked::Dry(options)) => run_dry(rt, alloc, options, input, output, faults),
+        Ok(Asked::Replay) => {
+            let done = replay(rt, alloc, input, output);
+            status_of(rt, alloc, faults, done)
+        }
+        Ok(Asked::Serve(options)) => run_server(rt, alloc, options, output, faults),
+        Ok(Asked::Check(options)) => run_check(rt, alloc, options, output, faults),
+        Err(Refusal::Memory) => status_of(rt, alloc, faults, Err(Fault::Memory)),
+        Err(Refusal::Wrong(text)) => refuse(rt, faults, text.as_str()),
+        Err(Refusal::Answer(text)) => {
+            let done = show(rt, output, text.as_str());
+            status_of(rt, alloc, faults, done)
+        }
+    }
+}
+
+/// The status of a command that wrote nothing to `faults`. Its fault is reported.
+fn status_of<R: IoRuntime, F: Outlet>(
+    rt: &R,
+    alloc: Global,
+    faults: &mut F,
+    done: Result<(), Fault>,
+) -> u8
+    ensures status { result ≤ 1 }
+    ensures done { result ≡ 0 → faults.new ≡ faults.old }
+    ensures fault { result ≡ 1 → IsReasonTold F.takes F.failures faults.old faults.new }
+{
     match done {
         Ok(()) => DONE,
+        Err(fault) => fail(rt, alloc, faults, fault),
+    }
+}
+
+/// Answers the input from scripted servers, and returns the status.
+fn run_dry<R: IoRuntime + Files, I: Inlet, O: Outlet, F: Outlet>(
+    rt: &R,
+    alloc: Global,
+    options: DryOptions,
+    input: &mut I,
+    output: &mut O,
+    faults: &mut F,
+) -> u8
+    ensures status { result ≤ 1 }
+    ensures done { result ≡ 0 → faults.new ≡ faults.old }
+    ensures fault { result ≡ 1 → IsReasonTold F.takes F.failures faults.old faults.new }
+{
+    match loaded_dry(rt, alloc, options, faults) {
+        Ok(options) => {
+            let done = dry(rt, alloc, &options, input, output);
+            status_of(rt, alloc, faults, done)
+        }
+        Err(fault) => fail(rt, alloc, faults, fault),
+    }
+}
+
+/// Checks a configuration, and returns the status.
+fn run_check<R: IoRuntime + Files, O: Outlet, F: Outlet>(
+    rt: &R,
+    alloc: Global,
+    options: CheckOptions,
+    output: &mut O,
+    faults: &mut F,
+) -> u8
+    ensures status { result ≤ 1 }
+    ensures done { result ≡ 0 → faults.new ≡ faults.old }
+    ensures fault { result ≡ 1 → IsReasonTold F.takes F.failures faults.old faults.new }
+{
+    match loaded_check(rt, alloc, options, faults) {
+        Ok(options) => {
+            let done = check(rt, alloc, options.config.as_str(), &options.keys, output);
+            status_of(rt, alloc, faults, done)
+        }
         Err(fault) => fail(rt, alloc, faults, fault),
     }
 }
@@ -58,10 +120,28 @@ pub fn command<
 fn run_server<R: IoRuntime<Listener = TcpListener> + Threads + Sync + Files, O: Outlet, F: Outlet>(
     rt: &R,
     alloc: Global,
-    options: &ServeOptions,
+    options: ServeOptions,
     output: &mut O,
     faults: &mut F,
 ) -> u8
+    ensures status { result ≤ 1 }
+    ensures done { result ≡ 0 → IsQuiet O.takes F.takes F.failures
+        output.old output.new faults.old faults.new }
+    ensures fault { result ≡ 1 → IsFaultTold O.takes O.failures F.takes F.failures
+        output.old output.new faults.old faults.new }
+{
+    match loaded_server(rt, alloc, options, faults) {
+        Ok(options) => serve_loaded(rt, alloc, &options, output, faults),
+        Err(fault) => fail(rt, alloc, faults, fault),
+    }
+}
+
+/// Serves clients over the configuration of the options, and returns the status.
+fn serve_loaded<
+    R: IoRuntime<Listener = TcpListener> + Threads + Sync + Files,
+    O: Outlet,
+    F: Outlet,
+>(rt: &R, alloc: Global, options: &ServeOptions, output: &mut O, faults: &mut F) -> u8
     ensures status { result ≤ 1 }
     ensures done { result ≡ 0 → IsQuiet O.takes F.takes F.failures
         output.old output.new faults.old faults.new }
@@ -76,25 +156,15 @@ fn run_server<R: IoRuntime<Listener = TcpListener> + Threads + Sync + Files, O: 
 
 /// Reports why the words were refused, and returns the status. A failure to report it is not
 /// reported.
-fn refuse<R: IoRuntime, F: Outlet>(rt: &R, alloc: Global, faults: &mut F, refusal: &Error) -> u8
-    ensures status { (0 < result) × (result ≤ 2) }
-    ensures fault { result ≡ 1 → IsFaultWritten F.takes F.failures faults.old faults.new }
+fn refuse<R: IoRuntime, F: Outlet>(rt: &R, faults: &mut F, text: &str) -> u8
+    ensures { result ≡ 2 }
 {
-    let Ok(text) = format!(in alloc; "{refusal}") else {
-        return fail(rt, alloc, faults, Fault::Memory);
-    };
     let _ = write_text(rt, faults, text.as_bytes());
     REFUSED
 }
 
-/// Writes the text of clap.
-fn show<R: IoRuntime, O: Outlet>(
-    rt: &R,
-    alloc: Global,
-    outlet: &mut O,
-    answer: &Error,
-) -> Result<(), Fault> {
-    let text = format!(in alloc; "{answer}")?;
+/// Writes the help or the version.
+fn show<R: IoRuntime, O: Outlet>(rt: &R, outlet: &mut O, text: &str) -> Result<(), Fault> {
     write_text(rt, outlet, text.as_bytes())?;
     Ok(())
 }

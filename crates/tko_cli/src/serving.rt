@@ -7,7 +7,6 @@ use crate::Fault;
 use crate::notice::{Notice, write_notice, write_notice_if};
 use crate::open_files::open_file_limit;
 use crate::planned::plan_of;
-use crate::serve_options::ServeOptions;
 use crate::totals::totals_lines;
 use crate::writing::write_text;
 use std::alloc::Global;
@@ -15,6 +14,7 @@ use std::fs::Files;
 use std::net::TcpListener;
 use std::thread::Threads;
 use tko_links::IoRuntime;
+use tko_options::ServeOptions;
 use tko_server::{WorkerReport, run_to_end};
 use tko_session::Outlet;
 

@@ -1,12 +1,14 @@
-use Rattle.tko_cli.specs.FaultLines.{Noted}
-use Rattle.tko_cli.proofs.FaultLineLemmas.{fault_told}
+use Rattle.tko_cli.specs.FaultLines.{AfterReason}
+use Rattle.tko_cli.proofs.ReasonLemmas.{told_with}
 use Rattle.tko_cli.proofs.program.run_server.Goals as goal
-
-pub returns-in-Ok-clause-done : goal.returns-in-Ok-clause-done
-returns-in-Ok-clause-done g c = λ is. Noted c.args.options.now c.in-Ok.ensures.ok c.in-Ok.ensures.noted
 
 pub returns-in-Err-clause-fault : goal.returns-in-Err-clause-fault
 returns-in-Err-clause-fault g c =
-    λ is. fault_told g.O.Outlet.takes g.O.Outlet.failures g.F.Outlet.takes g.F.Outlet.failures c.args.output.now
-    c.serve.new.output c.args.faults.now c.serve.new.faults c.fail.new.faults c.in-Err.ensures.told
-    c.fail.ensures.fault
+    λ is. AfterReason (told_with g.F.Outlet.takes g.F.Outlet.failures c.args.faults.now c.loaded_server.new.faults
+    c.fail.new.faults c.in-Err.ensures.told c.fail.ensures.fault)
+
+pub returns-in-Ok-clause-done : goal.returns-in-Ok-clause-done
+returns-in-Ok-clause-done g c = rw c.in-Ok.ensures.kept at c.serve_loaded.ensures.done
+
+pub returns-in-Ok-clause-fault : goal.returns-in-Ok-clause-fault
+returns-in-Ok-clause-fault g c = rw c.in-Ok.ensures.kept at c.serve_loaded.ensures.fault

@@ -1,0 +1,55 @@
+-- What is printed of a configuration that is one.
+use Rattle.std.specs.Prelude.{◌≡◌, ℕ, ◌+◌, List, [], ◌∷◌, ◌++◌, Some, codes, decimal, unwrap_or, option_map}
+use Rattle.serde_json.specs.Data.{Data}
+use Rattle.tko_pools.specs.Configs.{Configuration, IsMeaning, IsRoot, child_of, targets_of}
+use Rattle.tko_pools.specs.Json.{pools_in}
+use Rattle.tko_explain.specs.Parts.{names_in}
+use Rattle.tko_explain.specs.Printing.{named_line}
+use Rattle.tko_explain.specs.Warnings.{warnings_text}
+
+-- the addresses, which have the numbers from this one on
+abbrev pub servers_text : ℕ → List (List ℕ) → List ℕ
+servers_text number [] = []
+servers_text number (address ∷ others) =
+    codes "server " ++ decimal number ++ codes " " ++ address ++ codes "\n"
+    ++ servers_text (number + 1) others
+
+-- each pool that the route names, with the numbers of its servers
+abbrev pub children_text : List (List ℕ) → Data → List (List ℕ) → List ℕ
+children_text addresses pools [] = []
+children_text addresses pools (name ∷ others) =
+    named_line (codes "pool ") name (child_of addresses pools name)
+    ++ children_text addresses pools others
+
+abbrev pub expiry_text : ℕ → List ℕ
+expiry_text seconds = codes "failover_exptime " ++ decimal seconds ++ codes "\n"
+
+-- each key, with its targets
+abbrev pub keys_text : Configuration → List (List ℕ) → List ℕ
+keys_text config [] = []
+keys_text config (key ∷ others) =
+    named_line (codes "key ") key (targets_of config key) ++ keys_text config others
+
+-- the servers and the pools of the route
+abbrev pub config_text : Data → Data → Configuration → List ℕ
+config_text root pools config =
+    servers_text 0 config.addresses ++ children_text config.addresses pools (names_in root)
+
+-- the greatest expiry and the targets of the keys
+abbrev pub targets_text : Configuration → List (List ℕ) → List ℕ
+targets_text config keys = expiry_text config.failover_exptime ++ keys_text config keys
+
+-- what is printed of the configuration of this object over these pools
+abbrev pub report_text : Data → Data → Configuration → List (List ℕ) → List ℕ
+report_text root pools config keys =
+    config_text root pools config ++ targets_text config keys ++ warnings_text root
+
+-- a text means a configuration, and this is what is printed of it and of these keys
+pub record IsReport (json : List ℕ) (keys : List (List ℕ)) (printed : List ℕ) : Type 0 where
+  pub root : Data
+  pub pools : Data
+  pub config : Configuration
+  pub is_root : IsRoot json root
+  pub meaning : IsMeaning root config
+  pub has_pools : pools_in root ≡ Some pools
+  pub prints : printed ≡ report_text root pools config keys

@@ -1,0 +1,186 @@
+//! What a configuration means, as lines of text.
+ghost use Rattle.std.specs.Prelude.{◌≡◌, ◌++◌, IfOk, IfErr, OnOk, map, string_bytes};
+ghost use Rattle.std.specs.List.{position};
+ghost use Rattle.std.specs.Str.{bytes_eq};
+ghost use Rattle.serde_json.specs.View.{items_view, view};
+ghost use Rattle.tko_explain.specs.Reports.{IsReport, children_text, config_text, expiry_text, keys_text, report_text, servers_text, targets_text};
+ghost use Rattle.tko_pools.specs.Configs.{Refuses, child_of};
+ghost use Rattle.tko_pools.specs.Json.{texts_of};
+ghost use Rattle.tko_pools.specs.Numbering.{number_in};
+
+use crate::parts::{list_in, names_in, pools_in, text_of};
+use crate::printing::append_named;
+use crate::warnings::append_warnings;
+use serde_json::Value;
+use std::alloc::Global;
+use tko_bytes::NoMemory;
+use tko_model::append_number;
+use tko_pools::{Config, ConfigFault};
+
+/// The servers by their numbers, the pools of the route with the numbers of their servers, the
+/// greatest expiry after the first target, the targets of each of the keys, and a warning for
+/// whatever has no effect, a line each.
+pub fn report(alloc: Global, json: &[u8], keys: &[String]) -> Result<Vec<u8>, ConfigFault>
+    ensures ok { IfOk result (λ text. IsReport json.now (map string_bytes keys.now) text.items) }
+    ensures err { IfErr result (λ fault. Refuses json.now fault) }
+{
+    let config = Config::read(alloc, json)?;
+    let Ok(root) = Value::from_slice(alloc, json) else {
+        return Err(ConfigFault::Memory);
+    };
+    let Some(pools) = pools_in(&root) else {
+        return Err(ConfigFault::Memory);
+    };
+    match report_of(alloc, &root, pools, &config, keys) {
+        Ok(text) => Ok(text),
+        Err(NoMemory) => Err(ConfigFault::Memory),
+    }
+}
+
+fn report_of(
+    alloc: Global,
+    root: &Value,
+    pools: &Value,
+    config: &Config,
+    keys: &[String],
+) -> Result<Vec<u8>, NoMemory>
+    ensures { IfOk result (λ text. text.items
+        ≡ report_text (view root.now) (view pools.now) config.now (map string_bytes keys.now)) }
+{
+    let mut out = Vec::new(alloc);
+    append_config(alloc, &mut out, root, pools, config)?;
+    append_targets(alloc, &mut out, config, keys)?;
+    append_warnings(alloc, &mut out, root)?;
+    Ok(out)
+}
+
+/// Appends the servers and the pools of the route.
+fn append_config(
+    alloc: Global,
+    out: &mut Vec<u8>,
+    root: &Value,
+    pools: &Value,
+    config: &Config,
+) -> Result<(), NoMemory>
+    ensures { OnOk result (out.new.items
+        ≡ out.old.items ++ config_text (view root.now) (view pools.now) config.now) }
+{
+    let names = names_in(alloc, root)?;
+    append_servers(out, config.addresses())?;
+    append_children(alloc, out, config.addresses(), pools, &names)?;
+    Ok(())
+}
+
+/// Appends the greatest expiry and the targets of the keys.
+fn append_targets(
+    alloc: Global,
+    out: &mut Vec<u8>,
+    config: &Config,
+    keys: &[String],
+) -> Result<(), NoMemory>
+    ensures { OnOk result
+        (out.new.items ≡ out.old.items ++ targets_text config.now (map string_bytes keys.now)) }
+{
+    append_expiry(out, config.failover_exptime())?;
+    append_keys(alloc, out, config, keys)?;
+    Ok(())
+}
+
+fn append_expiry(out: &mut Vec<u8>, seconds: u32) -> Result<(), NoMemory>
+    ensures { OnOk result (out.new.items ≡ out.old.items ++ expiry_text seconds) }
+{
+    append_number(out, b"failover_exptime ", u64::from(seconds))?;
+    out.extend_from_slice(b"\n")?;
+    Ok(())
+}
+
+fn append_servers(out: &mut Vec<u8>, addresses: &[String]) -> Result<(), NoMemory>
+    ensures { OnOk result
+        (out.new.items ≡ out.old.items ++ servers_text 0 (map string_bytes addresses.now)) }
+{
+    for (number, address) in addresses.iter().enumerate() {
+        append_number(out, b"server ", number as u64)?;
+        out.extend_from_slice(b" ")?;
+        out.extend_from_slice(address.as_bytes())?;
+        out.extend_from_slice(b"\n")?;
+    }
+    Ok(())
+}
+
+fn append_children(
+    alloc: Global,
+    out: &mut Vec<u8>,
+    addresses: &[String],
+    pools: &Value,
+    names: &[&str],
+) -> Result<(), NoMemory>
+    ensures { OnOk result (out.new.items ≡ out.old.items ++ children_text
+        (map string_bytes addresses.now) (view pools.now) (map (λ name. name.now) names.now)) }
+{
+    for name in names {
+        let numbers = numbers_of(alloc, addresses, pools, name)?;
+        append_named(alloc, out, "pool ", name, &numbers)?;
+    }
+    Ok(())
+}
+
+/// The numbers of the servers of the pool of a name.
+fn numbers_of(
+    alloc: Global,
+    addresses: &[String],
+    pools: &Value,
+    name: &str,
+) -> Result<Vec<usize>, NoMemory>
+    ensures { IfOk result (λ numbers. numbers.items
+        ≡ child_of (map string_bytes addresses.now) (view pools.now) name.now) }
+{
+    let mut numbers = Vec::new(alloc);
+    if let Some(pool) = pools.get(name) {
+        push_numbers(addresses, list_in("servers", pool), &mut numbers)?;
+    }
+    Ok(numbers)
+}
+
+fn push_numbers(
+    addresses: &[String],
+    servers: &[Value],
+    numbers: &mut Vec<usize>,
+) -> Result<(), NoMemory>
+    ensures { OnOk result (numbers.new.items ≡ numbers.old.items
+        ++ map (number_in (map string_bytes addresses.now)) (texts_of (items_view servers.now))) }
+{
+    for value in servers {
+        numbers.push(number_of(addresses, text_of(value)))?;
+    }
+    Ok(())
+}
+
+/// The number of an address, and how many addresses there are where it has none.
+
+fn number_of(addresses: &[String], text: &str) -> usize
+    ensures { result ≡ number_in (map string_bytes addresses.now) text.now }
+{
+    place_of(addresses, text).unwrap_or(addresses.len())
+}
+
+fn place_of(addresses: &[String], text: &str) -> Option<usize>
+    ensures { result ≡ position (λ known. bytes_eq text.now (string_bytes known)) addresses.now }
+{
+    addresses.iter().position(|known| text == known.as_str())
+}
+
+fn append_keys(
+    alloc: Global,
+    out: &mut Vec<u8>,
+    config: &Config,
+    keys: &[String],
+) -> Result<(), NoMemory>
+    ensures { OnOk result
+        (out.new.items ≡ out.old.items ++ keys_text config.now (map string_bytes keys.now)) }
+{
+    for key in keys {
+        let targets = config.targets(alloc, key.as_bytes())?;
+        append_named(alloc, out, "key ", key.as_str(), &targets)?;
+    }
+    Ok(())
+}

@@ -1,0 +1,37 @@
+-- What the words of the command line ask for.
+use Rattle.std.specs.Prelude.{◌≡◌, ℕ, List, Some, codes, option_map}
+use Rattle.clap.specs.Simple.{subcommand_rows_of}
+use Rattle.clap.specs.Words.{HasMatchesOf, rows_of, subcommand_name_of}
+use Rattle.clap.specs.declared.parser.matches.ArgMatches.{ArgMatches}
+use Rattle.clap.specs.declared.parser.matches.Found.{Found}
+use Rattle.tko_options.specs.Found.{AreCheckFound, AreDryFound, AreFound}
+use Rattle.tko_options.specs.Program.{program_app}
+use Rattle.tko_options.specs.declared.asked.Asked.{Asked}
+use Rattle.tko_options.specs.declared.asked.Asked.TheVariants as asked
+
+-- the words name this command, and clap found this for its options
+pub record IsCommand (name : List ℕ) (matches : ArgMatches) (found : Found) : Type 0 where
+  pub named : subcommand_name_of matches ≡ Some name
+  pub rows : option_map (λ entry. entry.1) (subcommand_rows_of matches) ≡ Some (rows_of found)
+
+-- a command whose options are what clap found for it
+pub record IsCommandWith (name : List ℕ) (are : Found → Type 0) (matches : ArgMatches) : Type 0 where
+  pub found : Found
+  pub command : IsCommand name matches found
+  pub options : are found
+
+-- what was asked for is the command that clap found, with the options that it found for it
+abbrev pub AsksFor : ArgMatches → Asked → Type 0
+AsksFor matches (asked.Dry options) =
+    IsCommandWith (codes "dry") (λ found. AreDryFound found options) matches
+AsksFor matches asked.Replay = subcommand_name_of matches ≡ Some (codes "replay")
+AsksFor matches (asked.Serve options) =
+    IsCommandWith (codes "serve") (λ found. AreFound found options) matches
+AsksFor matches (asked.Check options) =
+    IsCommandWith (codes "check") (λ found. AreCheckFound found options) matches
+
+-- what was asked for is what clap finds in the words, as it reads the program
+pub record IsReadFrom (words : List (List ℕ)) (wanted : Asked) : Type 0 where
+  pub matches : ArgMatches
+  pub of_words : HasMatchesOf program_app words matches
+  pub asks : AsksFor matches wanted

@@ -1,0 +1,64 @@
+-- The options of the commands, as clap read them.
+use Rattle.std.specs.Prelude.{◌≡◌, ◌<◌, ◌^◌, ℕ, Bool, true, false, List, [], Some, codes, map, option_map, string_bytes, unwrap_or}
+use Rattle.std.specs.Str.Parse.{IsNumeral, digits_value, without_leading_plus}
+use Rattle.clap.specs.Words.{first_value, matched_of, one_text, raw_values}
+use Rattle.clap.specs.declared.parser.matches.Found.{Found}
+use Rattle.tko_options.specs.declared.check_options.CheckOptions.{CheckOptions}
+use Rattle.tko_options.specs.declared.dry_options.DryOptions.{DryOptions}
+use Rattle.tko_options.specs.declared.serve_options.ServeOptions.{ServeOptions}
+
+-- where the text of an option is a number of so many bits, in decimal digits, it is this number
+abbrev pub IsNumberAt : ℕ → Found → List ℕ → ℕ → Type 0
+IsNumberAt bits found name number = (text : List ℕ) → one_text found name ≡ Some text
+    → IsNumeral 10 (without_leading_plus text)
+    → digits_value 10 (without_leading_plus text) < 2 ^ bits
+    → number ≡ digits_value 10 (without_leading_plus text)
+
+-- the text of an option, and the empty one where it was not given
+abbrev pub IsTextAt : Found → List ℕ → List ℕ → Type 0
+IsTextAt found name text = text ≡ unwrap_or (first_value found name) []
+
+-- the texts of an option that may be given several times
+abbrev pub texts_at : Found → List ℕ → List (List ℕ)
+texts_at found name = unwrap_or (option_map raw_values (matched_of found name)) []
+
+-- whether a switch was given
+pub record IsSwitchAt (found : Found) (name : List ℕ) (given : Bool) : Type 0 where
+  pub on : one_text found name ≡ Some (codes "true") → given ≡ true
+  pub off : one_text found name ≡ Some (codes "false") → given ≡ false
+
+-- each option of `dry` is what clap read for its name; an empty configuration is one
+pub record AreDryFound (found : Found) (options : DryOptions) : Type 0 where
+  pub servers : IsNumberAt 32 found (codes "servers") options.servers
+  pub failures : IsNumberAt 32 found (codes "failures") options.failures
+  pub limit : IsNumberAt 32 found (codes "limit") options.limit
+  pub tries : IsNumberAt 32 found (codes "tries") options.tries
+  pub config : option_map string_bytes options.config ≡ first_value found (codes "config")
+  pub config_file :
+      option_map string_bytes options.config_file ≡ first_value found (codes "config-file")
+  pub outcomes : IsTextAt found (codes "outcomes") (string_bytes options.outcomes)
+  pub trail : IsSwitchAt found (codes "trail") options.trail
+
+-- each option of `check` is what clap read for its name
+pub record AreCheckFound (found : Found) (options : CheckOptions) : Type 0 where
+  pub config : IsTextAt found (codes "config") (string_bytes options.config)
+  pub config_file :
+      option_map string_bytes options.config_file ≡ first_value found (codes "config-file")
+  pub keys : map string_bytes options.keys.items ≡ texts_at found (codes "key")
+
+-- each option of `serve` is what clap read for its name
+pub record AreFound (found : Found) (options : ServeOptions) : Type 0 where
+  pub listen : IsTextAt found (codes "listen") (string_bytes options.listen)
+  pub config : IsTextAt found (codes "config") (string_bytes options.config)
+  pub config_file :
+      option_map string_bytes options.config_file ≡ first_value found (codes "config-file")
+  pub threads : IsNumberAt 32 found (codes "threads") options.threads
+  pub connections : IsNumberAt 64 found (codes "connections") options.connections
+  pub timeout : IsNumberAt 32 found (codes "timeout") options.timeout
+  pub write_timeout : IsNumberAt 32 found (codes "write-timeout") options.write_timeout
+  pub idle_timeout : IsNumberAt 32 found (codes "idle-timeout") options.idle_timeout
+  pub first_delay : IsNumberAt 32 found (codes "first-delay") options.first_delay
+  pub greatest_delay : IsNumberAt 32 found (codes "greatest-delay") options.greatest_delay
+  pub failures : IsNumberAt 32 found (codes "failures") options.failures
+  pub limit : IsNumberAt 32 found (codes "limit") options.limit
+  pub tries : IsNumberAt 32 found (codes "tries") options.tries

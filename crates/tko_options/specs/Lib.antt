@@ -1,0 +1,7 @@
+pub mod Asked
+pub mod CheckCommand
+pub mod CommandLine
+pub mod Found
+pub mod Program
+pub mod ServeCommand
+pub mod Trackers

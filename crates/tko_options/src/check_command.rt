@@ -1,0 +1,42 @@
+//! The command `check` as clap reads it.
+ghost use Rattle.std.specs.Prelude.{◌≡◌, false, IfOk};
+ghost use Rattle.clap.specs.Words.{App, rule_of};
+ghost use Rattle.tko_options.specs.CheckCommand.{check_command, key_option};
+ghost use Rattle.tko_options.specs.CommandLine.{ReadsAs};
+
+use crate::command_line::config_file;
+use crate::serve_command::config;
+use clap::{Arg, ArgAction, Command};
+use std::alloc::{AllocError, Global};
+
+const CHECK_HELP: &str = "\
+Example:
+  tkoproxy check --config-file pools.json --key a --key b
+
+Exit status:
+  0  the configuration is good, and is printed, also with warnings
+  1  it is not: lines on standard error say why, the last one `fault: ..`
+  2  the command line was refused";
+
+pub(crate) fn check<'a>(alloc: Global) -> Result<Command<'a>, AllocError>
+    ensures { IfOk result (ReadsAs check_command) }
+{
+    Command::new(alloc, "check")
+        .about("Checks a configuration and prints its servers, its pools and its route")
+        .after_help(CHECK_HELP)
+        .arg(config(alloc)?)?
+        .arg(config_file(alloc)?)?
+        .arg(key(alloc))
+}
+
+/// `--key KEY`, as often as there are keys.
+fn key<'a>(alloc: Global) -> Arg<'a>
+    ensures rule { rule_of result ≡ key_option }
+    ensures local { result.global ≡ false }
+{
+    Arg::new(alloc, "key")
+        .long("key")
+        .value_name("KEY")
+        .action(ArgAction::Append)
+        .help("Also prints the servers that this key tries; may be given several times")
+}

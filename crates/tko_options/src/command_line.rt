@@ -1,0 +1,110 @@
+//! The program as clap reads it, and the options that several commands have.
+ghost use Rattle.std.specs.Prelude.{◌≡◌, false, IfOk};
+ghost use Rattle.clap.specs.Words.{App, rule_of};
+ghost use Rattle.tko_options.specs.CommandLine.{IsOption, ReadsAs, config_file_option, number_option, replay_command, with_tracker};
+ghost use Rattle.tko_options.specs.Program.{named_program, program_app};
+
+use crate::check_command::check;
+use crate::dry_command::dry;
+use crate::serve_command::serve;
+use clap::{Arg, Command, value_parser};
+use std::alloc::{AllocError, Global};
+
+const DEFAULT_FAILURES: &str = "3";
+
+const DEFAULT_LIMIT: &str = "40";
+
+const DEFAULT_TRIES: &str = "8";
+
+/// The version that the protocol's `version` command gives, too.
+const VERSION: &str = "1";
+
+const PROGRAM_HELP: &str = "\
+Exit status:
+  0  done, also for --help and --version
+  1  a fault, with a line `fault: ..` on standard error
+  2  the command line was refused
+
+`tkoproxy COMMAND --help` prints the options of a command.";
+
+const REPLAY_HELP: &str = "\
+Example:
+  tkoproxy replay < schedule.txt
+
+Exit status:
+  0  the run was printed
+  1  a fault, with a line `fault: ..` on standard error
+  2  the command line was refused";
+
+/// The program, which wants one of its commands.
+pub(crate) fn program<'a>(alloc: Global) -> Result<Command<'a>, AllocError>
+    ensures { IfOk result (ReadsAs program_app) }
+{
+    named(alloc)?
+        .subcommand(dry(alloc)?)?
+        .subcommand(replay(alloc))?
+        .subcommand(serve(alloc)?)?
+        .subcommand(check(alloc)?)
+}
+
+/// The program without its commands. Its usage has this name, whatever its file is called.
+fn named<'a>(alloc: Global) -> Result<Command<'a>, AllocError>
+    ensures { IfOk result (ReadsAs named_program) }
+{
+    Command::new(alloc, "tkoproxy")
+        .about("A failover cache proxy with shared server health")
+        .after_help(PROGRAM_HELP)
+        .version(VERSION)
+        .subcommand_required(true)
+        .bin_name("tkoproxy")
+}
+
+fn replay<'a>(alloc: Global) -> Command<'a>
+    ensures { ReadsAs replay_command result }
+{
+    Command::new(alloc, "replay")
+        .about(
+            "Plays a schedule from standard input, checks that each call is legal, and prints the run",
+        )
+        .after_help(REPLAY_HELP)
+}
+
+/// With the options of the tracker.
+pub(crate) fn with_tracker<'a>(
+    alloc: Global,
+    command: Command<'a>,
+) -> Result<Command<'a>, AllocError>
+    ensures { (app : App) → ReadsAs app command.entry → IfOk result (ReadsAs (with_tracker app)) }
+{
+    let failures = "How many soft failures in a row mark a server, 1 to 1000";
+    let limit = "How many servers may have a soft mark at once, 0 to 256";
+    let tries = "How many tries a call may lose to other threads, 1 to 1000";
+    command
+        .arg(number(alloc, "failures", DEFAULT_FAILURES, failures))?
+        .arg(number(alloc, "limit", DEFAULT_LIMIT, limit))?
+        .arg(number(alloc, "tries", DEFAULT_TRIES, tries))
+}
+
+/// `--config-file PATH`, in place of `--config`.
+pub(crate) fn config_file<'a>(alloc: Global) -> Result<Arg<'a>, AllocError>
+    ensures { IfOk result (IsOption config_file_option) }
+{
+    Arg::new(alloc, "config-file")
+        .long("config-file")
+        .value_name("PATH")
+        .help("The file of the configuration, in place of --config")
+        .conflicts_with("config")
+}
+
+/// `--name N`, a number of 32 bits.
+pub(crate) fn number<'a>(alloc: Global, name: &'a str, default: &'a str, help: &'a str) -> Arg<'a>
+    ensures rule { rule_of result ≡ number_option name.now default.now }
+    ensures local { result.global ≡ false }
+{
+    Arg::new(alloc, name)
+        .long(name)
+        .value_name("N")
+        .value_parser(value_parser!(u32))
+        .default_value(default)
+        .help(help)
+}

@@ -1,0 +1,82 @@
+//! The command `dry` as clap reads it.
+ghost use Rattle.std.specs.Prelude.{◌≡◌, false, IfOk};
+ghost use Rattle.clap.specs.Words.{App, rule_of};
+ghost use Rattle.tko_options.specs.CommandLine.{ReadsAs, config_option, dry_command, outcomes_option, servers_option, trail_option, with_script};
+
+use crate::command_line::{config_file, number, with_tracker};
+use clap::{Arg, ArgAction, Command};
+use std::alloc::{AllocError, Global};
+
+const DEFAULT_SERVERS: &str = "1";
+
+const DRY_HELP: &str = "\
+Example:
+  printf 'get a\\r\\n' | tkoproxy dry --servers 2 --outcomes refused,miss --trail
+
+Exit status:
+  0  the input was answered to its end
+  1  a fault, with a line `fault: ..` on standard error
+  2  the command line was refused";
+
+pub(crate) fn dry<'a>(alloc: Global) -> Result<Command<'a>, AllocError>
+    ensures { IfOk result (ReadsAs dry_command) }
+{
+    let dry = Command::new(alloc, "dry")
+        .about("Answers requests on standard input from scripted servers")
+        .after_help(DRY_HELP)
+        .arg(servers(alloc))?;
+    with_script(alloc, with_tracker(alloc, dry)?)
+}
+
+/// With the configuration and what the servers do.
+fn with_script<'a>(alloc: Global, command: Command<'a>) -> Result<Command<'a>, AllocError>
+    ensures { (app : App) → ReadsAs app command.entry → IfOk result (ReadsAs (with_script app)) }
+{
+    command
+        .arg(config(alloc))?
+        .arg(config_file(alloc)?)?
+        .arg(outcomes(alloc))?
+        .arg(trail(alloc))
+}
+
+fn servers<'a>(alloc: Global) -> Arg<'a>
+    ensures rule { rule_of result ≡ servers_option }
+    ensures local { result.global ≡ false }
+{
+    let help = "How many servers there are without a configuration, 1 to 256";
+    number(alloc, "servers", DEFAULT_SERVERS, help)
+}
+
+fn config<'a>(alloc: Global) -> Arg<'a>
+    ensures rule { rule_of result ≡ config_option }
+    ensures local { result.global ≡ false }
+{
+    Arg::new(alloc, "config")
+        .long("config")
+        .value_name("JSON")
+        .help("The pools and the route; without it every key tries all servers in order")
+}
+
+fn outcomes<'a>(alloc: Global) -> Arg<'a>
+    ensures rule { rule_of result ≡ outcomes_option }
+    ensures local { result.global ≡ false }
+{
+    Arg::new(alloc, "outcomes")
+        .long("outcomes")
+        .value_name("LIST")
+        .default_value("")
+        .help(
+            "What comes of each send, separated by commas: refused, timeout, broken, miss, \
+             hit:<text>, line:<text>, bytes:<hex>; then refused",
+        )
+}
+
+fn trail<'a>(alloc: Global) -> Arg<'a>
+    ensures rule { rule_of result ≡ trail_option }
+    ensures local { result.global ≡ false }
+{
+    Arg::new(alloc, "trail")
+        .long("trail")
+        .action(ArgAction::SetTrue)
+        .help("Prints one line an attempt after the replies")
+}

@@ -1,0 +1,23 @@
+//! The words of the command line: the commands and options as clap reads them, and the values that
+//! it finds.
+//!
+//! - `Asked`: what the words ask for; `Refusal`: why they ask for nothing, or the help.
+//! - `DryOptions`, `ServeOptions`, `CheckOptions`: the options of the commands, a field for each.
+#![tactic(auto)]
+
+mod asked;
+mod check_command;
+mod check_options;
+mod command_line;
+mod dry_command;
+mod dry_options;
+mod found;
+mod refusal;
+mod serve_command;
+mod serve_options;
+
+pub use asked::Asked;
+pub use check_options::CheckOptions;
+pub use dry_options::DryOptions;
+pub use refusal::Refusal;
+pub use serve_options::ServeOptions;

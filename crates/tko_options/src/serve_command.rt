@@ -1,0 +1,150 @@
+//! The command `serve` as clap reads it.
+ghost use Rattle.std.specs.Prelude.{◌≡◌, false, IfOk, codes};
+ghost use Rattle.clap.specs.Words.{App, rule_of};
+ghost use Rattle.tko_options.specs.CommandLine.{IsOption, ReadsAs, number_option, required_config};
+ghost use Rattle.tko_options.specs.ServeCommand.{connections_option, default_timeout, limit_option, listen_option, serve_command, with_clients, with_ends, with_patience, with_times};
+
+use crate::command_line::{config_file, number, with_tracker};
+use clap::builder::ValueParser;
+use clap::{Arg, Command, value_parser};
+use std::alloc::{AllocError, Global};
+
+const DEFAULT_THREADS: &str = "4";
+
+const DEFAULT_CONNECTIONS: &str = "0";
+
+const DEFAULT_TIMEOUT: &str = "1000";
+
+const DEFAULT_WRITE_TIMEOUT: &str = "5000";
+
+const DEFAULT_IDLE_TIMEOUT: &str = "0";
+
+const DEFAULT_FIRST_DELAY: &str = "10000";
+
+const DEFAULT_GREATEST_DELAY: &str = "60000";
+
+/// The least and the greatest of a time limit in milliseconds.
+const TIME_LIMITS: (i64, i64) = (1, 4_294_967_295);
+
+const SERVE_HELP: &str = "\
+Times are in milliseconds.
+
+Example:
+  tkoproxy serve --listen 127.0.0.1:11300 --config-file pools.json
+
+Exit status:
+  0  the last of --connections has ended
+  1  a fault, with a line `fault: ..` on standard error
+  2  the command line was refused";
+
+pub(crate) fn serve<'a>(alloc: Global) -> Result<Command<'a>, AllocError>
+    ensures { IfOk result (ReadsAs serve_command) }
+{
+    let serve = Command::new(alloc, "serve")
+        .about("Answers clients that connect to it, over memcached servers")
+        .after_help(SERVE_HELP);
+    let serve = with_ends(alloc, serve)?;
+    let serve = with_clients(alloc, serve)?;
+    let serve = with_patience(alloc, serve)?;
+    let serve = with_times(alloc, serve)?;
+    with_tracker(alloc, serve)
+}
+
+/// With its address and its configuration.
+fn with_ends<'a>(alloc: Global, command: Command<'a>) -> Result<Command<'a>, AllocError>
+    ensures { (app : App) → ReadsAs app command.entry → IfOk result (ReadsAs (with_ends app)) }
+{
+    command
+        .arg(listen(alloc))?
+        .arg(config(alloc)?)?
+        .arg(config_file(alloc)?)
+}
+
+/// With the options of the clients.
+fn with_clients<'a>(alloc: Global, command: Command<'a>) -> Result<Command<'a>, AllocError>
+    ensures { (app : App) → ReadsAs app command.entry → IfOk result (ReadsAs (with_clients app)) }
+{
+    let threads = "How many workers there are, each for one client at a time, 1 to 64";
+    command
+        .arg(number(alloc, "threads", DEFAULT_THREADS, threads))?
+        .arg(connections(alloc))
+}
+
+/// With the options on how long it waits for a client.
+fn with_patience<'a>(alloc: Global, command: Command<'a>) -> Result<Command<'a>, AllocError>
+    ensures { (app : App) → ReadsAs app command.entry → IfOk result (ReadsAs (with_patience app)) }
+{
+    let write = "How long a write to a client may make no progress, in milliseconds, from 1";
+    let idle = "How long a client may send nothing, in milliseconds; 0 for no limit";
+    command
+        .arg(limit(alloc, "write-timeout", DEFAULT_WRITE_TIMEOUT, write))?
+        .arg(delay(alloc, "idle-timeout", DEFAULT_IDLE_TIMEOUT, idle))
+}
+
+/// With the options that are times.
+fn with_times<'a>(alloc: Global, command: Command<'a>) -> Result<Command<'a>, AllocError>
+    ensures { (app : App) → ReadsAs app command.entry → IfOk result (ReadsAs (with_times app)) }
+{
+    let first = "How long the first probe of a marked server waits, in milliseconds, from 1";
+    let greatest = "How long any probe waits at most, in milliseconds, at least the first delay";
+    command
+        .arg(timeout(alloc))?
+        .arg(delay(alloc, "first-delay", DEFAULT_FIRST_DELAY, first))?
+        .arg(delay(alloc, "greatest-delay", DEFAULT_GREATEST_DELAY, greatest))
+}
+
+fn listen<'a>(alloc: Global) -> Arg<'a>
+    ensures rule { rule_of result ≡ listen_option }
+    ensures local { result.global ≡ false }
+{
+    Arg::new(alloc, "listen")
+        .long("listen")
+        .value_name("ADDRESS")
+        .required(true)
+        .help("Where it listens, <host>:<port>")
+}
+
+/// `--config JSON`, without which `--config-file` is wanted.
+pub(crate) fn config<'a>(alloc: Global) -> Result<Arg<'a>, AllocError>
+    ensures { IfOk result (IsOption required_config) }
+{
+    Arg::new(alloc, "config")
+        .long("config")
+        .value_name("JSON")
+        .help("The pools and the route, as text")
+        .required_unless_present("config-file")
+}
+
+fn connections<'a>(alloc: Global) -> Arg<'a>
+    ensures rule { rule_of result ≡ connections_option }
+    ensures local { result.global ≡ false }
+{
+    let help = "After how many connections it ends; 0 for never";
+    number(alloc, "connections", DEFAULT_CONNECTIONS, help).value_parser(value_parser!(u64))
+}
+
+fn timeout<'a>(alloc: Global) -> Arg<'a>
+    ensures rule { rule_of result ≡ limit_option (codes "timeout") default_timeout }
+    ensures local { result.global ≡ false }
+{
+    let help = "How long an exchange with a server may take, in milliseconds, from 1";
+    limit(alloc, "timeout", DEFAULT_TIMEOUT, help)
+}
+
+/// `--name MS`, a number of milliseconds from 1.
+fn limit<'a>(alloc: Global, name: &'a str, default: &'a str, help: &'a str) -> Arg<'a>
+    ensures rule { rule_of result ≡ limit_option name.now default.now }
+    ensures local { result.global ≡ false }
+{
+    number(alloc, name, default, help)
+        .value_name("MS")
+        .value_parser(ValueParser::signed(TIME_LIMITS.0, TIME_LIMITS.1))
+}
+
+/// `--name MS`, a number of milliseconds.
+fn delay<'a>(alloc: Global, name: &'a str, default: &'a str, help: &'a str) -> Arg<'a>
+    ensures rule { rule_of result ≡ number_option name.now default.now }
+    ensures local { result.global ≡ false }
+{
+    number(alloc, name, default, help).value_name("MS")
+}
