@@ -33,8 +33,8 @@ most_steps_of s (NoDuty server ∷ items) = most_steps_of s items
 
 -- what a record of a tracker's pass means: it is still that tracker's and its thread's, the replies
 -- say which servers the thread owns, and the steps are bounded
-pub record IsPassRecord (tracker : TrackerId) (old : Seated) (items : List HealthItem) (new : Seated)
-    : Type 0 where
+pub record IsPassRecord (tracker : TrackerId) (old : Seated) (items : List HealthItem)
+    (new : Seated) : Type 0 where
   pub of : IsOf tracker new
   pub state : new.pass.state ≡ old.pass.state
   pub owned : new.pass.owned ≡ owned_by items old.pass.owned

@@ -3,11 +3,11 @@
 //! - `Health`: what is known of the servers, and what a router or a prober reports of them.
 //!   `PlainHealth` keeps it for one thread. `SharedHealth` keeps it for several, over a tracker
 //!   without a lock, and `LockedHealth`, which tests compare it with, in a lock.
-//! - `Seating`: gives worker threads their health objects. `SharedSeating` gives those of one tracker
-//!   without a lock, and `LockedSeating` those of one lock; `LockedIdle` is such an object while no
-//!   worker uses it.
-//! - `Named` names a tracker without a lock in contracts, `TrackerSettings` the settings of one in a
-//!   lock.
+//! - `Seating`: gives worker threads their health objects. `SharedSeating` gives those of one
+//!   tracker without a lock, and `LockedSeating` those of one lock; `LockedIdle` is such an object
+//!   while no worker uses it.
+//! - `Named` names a tracker without a lock in contracts, `TrackerSettings` the settings of one in
+//!   a lock.
 //! - `plain_health_replays`, `shared_health_follows`: what the record of one thread's health means.
 #![tactic(auto)]
 

@@ -10,8 +10,8 @@ use std::marker::{Brand, Model, PhantomData};
 use tko_bytes::NoMemory;
 use tko_model::{Duty, Look, Mark, Op, Plain, Reply};
 
-/// Names the settings of a tracker in a lock, which all its threads rely on. The program picks them at
-/// a call that passes `Brand`.
+/// Names the settings of a tracker in a lock, which all its threads rely on. The program picks them
+/// at a call that passes `Brand`.
 pub trait TrackerSettings {
     ghost use Rattle.tko_model.specs.declared.settings.Settings.{Settings};
 
@@ -22,8 +22,8 @@ impl TrackerSettings for Brand {
     ghost settings = { record { servers = 1; threads = 1; failures = 1; limit = 0; tries = 1; opening_stamp = 0 } };
 }
 
-/// A thread's place at a tracker in a lock: its number, and for each server whether the thread's last
-/// call there left the mark its own. Only calls of the tracker change it.
+/// A thread's place at a tracker in a lock: its number, and for each server whether the thread's
+/// last call there left the mark its own. Only calls of the tracker change it.
 #[derive(Drop)]
 pub(crate) struct Seat {
     thread: u32,

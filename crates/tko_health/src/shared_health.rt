@@ -12,7 +12,7 @@ use std::sync::Wait;
 use tko_model::{Duty, Look, Reply};
 use tko_tracker::{IdlePass, Pass, wake};
 
-/// A tracker that threads share without a lock, as one of them uses it, which has a pass of its own.
+/// A tracker that threads share without a lock, as one of them uses it, with a pass of its own.
 /// Contracts see the pass: what the thread knows. No call waits for anything or takes memory.
 #[derive(Drop)]
 pub struct SharedHealth<'t, N: Named> {

@@ -36,8 +36,8 @@ abbrev pub AreReadyAt : {C S W M : Type 0} → TrackerId → List (Member C Seat
 AreReadyAt tracker members = AreReady (λ _ idle. IsOf tracker idle) (λ _. tracker.settings.servers)
     (λ links. length links.sends) members
 
--- as many as the options ask for, each with what they ask for, and ready at this tracker; each has the
--- pass of its place
+-- as many as the options ask for, each with what they ask for, and ready at this tracker; each has
+-- the pass of its place
 pub record AreMembersOf {C S W M : Type 0} (options : Options) (tracker : TrackerId)
     (seats : List Seated) (members : List (Member C Seated S (WiredState W) M)) : Type 0 where
   pub number : length members ≡ options.settings.threads

@@ -87,8 +87,8 @@ impl<'o, N: Named> Shared<'o, N> {
         share: &'a mut Share,
     ) -> Result<WorkerParts<'a, SharedSeating<'o, N>, TcpLinks, Elapsed>, NoMemory>
         requires asked { N.tracker.settings ≡ tracker_settings self.now.options.now }
-        ensures equipped { IfOk result (λ parts.
-            IsEquipped ⟦<SharedSeating<'o, N> as Seating>⟧.servers ⟦<TcpLinks as Links>⟧.servers parts) }
+        ensures equipped { IfOk result (IsEquipped
+            ⟦<SharedSeating<'o, N> as Seating>⟧.servers ⟦<TcpLinks as Links>⟧.servers) }
         ensures asked { IfOk result (HasOptions self.now.options.now) }
     {
         let addresses = self.options.config.addresses();
