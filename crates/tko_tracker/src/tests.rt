@@ -2,6 +2,8 @@
 ghost use Rattle.std.specs.Prelude.{◌≡◌, ◌<◌, IfSome};
 ghost use Rattle.tko_tracker.specs.Seated.{ArePasses, IsOf};
 
+mod threads;
+
 use crate::{Final, IdlePass, Pass, Tracker, close, open, wake};
 use std::test::Fail;
 use tko_model::{Look, Mark, Op, Reply, Settings};
