@@ -6,9 +6,9 @@ ghost use Rattle.tko_health.specs.Health.{IsReplay, OneThread};
 ghost use Rattle.tko_health.specs.LockFree.{IsPassRecord};
 
 use crate::health::Health;
-use crate::named::Named;
 use crate::plain_health::PlainHealth;
 use crate::shared_health::SharedHealth;
+use tko_tracker::Named;
 
 /// A record of one thread's health is the sequential tracker's: each reply, and the state.
 pub fn plain_health_replays()

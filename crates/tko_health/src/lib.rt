@@ -6,17 +6,17 @@
 //! - `Seating`: gives worker threads their health objects. `SharedSeating` gives those of one
 //!   tracker without a lock, and `LockedSeating` those of one lock; `LockedIdle` is such an object
 //!   while no worker uses it.
-//! - `Named` names a tracker without a lock in contracts, `TrackerSettings` the settings of one in
-//!   a lock.
+//! - `TrackerSettings` names the settings of a tracker in a lock. A tracker without one is named by
+//!   `Named` of `tko_tracker`.
 //! - `plain_health_replays`, `shared_health_follows`: what the record of one thread's health means.
 #![tactic(auto)]
 
 mod health;
 mod laws;
+mod lent;
 mod locked_health;
 mod locked_seating;
 mod locked_tracker;
-mod named;
 mod plain_health;
 mod seating;
 mod shared_health;
@@ -27,7 +27,6 @@ pub use laws::{plain_health_replays, shared_health_follows};
 pub use locked_health::LockedHealth;
 pub use locked_seating::{LockedIdle, LockedSeating};
 pub use locked_tracker::TrackerSettings;
-pub use named::Named;
 pub use plain_health::PlainHealth;
 pub use seating::Seating;
 pub use shared_health::SharedHealth;

@@ -6,11 +6,11 @@ ghost use Rattle.tko_tracker.specs.Seated.{IsOf, Retired};
 ghost use Rattle.tko_health.specs.LockFree.{IsOwner, IsPassStep};
 
 use crate::health::Health;
-use crate::named::{Lent, Named};
+use crate::lent::Lent;
 use std::marker::Model;
 use std::sync::Wait;
 use tko_model::{Duty, Look, Reply};
-use tko_tracker::{IdlePass, Pass, wake};
+use tko_tracker::{IdlePass, Named, Pass, wake};
 
 /// A tracker that threads share without a lock, as one of them uses it, with a pass of its own.
 /// Contracts see the pass: what the thread knows. No call waits for anything or takes memory.

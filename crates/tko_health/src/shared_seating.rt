@@ -2,11 +2,11 @@
 ghost use Rattle.std.specs.Prelude.{◌≡◌};
 ghost use Rattle.tko_tracker.specs.Seated.{IsOf, OwnsNothing, Retired};
 
-use crate::named::{Lent, Named};
+use crate::lent::Lent;
 use crate::seating::Seating;
 use crate::shared_health::SharedHealth;
 use std::sync::Wait;
-use tko_tracker::{IdlePass, Tracker};
+use tko_tracker::{IdlePass, Named, Tracker};
 
 /// Seats the threads that share one tracker without a lock. A thread's idle seat is its pass, which
 /// `tko_tracker::open` made.

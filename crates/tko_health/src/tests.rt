@@ -2,13 +2,13 @@
 ghost use Rattle.std.specs.Prelude.{◌≡◌, ◌<◌, All, IfSome};
 ghost use Rattle.tko_tracker.specs.Seated.{ArePasses, IsOf};
 
-use crate::{Health, LockedIdle, LockedSeating, Named, Seating, SharedSeating, TrackerSettings};
+use crate::{Health, LockedIdle, LockedSeating, Seating, SharedSeating, TrackerSettings};
 use std::marker::Brand;
 use std::sync::Wait;
 use std::test::Fail;
 use std::thread::{Threads, join};
 use tko_model::{Look, Mark, Reply, Settings};
-use tko_tracker::{IdlePass, Tracker, open};
+use tko_tracker::{IdlePass, Named, Tracker, open};
 
 const SETTINGS: Settings = Settings {
     servers: 2,

@@ -12,10 +12,10 @@ use std::alloc::Global;
 use std::sync::Mutex;
 use tko_bytes::NoMemory;
 use tko_desk::{Book, Share};
-use tko_health::{Named, Seating, SharedSeating};
+use tko_health::{Seating, SharedSeating};
 use tko_links::{IoRuntime, Links, TcpLinks, TcpWire};
 use tko_session::{Elapsed, Probers};
-use tko_tracker::IdlePass;
+use tko_tracker::{IdlePass, Named};
 
 /// What all workers of a server share.
 #[derive(Drop)]

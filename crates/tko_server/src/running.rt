@@ -19,12 +19,12 @@ use std::sync::{Arc, Mutex};
 use std::thread;
 use std::thread::Threads;
 use tko_desk::{Book, Share, Totals, gather};
-use tko_health::{Named, SharedSeating};
+use tko_health::SharedSeating;
 use tko_links::IoRuntime;
 use tko_model::{Settings, SettingsFault};
 use tko_pools::Config;
 use tko_prober::Delays;
-use tko_tracker::{IdlePass, Tracker, open};
+use tko_tracker::{IdlePass, Named, Tracker, open};
 
 /// What a server is started with.
 #[derive(Drop)]

@@ -15,10 +15,10 @@ use std::test::Fail;
 use std::thread::Threads;
 use std::time::Clock;
 use tko_desk::{Book, Share};
-use tko_health::{Health, LockedSeating, Named, Seating, SharedSeating};
+use tko_health::{Health, LockedSeating, Seating, SharedSeating};
 use tko_links::{Script, Scripted};
 use tko_session::{Probers, Still};
-use tko_tracker::{IdlePass, Tracker, open};
+use tko_tracker::{IdlePass, Named, Tracker, open};
 
 /// Each member has one client.
 const VISITS: [Visit; 1] = [Visit::Client(b"get a\r\n")];

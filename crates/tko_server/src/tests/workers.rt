@@ -12,10 +12,10 @@ use std::sync::{Mutex, Wait};
 use std::test::Fail;
 use std::time::Clock;
 use tko_desk::{Book, Kind, Numbers};
-use tko_health::{LockedSeating, Named, Seating, SharedSeating};
+use tko_health::{LockedSeating, Seating, SharedSeating};
 use tko_links::{Script, Scripted};
 use tko_session::{Listed, Probers};
-use tko_tracker::{IdlePass, Tracker, open};
+use tko_tracker::{IdlePass, Named, Tracker, open};
 
 /// What one worker left.
 #[derive(Drop)]
