@@ -1,3 +1,4 @@
 mod HealthLemmas
+mod LockFreeLemmas
+mod LockedLemmas
 mod SeatingLemmas
-mod SharedLemmas

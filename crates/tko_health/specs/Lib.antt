@@ -1,2 +1,3 @@
 pub mod Health
-pub mod Shared
+pub mod LockFree
+pub mod Locked

@@ -1,10 +1,10 @@
 //! Health that several threads share.
 ghost use Rattle.std.specs.Prelude.{◌≡◌, ◌<◌, IfNone, IfSome};
 ghost use Rattle.tko_model.specs.Records.{Called, NoDuty};
-ghost use Rattle.tko_health.specs.Shared.{IsDuty, IsSeat, IsSharedStep, MayGrant};
+ghost use Rattle.tko_health.specs.Locked.{IsDuty, IsSeat, IsLockedStep, MayGrant};
 
 use crate::health::Health;
-use crate::shared_tracker::{Seat, SharedTracker, TrackerSettings};
+use crate::locked_tracker::{LockedTracker, Seat, TrackerSettings};
 use std::marker::Model;
 use std::sync::{Arc, Mutex, Wait};
 use tko_model::{Duty, Look, Op, Reply};
@@ -14,12 +14,12 @@ use tko_model::{Duty, Look, Op, Reply};
 /// its own. The lock is held for one operation of the tracker, which takes no memory.
 #[derive(Drop)]
 pub struct LockedHealth<S: TrackerSettings> {
-    tracker: Arc<Mutex<SharedTracker<S>>>,
+    tracker: Arc<Mutex<LockedTracker<S>>>,
     seat: Seat,
 }
 
 impl<S: TrackerSettings> Model for LockedHealth<S> {
-    ghost use Rattle.tko_health.specs.Shared.{IsSeat, SeatState};
+    ghost use Rattle.tko_health.specs.Locked.{IsSeat, SeatState};
 
     ghost Value = { SeatState };
 
@@ -29,7 +29,7 @@ impl<S: TrackerSettings> Model for LockedHealth<S> {
 }
 
 impl<S: TrackerSettings> LockedHealth<S> {
-    pub(crate) fn new(tracker: Arc<Mutex<SharedTracker<S>>>, seat: Seat) -> LockedHealth<S>
+    pub(crate) fn new(tracker: Arc<Mutex<LockedTracker<S>>>, seat: Seat) -> LockedHealth<S>
         requires { IsSeat S.settings seat }
         ensures { result ≡ seat }
     {
@@ -46,7 +46,7 @@ impl<S: TrackerSettings> LockedHealth<S> {
 
     fn apply<R: Wait>(&mut self, rt: &R, op: Op, server: usize) -> Reply
         requires { server < S.settings.servers }
-        ensures { IsSharedStep S.settings self.old (Called op server result) self.new }
+        ensures { IsLockedStep S.settings self.old (Called op server result) self.new }
     {
         self.tracker.lock(rt).apply(&mut self.seat, op, server)
     }
@@ -55,7 +55,7 @@ impl<S: TrackerSettings> LockedHealth<S> {
 impl<S: TrackerSettings> Health for LockedHealth<S> {
     ghost servers = { λ h. S.settings.servers };
 
-    ghost steps = { λ old it new. IsSharedStep S.settings old it new };
+    ghost steps = { λ old it new. IsLockedStep S.settings old it new };
 
     ghost grants = { λ h server. MayGrant S.settings h server };
 
@@ -85,7 +85,7 @@ impl<S: TrackerSettings> Health for LockedHealth<S> {
         ensures exact { IsDuty S.settings self.old server result }
         ensures some { IfSome result (λ duty. (duty ≡ server) × (self.new ≡ self.old)) }
         ensures right { IfSome result (λ duty. MayGrant S.settings self.old server) }
-        ensures none { IfNone result (IsSharedStep S.settings self.old (NoDuty server) self.new) }
+        ensures none { IfNone result (IsLockedStep S.settings self.old (NoDuty server) self.new) }
     {
         self.tracker.lock(rt).duty(&self.seat, server)
     }

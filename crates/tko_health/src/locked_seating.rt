@@ -5,8 +5,8 @@ ghost use Rattle.tko_model.specs.Ranges.{first_fault};
 
 use crate::health::Health;
 use crate::locked_health::LockedHealth;
+use crate::locked_tracker::{LockedTracker, Seat, TrackerSettings};
 use crate::seating::Seating;
-use crate::shared_tracker::{Seat, SharedTracker, TrackerSettings};
 use std::alloc::Global;
 use std::marker::{Model, PhantomData};
 use std::sync::{Arc, Mutex, Wait};
@@ -22,7 +22,7 @@ pub struct LockedIdle<S: TrackerSettings> {
 
 impl<S: TrackerSettings> Model for LockedIdle<S> {
     ghost use Rattle.std.specs.Prelude.{ℕ};
-    ghost use Rattle.tko_health.specs.Shared.{OwnsNone};
+    ghost use Rattle.tko_health.specs.Locked.{OwnsNone};
 
     ghost Value = { ℕ };
 
@@ -84,7 +84,7 @@ fn idle_seats<S: TrackerSettings>(
     requires settings { settings ≡ S.settings }
     ensures { IfOk result (λ seats. seats.items ≡ range_with_len 0 settings.threads) }
 {
-    let tracker = Arc::new(alloc, Mutex::new(SharedTracker::new(plain)))?;
+    let tracker = Arc::new(alloc, Mutex::new(LockedTracker::new(plain)))?;
     let servers = settings.servers as usize;
     let mut seats = Vec::with_capacity(alloc, settings.threads as usize)?;
     for thread in 0..settings.threads {
@@ -96,7 +96,7 @@ fn idle_seats<S: TrackerSettings>(
 /// The idle seat of this number at a tracker in a lock.
 fn idle_seat<S: TrackerSettings>(
     alloc: Global,
-    tracker: &Arc<Mutex<SharedTracker<S>>>,
+    tracker: &Arc<Mutex<LockedTracker<S>>>,
     servers: usize,
     thread: u32,
 ) -> Result<LockedIdle<S>, NoMemory>

@@ -1,18 +1,21 @@
-//! Two threads at one tracker in a lock.
-ghost use Rattle.std.specs.Prelude.{◌<◌};
+//! Two workers at one tracker, in a lock and without one.
+ghost use Rattle.std.specs.Prelude.{◌≡◌, ◌<◌, All, IfSome};
+ghost use Rattle.tko_tracker.specs.Seated.{ArePasses, IsOf};
 
-use crate::{Health, LockedHealth, LockedIdle, LockedSeating, Seating, TrackerSettings};
+use crate::{Health, LockedIdle, LockedSeating, Named, Seating, SharedSeating, TrackerSettings};
+use std::marker::Brand;
 use std::sync::Wait;
 use std::test::Fail;
-use std::thread::join;
+use std::thread::{Threads, join};
 use tko_model::{Look, Mark, Reply, Settings};
+use tko_tracker::{IdlePass, Tracker, open};
 
 const SETTINGS: Settings = Settings {
     servers: 2,
     threads: 2,
     failures: 1,
-    limit: 2,
-    tries: 1,
+    limit: 1,
+    tries: 3,
     opening_stamp: 0,
 };
 
@@ -24,54 +27,179 @@ impl TrackerSettings for Two {
       servers = 2;
       threads = 2;
       failures = 1;
-      limit = 2;
-      tries = 1;
+      limit = 1;
+      tries = 3;
       opening_stamp = 0;
     } };
 }
 
-/// A worker takes its seat and cannot reach a server.
-fn fail<R: Wait>(
-    rt: &R,
-    seating: &LockedSeating<Two>,
-    idle: LockedIdle<Two>,
-    server: usize,
-) -> (LockedHealth<Two>, Reply)
-    requires { server < 2 }
+/// What a worker finds at each server.
+fn look<R: Wait, H: Health>(rt: &R, health: &mut H) -> [Reply; 2]
+    requires { H.servers health.old ≡ 2 }
+    ensures { H.servers health.new ≡ 2 }
 {
-    let _thread = idle.thread();
+    [look_at(rt, health, 0), look_at(rt, health, 1)]
+}
+
+fn look_at<R: Wait, H: Health>(rt: &R, health: &mut H, server: usize) -> Reply
+    requires { server < H.servers health.old }
+    ensures { H.servers health.new ≡ H.servers health.old }
+{
+    match health.look_up(rt, server) {
+        Look::Up(count, _) => Reply::Up(count),
+        Look::Marked(found) => Reply::Marked(found),
+    }
+}
+
+/// Whether a worker may probe each server.
+fn duties<R: Wait, H: Health>(rt: &R, health: &mut H) -> [bool; 2]
+    requires { H.servers health.old ≡ 2 }
+    ensures { H.servers health.new ≡ 2 }
+{
+    [health.duty(rt, 0).is_some(), health.duty(rt, 1).is_some()]
+}
+
+/// What two workers saw.
+#[derive(Debug, Drop, PartialEq, Eq)]
+struct Seen {
+    /// Each cannot reach one of the servers.
+    failures: [Reply; 2],
+    /// What the first may probe then.
+    duties: [bool; 2],
+    /// What the first finds, and what the second finds once the first has left.
+    before: [Reply; 2],
+    after: [Reply; 2],
+    /// What they are answered where one soft mark is allowed.
+    shared: [Reply; 8],
+}
+
+const SEEN: Seen = Seen {
+    failures: [Reply::TookHard, Reply::TookHard],
+    duties: [true, false],
+    before: [Reply::Marked(Mark::Hard(0)), Reply::Marked(Mark::Hard(1))],
+    after: [Reply::Up(0), Reply::Marked(Mark::Hard(1))],
+    shared: [
+        Reply::TookSoft,
+        Reply::Full,
+        Reply::Already(Mark::Soft(0)),
+        Reply::NotMine(Mark::Soft(0)),
+        Reply::Hardened,
+        Reply::TookSoft,
+        Reply::Marked(Mark::Hard(0)),
+        Reply::Marked(Mark::Soft(1)),
+    ],
+};
+
+/// A worker takes its seat and cannot reach a server.
+fn fail<R: Wait, S: Seating>(
+    rt: &R,
+    seating: &S,
+    idle: S::Idle,
+    server: usize,
+) -> (S::Worker, Reply)
+    requires own { S.own seating.now idle }
+    requires server { server < S.servers seating.now }
+    ensures { S.Worker.servers result.0 ≡ S.servers seating.now }
+{
     let mut health = seating.seat(idle);
     let reply = health.hard_failure(rt, server);
     (health, reply)
 }
 
-/// Whether a worker finds this mark.
-fn finds<R: Wait>(rt: &R, health: &mut LockedHealth<Two>, server: usize, mark: Mark) -> bool
-    requires { server < 2 }
+/// Two workers share one soft mark.
+fn share<R: Wait, H: Health>(rt: &R, first: &mut H, second: &mut H) -> [Reply; 8]
+    requires first { H.servers first.old ≡ 2 }
+    requires second { H.servers second.old ≡ 2 }
 {
-    match health.look_up(rt, server) {
-        Look::Up(count, _) => mark == Mark::Up(count),
-        Look::Marked(found) => mark == found,
+    let took = first.soft_failure(rt, 0);
+    let full = second.soft_failure(rt, 1);
+    let already = second.success(rt, 0);
+    let not_mine = second.release(rt, 0);
+    let hardened = first.hard_failure(rt, 0);
+    let took_now = second.soft_failure(rt, 1);
+    let [one, other] = look(rt, second);
+    [
+        took, full, already, not_mine, hardened, took_now, one, other,
+    ]
+}
+
+/// Two workers mark a server each. One leaves, then the other; both come back.
+fn play<
+    R: Threads + Wait + Sync,
+    P: Drop + Send,
+    H: Health + Drop + Send,
+    S: Seating<Idle = P, Worker = H> + Sync,
+>(rt: &R, seating: &S, first: P, second: P) -> Seen
+    requires first { S.own seating.now first }
+    requires second { S.own seating.now second }
+    requires servers { S.servers seating.now ≡ 2 }
+{
+    let ((mut one, took), (mut two, other)) = join(
+        rt,
+        || fail(rt, seating, first, 0),
+        || fail(rt, seating, second, 1),
+    );
+    let duties = duties(rt, &mut one);
+    let before = look(rt, &mut one);
+    let first = seating.leave(rt, one);
+    let after = look(rt, &mut two);
+    let second = seating.leave(rt, two);
+    Seen {
+        failures: [took, other],
+        duties,
+        before,
+        after,
+        shared: share(rt, &mut seating.seat(first), &mut seating.seat(second)),
     }
 }
 
+/// The seats of two threads at a tracker in a lock.
+fn locked_seats(seats: Vec<LockedIdle<Two>>) -> Option<(LockedIdle<Two>, LockedIdle<Two>)>
+    requires { All (λ idle. idle < 2) seats.items }
+    ensures { IfSome result (λ two. (two.0 < 2) × (two.1 < 2)) }
+{
+    let mut seats = seats;
+    let second = seats.pop()?;
+    Some((seats.pop()?, second))
+}
+
+/// The same at a tracker without a lock.
+fn shared_seats<N: Named>(passes: Vec<IdlePass>) -> Option<(IdlePass, IdlePass)>
+    requires { ArePasses N.tracker passes.items }
+    ensures { IfSome result (λ two. IsOf N.tracker two.0 × IsOf N.tracker two.1) }
+{
+    let mut passes = passes;
+    let second = passes.pop()?;
+    Some((passes.pop()?, second))
+}
+
+/// The two workers at the tracker without a lock that `N` names.
+fn play_shared<R: Threads + Wait + Sync, N: Named + Send + Sync>(
+    rt: &R,
+    tracker: &Tracker,
+    passes: Vec<IdlePass>,
+) -> Option<Seen>
+    requires named { tracker.now ≡ N.tracker }
+    requires passes { ArePasses N.tracker passes.items }
+    requires servers { N.tracker.settings.servers ≡ 2 }
+{
+    let seating = SharedSeating::<N>::new(tracker, 2);
+    let (first, second) = shared_seats::<N>(passes)?;
+    Some(play(rt, &seating, first, second))
+}
+
 #[test]
-fn a_worker_that_leaves_clears_its_own_marks(rt: HostRuntime) -> Result<(), Fail> {
-    let (seating, mut seats) = LockedSeating::<Two>::open(rt.alloc(), SETTINGS)?;
-    let second = seats.pop().expect(&rt, "a seat");
-    let first = seats.pop().expect(&rt, "a seat");
-    let ((mut one, took), (mut two, other)) = join(
-        &rt,
-        || fail(&rt, &seating, first, 0),
-        || fail(&rt, &seating, second, 1),
-    );
-    assert_eq!(rt; took, Reply::TookHard);
-    assert_eq!(rt; other, Reply::TookHard);
-    assert!(rt; one.duty(&rt, 0).is_some() && one.duty(&rt, 1).is_none());
-    assert!(rt; finds(&rt, &mut one, 1, Mark::Hard(1)));
-    let idle = seating.leave(&rt, one);
-    assert_eq!(rt; idle.thread(), 0);
-    assert!(rt; finds(&rt, &mut two, 0, Mark::Up(0)));
-    assert!(rt; finds(&rt, &mut two, 1, Mark::Hard(1)));
+fn two_workers_in_a_lock(rt: HostRuntime) -> Result<(), Fail> {
+    let (seating, seats) = LockedSeating::<Two>::open(rt.alloc(), SETTINGS)?;
+    let (first, second) = locked_seats(seats).expect(&rt, "two seats");
+    assert_eq!(rt; play(&rt, &seating, first, second), SEEN);
+    Ok(())
+}
+
+#[test]
+fn two_workers_without_a_lock(rt: HostRuntime) -> Result<(), Fail> {
+    let (tracker, passes) = open(rt.alloc(), SETTINGS)?;
+    let seen = play_shared::<_, Brand>(&rt, &tracker, passes);
+    assert_eq!(rt; seen, Some(SEEN));
     Ok(())
 }

@@ -1,5 +1,5 @@
 use Rattle.std.proofs.Common.{rules}
-use Rattle.tko_health.proofs.SharedLemmas.{seat_released}
+use Rattle.tko_health.proofs.LockedLemmas.{seat_released}
 use Rattle.tko_health.proofs.locked_seating.LockedSeatingSeating.leave.Goals as goal
 
 pub loop-server-preserved : goal.loop-server-preserved

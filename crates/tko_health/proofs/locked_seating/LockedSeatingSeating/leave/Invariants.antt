@@ -1,5 +1,5 @@
 use Rattle.std.proofs.Common.{◌≡◌, length}
-use Rattle.tko_health.proofs.SharedLemmas.{NoneBefore}
+use Rattle.tko_health.proofs.LockedLemmas.{NoneBefore}
 use Rattle.tko_health.proofs.locked_seating.LockedSeatingSeating.leave.Given as goal
 
 abbrev pub invariant-loop-server : goal.invariant-loop-server

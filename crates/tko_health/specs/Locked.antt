@@ -10,7 +10,7 @@ use Rattle.tko_model.specs.declared.mark.Mark.TheVariants.{Up, Soft, Hard}
 use Rattle.tko_model.specs.declared.settings.Settings.{Settings}
 use Rattle.tko_health.specs.Health.{HasReply}
 
--- a thread's place at a shared tracker: its number, and for each server whether the thread's last
+-- a thread's place at a tracker in a lock: its number, and for each server whether the thread's last
 -- call there left the mark its own
 pub record SeatState : Type 0 where
   pub thread : ℕ
@@ -53,7 +53,7 @@ pub record IsFound (settings : Settings) (tracker : Tracker) : Type 0 where
 
 -- an item of a thread's record: a tracker that the call may find gives that reply, and the seat knows
 -- the mark that the call left
-pub record IsSharedStep (settings : Settings) (old : SeatState) (it : HealthItem) (new : SeatState)
+pub record IsLockedStep (settings : Settings) (old : SeatState) (it : HealthItem) (new : SeatState)
     : Type 0 where
   pub tracker : Tracker
   pub found : IsFound settings tracker

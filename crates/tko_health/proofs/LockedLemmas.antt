@@ -1,4 +1,4 @@
--- Laws of a seat at a shared tracker: what a look-up and a release leave of a server's mark.
+-- Laws of a seat at a tracker in a lock: what a look-up and a release leave of a server's mark.
 use Rattle.std.proofs.Common.{◌≡◌, ℕ, ◌+◌, ◌<◌, Bool, true, false, inl, inr, List, length, slice_set, Option, Some, None, refl, ap, sym, subst, ◌∙◌, arith}
 use Rattle.std.proofs.lemmas.Bool.{cases_Bool, cases_eq, cond-false, cond-true, eqb-true}
 use Rattle.std.proofs.Math.ListN.{length-set}
@@ -17,7 +17,7 @@ use Rattle.tko_model.specs.declared.mark.Reply.{Reply}
 use Rattle.tko_model.specs.declared.mark.Reply.TheVariants as reply
 use Rattle.tko_model.specs.Looks.{look_of}
 use Rattle.tko_health.specs.Health.{look_item, reply_of_look}
-use Rattle.tko_health.specs.Shared.{IsFound, IsSharedStep, OwnsNone, SeatState, is_own, noted}
+use Rattle.tko_health.specs.Locked.{IsFound, IsLockedStep, OwnsNone, SeatState, is_own, noted}
 
 abbrev room_in : Tracker → Bool
 room_in tracker = has_room tracker.settings (softs tracker.servers)
@@ -56,11 +56,11 @@ look_reply_is s room thread server (Hard owner) stamp =
     ]
 
 -- what a look-up of the tracker found is a step of the record
-pub shared_look : {settings : Settings} {tracker : Tracker} {old new : SeatState} {server : ℕ} {found : Look}
+pub locked_look : {settings : Settings} {tracker : Tracker} {old new : SeatState} {server : ℕ} {found : Look}
     → IsFound settings tracker → found ≡ look_of server (server_at tracker.servers server).mark
     → new ≡ noted server (server_at tracker.servers server).mark old
-    → IsSharedStep settings old (look_item server found) new
-shared_look {tracker} {old} {server} is found seat = record {
+    → IsLockedStep settings old (look_item server found) new
+locked_look {tracker} {old} {server} is found seat = record {
   tracker = tracker;
   found = is;
   reply = ap reply_of_look found ∙ look_reply_is tracker.settings (room_in tracker) old.thread server
@@ -122,7 +122,7 @@ none_more {count} {owned} {own} within none first = record {
 
 -- a thread that released a server, and those before it, has no mark of its own there
 pub seat_released : {settings : Settings} {old new : SeatState} {server : ℕ} {answer : Reply}
-    → IsSharedStep settings old (Called Release server answer) new → server < settings.servers
+    → IsLockedStep settings old (Called Release server answer) new → server < settings.servers
     → length old.owned ≡ settings.servers → NoneBefore server old.owned
     → NoneBefore (server + 1) new.owned × (length new.owned ≡ settings.servers)
 seat_released {settings} {old} {server} step below count first =

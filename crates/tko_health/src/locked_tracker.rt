@@ -3,14 +3,14 @@ ghost use Rattle.std.specs.Prelude.{◌≡◌, ◌<◌, IfOk, length};
 ghost use Rattle.tko_model.specs.Looks.{duty_of, look_of};
 ghost use Rattle.tko_model.specs.Tracker.{after, reply_of, server_at};
 ghost use Rattle.tko_model.specs.declared.mark.Op.TheVariants.{LookUp};
-ghost use Rattle.tko_health.specs.Shared.{IsFound, IsSeat, fresh_seat, is_own, noted};
+ghost use Rattle.tko_health.specs.Locked.{IsFound, IsSeat, fresh_seat, is_own, noted};
 
 use std::alloc::Global;
 use std::marker::{Brand, Model, PhantomData};
 use tko_bytes::NoMemory;
 use tko_model::{Duty, Look, Mark, Op, Plain, Reply};
 
-/// Names the settings of a shared tracker, which all its threads rely on. The program picks them at
+/// Names the settings of a tracker in a lock, which all its threads rely on. The program picks them at
 /// a call that passes `Brand`.
 pub trait TrackerSettings {
     ghost use Rattle.tko_model.specs.declared.settings.Settings.{Settings};
@@ -22,7 +22,7 @@ impl TrackerSettings for Brand {
     ghost settings = { record { servers = 1; threads = 1; failures = 1; limit = 0; tries = 1; opening_stamp = 0 } };
 }
 
-/// A thread's place at a shared tracker: its number, and for each server whether the thread's last
+/// A thread's place at a tracker in a lock: its number, and for each server whether the thread's last
 /// call there left the mark its own. Only calls of the tracker change it.
 #[derive(Drop)]
 pub(crate) struct Seat {
@@ -31,7 +31,7 @@ pub(crate) struct Seat {
 }
 
 impl Model for Seat {
-    ghost use Rattle.tko_health.specs.Shared.{SeatState};
+    ghost use Rattle.tko_health.specs.Locked.{SeatState};
 
     ghost Value = { SeatState };
 
@@ -79,12 +79,12 @@ fn is_own(thread: u32, mark: Mark) -> bool
 
 /// A tracker with these settings.
 #[derive(Drop)]
-pub(crate) struct SharedTracker<S: TrackerSettings> {
+pub(crate) struct LockedTracker<S: TrackerSettings> {
     plain: Plain,
     of: PhantomData<S>,
 }
 
-impl<S: TrackerSettings> Model for SharedTracker<S> {
+impl<S: TrackerSettings> Model for LockedTracker<S> {
     ghost use Rattle.std.specs.Prelude.{◌≡◌};
     ghost use Rattle.tko_model.specs.Tracker.{Tracker};
 
@@ -95,12 +95,12 @@ impl<S: TrackerSettings> Model for SharedTracker<S> {
     ghost invariant = { λ t. t.plain.settings ≡ S.settings };
 }
 
-impl<S: TrackerSettings> SharedTracker<S> {
-    pub(crate) fn new(plain: Plain) -> SharedTracker<S>
+impl<S: TrackerSettings> LockedTracker<S> {
+    pub(crate) fn new(plain: Plain) -> LockedTracker<S>
         requires { plain.settings ≡ S.settings }
         ensures { result ≡ plain }
     {
-        SharedTracker {
+        LockedTracker {
             plain,
             of: PhantomData,
         }
