@@ -1,11 +1,18 @@
 -- Members of a pool that are ready.
-use Rattle.std.proofs.Common.{◌≡◌, ◌∙◌, ℕ, zero, suc, ◌+◌, List, All, [], ◌∷◌, ◌++◌, ap, arith, length, refl, subst, sym}
+use Rattle.std.proofs.Common.{◌≡◌, ◌∙◌, ℕ, zero, suc, ◌+◌, List, All, [], ◌∷◌, ◌++◌, ap, arith, length, map, refl, subst, sym}
 use Rattle.std.proofs.lemmas.Grind.{length_at_push}
+use Rattle.std.proofs.lemmas.List.{append_assoc, map-append}
 use Rattle.std.proofs.lemmas.List.Elements.{All-push}
 use Rattle.tko_desk.specs.Ledger.{fresh_share, fresh_shares}
 use Rattle.tko_server.specs.declared.pooling.Member.{Member}
 use Rattle.tko_server.specs.declared.running.Options.{Options}
 use Rattle.tko_server.specs.Workers.{AreReady, HasOptions, IsEquipped, IsReady}
+
+-- what is a seating's own is that of an equal one
+pub own_there : {S P : Type 0} (own : S → P → Type 0) (one other : S) (idle : P) → one ≡ other
+    → own other idle → own one idle
+own_there {S} {P} own one other idle same is =
+    let Q : S → Type 0 = λ s. own s idle in subst Q (sym same) is
 
 -- one member more
 pub one_more_ready : {C P S L M : Type 0} (own : S → P → Type 0) (seated : S → ℕ) (linked : L → ℕ)
@@ -41,6 +48,19 @@ one_seat_less seats later _ shares left _ before after member _ taken lent pushe
       omega (arith, one_more, fewer_seats, counted),
       omega (arith, fewer_seats, fewer_shares, same),
     )
+
+-- one pass more has its member
+pub one_more_seated : {C P S L M : Type 0} (seats later all : List P) (seat : P)
+    (before after : List (Member C P S L M)) (member : Member C P S L M) → seats ≡ seat ∷ later
+    → after ≡ before ++ member ∷ [] → member.idle ≡ seat
+    → map (λ m. m.idle) before ++ seats ≡ all → map (λ m. m.idle) after ++ later ≡ all
+one_more_seated {C} {P} {S} {L} {M} seats later all seat before after member taken pushed same seated =
+    let idle : Member C P S L M → P = λ m. m.idle in
+    let grown : map idle after ≡ map idle before ++ seat ∷ [] =
+    ap (map idle) pushed ∙ map-append idle before (member ∷ [])
+    ∙ ap (λ p. map idle before ++ p ∷ []) same in
+    ap (λ xs. xs ++ later) grown ∙ append_assoc (map idle before) (seat ∷ []) later
+    ∙ ap (λ xs. map idle before ++ xs) (sym taken) ∙ seated
 
 -- a ledger has so many shares
 pub number_of_shares : (name shares : ℕ) → length (fresh_shares name shares) ≡ shares

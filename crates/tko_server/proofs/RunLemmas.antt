@@ -8,7 +8,7 @@ use Rattle.tko_model.specs.declared.settings.Settings.{Settings}
 use Rattle.tko_model.specs.declared.settings.SettingsFault.{SettingsFault}
 use Rattle.tko_server.specs.declared.run_fault.RunFault.{RunFault}
 use Rattle.tko_server.specs.declared.run_fault.RunFault.TheVariants as run
-use Rattle.tko_server.specs.Runs.{IsAfterOpening, fault_of_opening}
+use Rattle.tko_server.specs.Runs.{fault_of_opening}
 
 -- the tracker was not opened
 pub not_opened : {T U : Type 0} (opened : Result T OpenFault) (ended : Result U RunFault)
@@ -23,33 +23,6 @@ not_opened opened ended first (opening.Settings setting) is told ends fault = (
       let same : setting ≡ fault = cc in rw (← same) ends,
 )
 not_opened opened ended first opening.Memory is told ends fault = (
-  λ e. cc,
-  λ h. let cause : opened ≡ Err (opening.Settings fault) = (told fault).1 h in cc,
-)
-
--- it was opened, and the server ended by a fault
-pub ended_later : {T U : Type 0} (opened : Result T OpenFault) (ended : Result U RunFault)
-    (first : Option SettingsFault) (value : T) (later : RunFault) → opened ≡ Ok value
-    → ((fault : SettingsFault) → (opened ≡ Err (opening.Settings fault)) ↔ (first ≡ Some fault))
-    → ended ≡ Err later → IsAfterOpening later
-    → (fault : SettingsFault) → (ended ≡ Err (run.Settings fault)) ↔ (first ≡ Some fault)
-ended_later opened ended first value (run.Settings setting) is told ends after fault = absurd after
-ended_later opened ended first value run.Memory is told ends after fault = (
-  λ e. cc,
-  λ h. let cause : opened ≡ Err (opening.Settings fault) = (told fault).1 h in cc,
-)
-ended_later opened ended first value run.Accept is told ends after fault = (
-  λ e. cc,
-  λ h. let cause : opened ≡ Err (opening.Settings fault) = (told fault).1 h in cc,
-)
-
--- it was opened, and the server ended well
-pub ended_well : {T U : Type 0} (opened : Result T OpenFault) (ended : Result U RunFault)
-    (first : Option SettingsFault) (value : T) (totals : U) → opened ≡ Ok value
-    → ((fault : SettingsFault) → (opened ≡ Err (opening.Settings fault)) ↔ (first ≡ Some fault))
-    → ended ≡ Ok totals
-    → (fault : SettingsFault) → (ended ≡ Err (run.Settings fault)) ↔ (first ≡ Some fault)
-ended_well opened ended first value totals is told ends fault = (
   λ e. cc,
   λ h. let cause : opened ≡ Err (opening.Settings fault) = (told fault).1 h in cc,
 )

@@ -1,5 +1,5 @@
 -- What workers met.
-use Rattle.std.specs.Prelude.{◌≡◌, ◌+◌, ◌||◌, ℕ, Bool, false, true, List, Result, Ok, Err}
+use Rattle.std.specs.Prelude.{◌≡◌, ◌+◌, ◌||◌, Bool, false, true, List, Result, Ok, Err}
 use Rattle.std.specs.List.{list_any, sum_by}
 use Rattle.tko_server.specs.declared.report.WorkerReport.{WorkerReport}
 use Rattle.tko_session.specs.Io.{capped}

@@ -1,11 +1,11 @@
 -- What a worker is started with.
-use Rattle.std.specs.Prelude.{◌≡◌, ◌<◌, ℕ, List, All, length}
+use Rattle.std.specs.Prelude.{◌≡◌, ℕ, List, All, length, map}
 use Rattle.tko_links.specs.Wired.{WiredState}
-use Rattle.tko_model.specs.declared.settings.Settings.{Settings}
 use Rattle.tko_server.specs.declared.pooling.Member.{Member}
 use Rattle.tko_server.specs.declared.running.Options.{Options}
 use Rattle.tko_server.specs.declared.working.WorkerParts.{WorkerParts}
 use Rattle.tko_session.specs.Probers.{no_probers}
+use Rattle.tko_tracker.specs.Seated.{IsOf, Seated, TrackerId}
 
 -- the seating, the links and the probers have the servers of the configuration
 pub record IsEquipped {S L M : Type 0} (seated : S → ℕ) (linked : L → ℕ)
@@ -30,14 +30,17 @@ pub record HasOptions {S L M : Type 0} (options : Options) (parts : WorkerParts 
   pub config : parts.config ≡ options.config
   pub probers : parts.probers ≡ no_probers options.delays (length options.config.addresses)
 
--- ready at a seating in a lock with these settings, and by links over a wire
-abbrev pub AreReadyAt : {C S W M : Type 0} → Settings → List (Member C ℕ S (WiredState W) M) → Type 0
-AreReadyAt settings members = AreReady (λ _ idle. idle < settings.threads) (λ _. settings.servers)
+-- ready at this tracker without a lock, and by links over a wire
+abbrev pub AreReadyAt : {C S W M : Type 0} → TrackerId → List (Member C Seated S (WiredState W) M)
+    → Type 0
+AreReadyAt tracker members = AreReady (λ _ idle. IsOf tracker idle) (λ _. tracker.settings.servers)
     (λ links. length links.sends) members
 
--- as many as the options ask for, each with what they ask for, and ready at these settings
-pub record AreMembersOf {C S W M : Type 0} (options : Options) (settings : Settings)
-    (members : List (Member C ℕ S (WiredState W) M)) : Type 0 where
+-- as many as the options ask for, each with what they ask for, and ready at this tracker; each has the
+-- pass of its place
+pub record AreMembersOf {C S W M : Type 0} (options : Options) (tracker : TrackerId)
+    (seats : List Seated) (members : List (Member C Seated S (WiredState W) M)) : Type 0 where
   pub number : length members ≡ options.settings.threads
-  pub ready : AreReadyAt settings members
+  pub seated : map (λ member. member.idle) members ≡ seats
+  pub ready : AreReadyAt tracker members
   pub asked : All (λ member. HasOptions options member.parts) members

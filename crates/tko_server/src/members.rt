@@ -1,5 +1,7 @@
 //! The members of a server's pool.
-ghost use Rattle.std.specs.Prelude.{◌≡◌, ◌<◌, ◌↔◌, All, IfOk, IsTrue, is_some, length};
+ghost use Rattle.std.specs.Prelude.{◌≡◌, ◌<◌, ◌↔◌, ℕ, All, IfOk, IsTrue, is_some, length, map};
+ghost use Rattle.tko_steps.specs.declared.phase.ThreadState.TheVariants.{Idle};
+ghost use Rattle.tko_tracker.specs.Seated.{IsOf};
 ghost use Rattle.tko_server.specs.Runs.{tracker_settings};
 ghost use Rattle.tko_server.specs.Workers.{AreMembersOf, HasOptions, IsEquipped};
 
@@ -10,50 +12,51 @@ use std::alloc::Global;
 use std::sync::Mutex;
 use tko_bytes::NoMemory;
 use tko_desk::{Book, Share};
-use tko_health::{LockedIdle, LockedSeating, Seating, TrackerSettings};
+use tko_health::{Named, Seating, SharedSeating};
 use tko_links::{IoRuntime, Links, TcpLinks, TcpWire};
 use tko_session::{Elapsed, Probers};
+use tko_tracker::IdlePass;
 
 /// What all workers of a server share.
 #[derive(Drop)]
-pub(crate) struct Shared<'o, S: TrackerSettings> {
+pub(crate) struct Shared<'o, N: Named> {
     pub(crate) options: &'o Options,
-    pub(crate) seating: LockedSeating<S>,
+    pub(crate) seating: SharedSeating<'o, N>,
     pub(crate) book: Mutex<Book>,
     /// How many workers serve clients; the others end at once.
     pub(crate) workers: u32,
 }
 
 /// What one worker of a server is started with.
-pub(crate) type ServerMember<'a, S> = Member<
+pub(crate) type ServerMember<'a, 'o, N> = Member<
     'a,
     Clients,
-    LockedIdle<S>,
-    LockedSeating<S>,
+    IdlePass,
+    SharedSeating<'o, N>,
     TcpLinks,
     Elapsed,
 >;
 
-impl<S: TrackerSettings> Shared<'_, S> {
-    /// A member for each seat, in order, with the share of the same place. All of them take the
+impl<'o, N: Named> Shared<'o, N> {
+    /// A member for each pass, in order, with the share of the same place. All of them take the
     /// clients from one channel.
     pub(crate) fn members<'a, R: IoRuntime>(
         &'a self,
         rt: &R,
         alloc: Global,
-        seats: Vec<LockedIdle<S>>,
+        passes: Vec<IdlePass>,
         shares: &'a mut [Share],
         accepted: &Receiver<Client>,
-    ) -> Result<Vec<ServerMember<'a, S>>, NoMemory>
-        requires own { All (λ idle. idle < S.settings.threads) seats.items }
-        requires seats { length seats.items ≡ S.settings.threads }
-        requires shares { length shares.old ≡ S.settings.threads }
-        requires asked { S.settings ≡ tracker_settings self.now.options.now }
+    ) -> Result<Vec<ServerMember<'a, 'o, N>>, NoMemory>
+        requires own { All (λ idle. IsOf N.tracker idle) passes.items }
+        requires passes { length passes.items ≡ N.tracker.settings.threads }
+        requires shares { length shares.old ≡ N.tracker.settings.threads }
+        requires asked { N.tracker.settings ≡ tracker_settings self.now.options.now }
         ensures ready { IfOk result (λ members.
-            AreMembersOf self.now.options.now S.settings members.items) }
+            AreMembersOf self.now.options.now N.tracker passes.items members.items) }
     {
         let mut members = Vec::new(alloc);
-        for (idle, share) in seats.into_iter().zip(shares.iter_mut()) {
+        for (idle, share) in passes.into_iter().zip(shares.iter_mut()) {
             members.push(Member {
                 source: self.source(&idle, accepted)?,
                 idle,
@@ -63,12 +66,12 @@ impl<S: TrackerSettings> Shared<'_, S> {
         Ok(members)
     }
 
-    /// The clients of the worker with this seat.
-    fn source(&self, idle: &LockedIdle<S>, accepted: &Receiver<Client>) -> Result<Clients, NoMemory>
-        ensures { IfOk result (λ source.
-            IsTrue (is_some source.accepted) ↔ (idle.now < self.now.workers)) }
+    /// The clients of the worker with this pass.
+    fn source(&self, idle: &IdlePass, accepted: &Receiver<Client>) -> Result<Clients, NoMemory>
+        ensures { IfOk result (λ source. (number : ℕ) → idle.now.pass.state ≡ Idle number
+            → IsTrue (is_some source.accepted) ↔ (number < self.now.workers)) }
     {
-        let accepted = if idle.thread() < self.workers {
+        let accepted = if idle.number() < self.workers {
             Some(accepted.clone()?)
         } else {
             None
@@ -82,10 +85,10 @@ impl<S: TrackerSettings> Shared<'_, S> {
         rt: &R,
         alloc: Global,
         share: &'a mut Share,
-    ) -> Result<WorkerParts<'a, LockedSeating<S>, TcpLinks, Elapsed>, NoMemory>
-        requires asked { S.settings ≡ tracker_settings self.now.options.now }
+    ) -> Result<WorkerParts<'a, SharedSeating<'o, N>, TcpLinks, Elapsed>, NoMemory>
+        requires asked { N.tracker.settings ≡ tracker_settings self.now.options.now }
         ensures equipped { IfOk result (λ parts.
-            IsEquipped ⟦<LockedSeating<S> as Seating>⟧.servers ⟦<TcpLinks as Links>⟧.servers parts) }
+            IsEquipped ⟦<SharedSeating<'o, N> as Seating>⟧.servers ⟦<TcpLinks as Links>⟧.servers parts) }
         ensures asked { IfOk result (HasOptions self.now.options.now) }
     {
         let addresses = self.options.config.addresses();

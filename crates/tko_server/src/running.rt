@@ -1,6 +1,7 @@
 //! The server over TCP.
-ghost use Rattle.std.specs.Prelude.{◌≡◌, ◌<◌, ◌↔◌, All, Err, IfErr, Some, length};
+ghost use Rattle.std.specs.Prelude.{◌≡◌, ◌↔◌, All, Err, IfErr, Some, length};
 ghost use Rattle.tko_model.specs.Ranges.{first_fault};
+ghost use Rattle.tko_tracker.specs.Seated.{ArePasses, IsOf};
 ghost use Rattle.tko_server.specs.Runs.{IsAfterOpening, tracker_settings};
 ghost use Rattle.tko_server.specs.Workers.{AreReadyAt};
 
@@ -18,11 +19,12 @@ use std::sync::{Arc, Mutex};
 use std::thread;
 use std::thread::Threads;
 use tko_desk::{Book, Share, Totals, gather};
-use tko_health::{LockedIdle, LockedSeating, TrackerSettings};
+use tko_health::{Named, SharedSeating};
 use tko_links::IoRuntime;
 use tko_model::{Settings, SettingsFault};
 use tko_pools::Config;
 use tko_prober::Delays;
+use tko_tracker::{IdlePass, Tracker, open};
 
 /// What a server is started with.
 #[derive(Drop)]
@@ -57,7 +59,7 @@ impl Options {
 }
 
 /// Accepts connections and serves each over TCP links by one of the workers, who share the health
-/// of the servers. Returns the totals once the last connection was served.
+/// of the servers without a lock. Returns the totals once the last connection was served.
 pub fn run<R: IoRuntime<Listener = TcpListener> + Threads + Sync>(
     rt: &R,
     alloc: Global,
@@ -87,62 +89,58 @@ pub fn run_to_end<R: IoRuntime<Listener = TcpListener> + Threads + Sync>(
         servers: options.config.servers(),
         ..options.settings
     };
-    run_with::<Brand, R>(rt, alloc, listener, options, settings)
+    let (tracker, passes) = open(alloc, settings)?;
+    run_with::<Brand, R>(rt, alloc, listener, options, &tracker, passes)
 }
 
-/// The same with these settings of the tracker, which `S` names.
-fn run_with<
-    S: TrackerSettings + Send + Sync,
-    R: IoRuntime<Listener = TcpListener> + Threads + Sync,
->(
+/// The same over this tracker, which `N` names, with the passes of its threads.
+fn run_with<'o, N: Named + Send + Sync, R: IoRuntime<Listener = TcpListener> + Threads + Sync>(
     rt: &R,
     alloc: Global,
     listener: &TcpListener,
-    options: &Options,
-    settings: Settings,
+    options: &'o Options,
+    tracker: &'o Tracker,
+    passes: Vec<IdlePass>,
 ) -> Result<Ended, RunFault>
-    requires named { settings ≡ S.settings }
-    requires asked { settings ≡ tracker_settings options.now }
-    ensures settings { (fault : SettingsFault) → (result ≡ Err (RunFault.Settings fault))
-        ↔ (first_fault settings ≡ Some fault) }
+    requires named { tracker.now ≡ N.tracker }
+    requires asked { N.tracker.settings ≡ tracker_settings options.now }
+    requires passes { ArePasses N.tracker passes.items }
+    requires number { length passes.items ≡ N.tracker.settings.threads }
+    ensures fault { IfErr result IsAfterOpening }
 {
-    let (seating, seats) = LockedSeating::<S>::open(alloc, settings)?;
-    let (book, mut shares) = Book::open(alloc, 0, settings.threads)?;
+    let (book, mut shares) = Book::open(alloc, 0, options.settings.threads)?;
     let shared = Shared {
         options,
-        seating,
+        seating: SharedSeating::<N>::new(tracker, options.config.servers() as usize),
         book: Mutex::new(book),
         workers: options.allotment().workers,
     };
-    let report = serve_all(rt, alloc, listener, &shared, seats, &mut shares)?;
+    let report = serve_all(rt, alloc, listener, &shared, passes, &mut shares)?;
     Ok(Ended {
         totals: totals_of(shared.book.into_inner(), shares),
         report,
     })
 }
 
-/// Accepts connections and serves each by one of the workers, who take these seats and shares.
+/// Accepts connections and serves each by one of the workers, who take these passes and shares.
 /// Returns what they met.
-fn serve_all<
-    S: TrackerSettings + Send + Sync,
-    R: IoRuntime<Listener = TcpListener> + Threads + Sync,
->(
+fn serve_all<N: Named + Send + Sync, R: IoRuntime<Listener = TcpListener> + Threads + Sync>(
     rt: &R,
     alloc: Global,
     listener: &TcpListener,
-    shared: &Shared<'_, S>,
-    seats: Vec<LockedIdle<S>>,
+    shared: &Shared<'_, N>,
+    passes: Vec<IdlePass>,
     shares: &mut [Share],
 ) -> Result<WorkerReport, RunFault>
-    requires own { All (λ idle. idle < S.settings.threads) seats.items }
-    requires seats { length seats.items ≡ S.settings.threads }
-    requires shares { length shares.old ≡ S.settings.threads }
-    requires asked { S.settings ≡ tracker_settings shared.now.options.now }
+    requires own { All (λ idle. IsOf N.tracker idle) passes.items }
+    requires passes { length passes.items ≡ N.tracker.settings.threads }
+    requires shares { length shares.old ≡ N.tracker.settings.threads }
+    requires asked { N.tracker.settings ≡ tracker_settings shared.now.options.now }
     ensures fault { IfErr result IsAfterOpening }
 {
     let options = shared.options;
     let (sender, receiver) = bounded(alloc, WAITING as usize)?;
-    let members = shared.members(rt, alloc, seats, shares, &receiver)?;
+    let members = shared.members(rt, alloc, passes, shares, &receiver)?;
     drop(receiver);
     let room = Room::open(alloc, options.allotment().clients)?;
     let entrance = Entrance {
@@ -153,7 +151,7 @@ fn serve_all<
     let (ended, accepted) = thread::join(
         rt,
         ||
-            requires { AreReadyAt S.settings members.items }
+            requires { AreReadyAt N.tracker members.items }
         {
             let ended = pool(rt, alloc, members);
             room.close();

@@ -1,17 +1,21 @@
 //! One worker over visits and scripted servers.
+ghost use Rattle.std.specs.Prelude.{◌≡◌};
+ghost use Rattle.tko_tracker.specs.Seated.{ArePasses};
 
 use super::screen::{Visit, Visits};
-use super::{SERVER_ERROR, SETTINGS, Two, config, delays};
+use super::{SETTINGS, Two, config, delays};
 use crate::{Account, WorkerParts, WorkerReport, worker};
 use std::alloc::Global;
+use std::marker::Brand;
 use std::net::{Net, TcpStream};
 use std::sync::{Mutex, Wait};
 use std::test::Fail;
 use std::time::Clock;
 use tko_desk::{Book, Kind, Numbers};
-use tko_health::LockedSeating;
+use tko_health::{LockedSeating, Named, Seating, SharedSeating};
 use tko_links::{Script, Scripted};
 use tko_session::{Listed, Probers};
+use tko_tracker::{IdlePass, Tracker, open};
 
 /// What one worker left.
 #[derive(Drop)]
@@ -22,17 +26,34 @@ struct Left {
     report: WorkerReport,
 }
 
-/// A worker serves these visits at these moments, over one server with these scripts. Its share has
-/// counted so many requests already.
-fn work<R: Wait + Net<Stream = TcpStream> + Clock>(
+/// What one worker meets.
+#[derive(Drop)]
+struct Case<'a> {
+    visits: &'a [Visit<'a>],
+    moments: Vec<u64>,
+    /// Those of the one server.
+    scripts: Vec<Script>,
+    /// How many requests its share has counted already.
+    requests: u64,
+}
+
+/// A worker with this seat meets the case.
+fn work<R: Wait + Net<Stream = TcpStream> + Clock, P: Drop, S: Seating<Idle = P> + Drop>(
     rt: &R,
     alloc: Global,
-    visits: &[Visit],
-    moments: Vec<u64>,
-    scripts: Vec<Script>,
-    requests: u64,
-) -> Result<Left, Fail> {
-    let (seating, mut seats) = LockedSeating::<Two>::open(alloc, SETTINGS)?;
+    seating: S,
+    seat: P,
+    case: Case<'_>,
+) -> Result<Left, Fail>
+    requires own { S.own seating seat }
+    requires servers { S.servers seating ≡ 1 }
+{
+    let Case {
+        visits,
+        moments,
+        scripts,
+        requests,
+    } = case;
     let (mut book, mut shares) = Book::open(alloc, 0, 1)?;
     let mut share = shares.pop().ok_or("a share")?;
     book.add_many(&mut share, Kind::Request, requests)
@@ -55,13 +76,51 @@ fn work<R: Wait + Net<Stream = TcpStream> + Clock>(
             share: &mut share,
         },
     };
-    let seat = seats.pop().ok_or("a seat")?;
     let (_, report) = worker(rt, alloc, source, seat, parts);
     Ok(Left {
         text: text.into_inner(),
         numbers: share.numbers(),
         report,
     })
+}
+
+/// A worker over a tracker in a lock.
+fn work_in_lock<R: Wait + Net<Stream = TcpStream> + Clock>(
+    rt: &R,
+    alloc: Global,
+    case: Case<'_>,
+) -> Result<Left, Fail> {
+    let (seating, mut seats) = LockedSeating::<Two>::open(alloc, SETTINGS)?;
+    let seat = seats.pop().ok_or("a seat")?;
+    work(rt, alloc, seating, seat, case)
+}
+
+/// A worker over a tracker without a lock.
+fn work_without_lock<R: Wait + Net<Stream = TcpStream> + Clock>(
+    rt: &R,
+    alloc: Global,
+    case: Case<'_>,
+) -> Result<Left, Fail> {
+    let (tracker, passes) = open(alloc, SETTINGS)?;
+    work_at::<R, Brand>(rt, alloc, &tracker, passes, case)
+}
+
+/// A worker over the tracker without a lock that `N` names.
+fn work_at<R: Wait + Net<Stream = TcpStream> + Clock, N: Named>(
+    rt: &R,
+    alloc: Global,
+    tracker: &Tracker,
+    passes: Vec<IdlePass>,
+    case: Case<'_>,
+) -> Result<Left, Fail>
+    requires named { tracker.now ≡ N.tracker }
+    requires passes { ArePasses N.tracker passes.items }
+    requires servers { N.tracker.settings.servers ≡ 1 }
+{
+    let mut passes = passes;
+    let seat = passes.pop().ok_or("a pass")?;
+    let seating = SharedSeating::<N>::new(tracker, 1);
+    work(rt, alloc, seating, seat, case)
 }
 
 /// A server that does not answer at first, and then answers a probe and a `get`.
@@ -73,27 +132,51 @@ fn outage(alloc: Global) -> Result<Vec<Script>, Fail> {
     Ok(scripts)
 }
 
+/// A client before and after the idle turns in which the probe of the server is due.
+const OUTAGE: [Visit<'static>; 4] = [
+    Visit::Client(b"get a\r\n"),
+    Visit::Idle,
+    Visit::Idle,
+    Visit::Client(b"get a\r\n"),
+];
+
 /// A timeout marks the server. Its probe is due with the second idle turn, and is answered.
-#[test]
-fn idle_worker_probes(rt: HostRuntime) -> Result<(), Fail> {
-    let _stream: Option<TcpStream> = None;
-    let alloc = rt.alloc();
-    let client = Visit::Client(b"get a\r\n");
-    let visits = [client, Visit::Idle, Visit::Idle, client];
-    let moments = vec![in alloc; 0, 9_999, 10_000, 10_001, 10_002]?;
-    let left = work(&rt, alloc, &visits, moments, outage(alloc)?, 0)?;
-    let mut replies = SERVER_ERROR.to_vec(alloc)?;
-    replies.extend_from_slice(b"END\r\n")?;
-    assert_eq!(rt; left.text, replies);
-    assert_eq!(rt; left.numbers.of(Kind::Probe), 1);
-    assert_eq!(rt; left.numbers.of(Kind::Attempt), 2);
+fn probed_when_idle(alloc: Global) -> Result<Case<'static>, Fail> {
+    Ok(Case {
+        visits: &OUTAGE,
+        moments: vec![in alloc; 0, 9_999, 10_000, 10_001, 10_002]?,
+        scripts: outage(alloc)?,
+        requests: 0,
+    })
+}
+
+/// What each worker of that case leaves: its replies, probes and attempts, and sessions.
+fn is_as_probed(left: &Left) -> bool {
     let report = WorkerReport {
         sessions: 2,
         faults: 0,
         memory: false,
         ledger_full: false,
     };
-    assert_eq!(rt; left.report, report);
+    left.text.as_slice() == b"SERVER_ERROR no server\r\nEND\r\n".as_slice()
+        && left.numbers.of(Kind::Probe) == 1
+        && left.numbers.of(Kind::Attempt) == 2
+        && left.report == report
+}
+
+#[test]
+fn idle_worker_probes(rt: HostRuntime) -> Result<(), Fail> {
+    let _stream: Option<TcpStream> = None;
+    let case = probed_when_idle(rt.alloc())?;
+    assert!(rt; is_as_probed(&work_without_lock(&rt, rt.alloc(), case)?));
+    Ok(())
+}
+
+#[test]
+fn idle_worker_in_a_lock_probes(rt: HostRuntime) -> Result<(), Fail> {
+    let _stream: Option<TcpStream> = None;
+    let case = probed_when_idle(rt.alloc())?;
+    assert!(rt; is_as_probed(&work_in_lock(&rt, rt.alloc(), case)?));
     Ok(())
 }
 
@@ -103,9 +186,13 @@ fn faults_and_a_full_ledger_are_reported(rt: HostRuntime) -> Result<(), Fail> {
     let _stream: Option<TcpStream> = None;
     let alloc = rt.alloc();
     let long = vec![in alloc; b'x'; 65_537]?;
-    let visits = [Visit::Client(&long), Visit::Client(b"get a\r\n")];
-    let scripts = outage(alloc)?;
-    let left = work(&rt, alloc, &visits, Vec::new(alloc), scripts, u64::MAX)?;
+    let case = Case {
+        visits: &[Visit::Client(&long), Visit::Client(b"get a\r\n")],
+        moments: Vec::new(alloc),
+        scripts: outage(alloc)?,
+        requests: u64::MAX,
+    };
+    let left = work_without_lock(&rt, alloc, case)?;
     let report = WorkerReport {
         sessions: 2,
         faults: 1,
@@ -123,9 +210,13 @@ fn faults_and_a_full_ledger_are_reported(rt: HostRuntime) -> Result<(), Fail> {
 fn probes_after_the_last_client_are_counted(rt: HostRuntime) -> Result<(), Fail> {
     let _stream: Option<TcpStream> = None;
     let alloc = rt.alloc();
-    let visits = [Visit::Client(b"get a\r\n"), Visit::Idle, Visit::Idle];
-    let moments = vec![in alloc; 0, 9_999, 10_000, 10_001]?;
-    let left = work(&rt, alloc, &visits, moments, outage(alloc)?, 0)?;
+    let case = Case {
+        visits: &OUTAGE[..3],
+        moments: vec![in alloc; 0, 9_999, 10_000, 10_001]?,
+        scripts: outage(alloc)?,
+        requests: 0,
+    };
+    let left = work_without_lock(&rt, alloc, case)?;
     assert_eq!(rt; left.numbers.of(Kind::Probe), 1);
     Ok(())
 }
