@@ -3,7 +3,6 @@
 use crate::event::{Event, What};
 use crate::moment::now;
 use crate::reader::LogReader;
-use crate::worker_log::WorkerLog;
 use crossbeam_channel::{Sender, TrySendError, bounded};
 use std::alloc::{AllocError, Global};
 use std::sync::atomic::{AtomicU64, Ordering};
@@ -11,7 +10,7 @@ use std::sync::{Arc, Wait};
 use std::time::Clock;
 
 /// How many events wait for the reader at most; more are counted and lost.
-const WAITING: usize = 4096;
+pub(crate) const WAITING: usize = 4096;
 
 /// How often a send is tried: beside another thread's send a channel with room may refuse one.
 const TRIES: u32 = 16;
@@ -69,18 +68,18 @@ impl Log {
         self.shared.is_some()
     }
 
-    /// Another end of the same log.
-    pub fn another(&self) -> Result<Log, AllocError> {
-        let shared = match &self.shared {
-            Some(shared) => Some(Arc::try_clone(shared)?),
-            None => None,
-        };
-        Ok(Log { shared })
-    }
-
-    /// The end of the log for the worker of this number.
-    pub fn worker(&self, alloc: Global, number: u32) -> Result<Arc<WorkerLog, Global>, AllocError> {
-        Ok(Arc::new(alloc, WorkerLog::new(self.another()?, number))?)
+    /// Another end of this log, or without one a log that takes nothing.
+    pub fn another(log: Option<&Log>) -> Result<Log, AllocError> {
+        match log {
+            Some(
+                Log {
+                    shared: Some(shared),
+                },
+            ) => Ok(Log {
+                shared: Some(Arc::try_clone(shared)?),
+            }),
+            _ => Ok(Log::off()),
+        }
     }
 
     /// Tells what happens at this moment.

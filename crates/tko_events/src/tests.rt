@@ -2,7 +2,9 @@
 
 use crate::event::{Cause, Change, Event, What};
 use crate::journal::Journal;
+use crate::log::{WAITING, open};
 use std::alloc::{AllocError, Global};
+use std::sync::atomic::Ordering;
 
 /// 2026-11-23, 12:41:41.007 in UTC.
 const MOMENT: u64 = 1_795_437_701_007;
@@ -75,5 +77,16 @@ fn a_line_for_each_event(rt: HostRuntime) -> Result<(), AllocError> {
         append_line(alloc, &mut text, &mut journal, what)?;
     }
     assert_eq!(&rt; text.as_str(), LINES);
+    Ok(())
+}
+
+#[test]
+fn an_event_without_room_is_lost_and_counted(rt: HostRuntime) -> Result<(), AllocError> {
+    let (log, reader) = open(rt.alloc())?;
+    for _ in 0..WAITING + 3 {
+        log.tell(&rt, What::Started);
+    }
+    assert_eq!(&rt; reader.receiver.len(), WAITING);
+    assert_eq!(&rt; reader.shared.lost.load(Ordering::SeqCst), 3);
     Ok(())
 }

@@ -3,7 +3,8 @@
 use crate::event::{Cause, Change, Event, What};
 use crate::log::Log;
 use crate::moment::now;
-use std::sync::{Mutex, Wait};
+use std::alloc::{AllocError, Global};
+use std::sync::{Arc, Mutex, Wait};
 use std::time::Clock;
 use tko_links::{NoMemory, Outcome};
 use tko_model::Reply;
@@ -25,21 +26,22 @@ pub struct WorkerLog {
 }
 
 impl WorkerLog {
-    pub(crate) fn new(log: Log, worker: u32) -> WorkerLog {
+    /// The end of this log, if there is one, for the worker of this number.
+    pub fn open(
+        alloc: Global,
+        log: Option<&Log>,
+        worker: u32,
+    ) -> Result<Arc<WorkerLog, Global>, AllocError> {
         let last = Last {
             moment: None,
             cause: None,
         };
-        WorkerLog {
-            log,
+        let end = WorkerLog {
+            log: Log::another(log)?,
             worker,
             last: Mutex::new(last),
-        }
-    }
-
-    /// The log that it is an end of.
-    pub fn log(&self) -> &Log {
-        &self.log
+        };
+        Ok(Arc::new(alloc, end)?)
     }
 
     /// Keeps what came of an exchange that failed, for the mark that may follow.
