@@ -4,13 +4,16 @@ ghost use Rattle.tko_server.specs.Accounts.{amount_of};
 
 use std::sync::{Mutex, Wait};
 use tko_desk::{Book, Kind, Share};
+use tko_events::Log;
 use tko_session::Counts;
 
-/// The share of one worker, and the book that all workers share.
+/// The share of one worker, and the book that all workers share, with the log that has the sum of
+/// their sessions.
 #[derive(Drop)]
 pub struct Account<'a> {
     pub book: &'a Mutex<Book>,
     pub share: &'a mut Share,
+    pub log: Log,
 }
 
 impl Account<'_> {

@@ -6,7 +6,8 @@
 //!   `WorkerReport` says what it met.
 //! - `Member`: what one worker of a `pool` is started with.
 //! - `run`: accepts connections over TCP and serves them by a pool, as its `Options` say;
-//!   `run_to_end` says what the workers met too.
+//!   `run_to_end` says what the workers met too, and `run_logged` has a `Logging` write the event
+//!   log meanwhile.
 //! - `Allotment`: how many workers and clients the process has descriptors for; `Patience`: how
 //!   long a server waits for a client.
 #![tactic(auto)]
@@ -16,6 +17,7 @@ mod account;
 mod allotment;
 mod clients;
 mod listening;
+mod logging;
 mod members;
 mod patience;
 mod pooling;
@@ -29,6 +31,7 @@ mod working;
 
 pub use account::Account;
 pub use allotment::Allotment;
+pub use logging::{Logging, run_logged};
 pub use patience::Patience;
 pub use pooling::{Member, pool};
 pub use report::WorkerReport;

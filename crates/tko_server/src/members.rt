@@ -9,9 +9,10 @@ use crate::clients::{Client, Clients};
 use crate::{Account, Member, Options, WorkerParts};
 use crossbeam_channel::Receiver;
 use std::alloc::Global;
-use std::sync::Mutex;
+use std::sync::{Arc, Mutex};
 use tko_bytes::NoMemory;
 use tko_desk::{Book, Share};
+use tko_events::{Log, LoggedIdle, LoggedLinks, LoggedSeating, WorkerLog};
 use tko_health::{Seating, SharedSeating};
 use tko_links::{IoRuntime, Links, TcpLinks, TcpWire};
 use tko_session::{Elapsed, Probers};
@@ -21,8 +22,9 @@ use tko_tracker::{IdlePass, Named};
 #[derive(Drop)]
 pub(crate) struct Shared<'o, N: Named> {
     pub(crate) options: &'o Options,
-    pub(crate) seating: SharedSeating<'o, N>,
+    pub(crate) seating: LoggedSeating<SharedSeating<'o, N>>,
     pub(crate) book: Mutex<Book>,
+    pub(crate) log: Option<&'o Log>,
     /// How many workers serve clients; the others end at once.
     pub(crate) workers: u32,
 }
@@ -31,9 +33,17 @@ pub(crate) struct Shared<'o, N: Named> {
 pub(crate) type ServerMember<'a, 'o, N> = Member<
     'a,
     Clients,
-    IdlePass,
-    SharedSeating<'o, N>,
-    TcpLinks,
+    LoggedIdle<IdlePass>,
+    LoggedSeating<SharedSeating<'o, N>>,
+    LoggedLinks<TcpLinks>,
+    Elapsed,
+>;
+
+/// What one of them works with.
+type LoggedParts<'a, 'o, N> = WorkerParts<
+    'a,
+    LoggedSeating<SharedSeating<'o, N>>,
+    LoggedLinks<TcpLinks>,
     Elapsed,
 >;
 
@@ -57,10 +67,11 @@ impl<'o, N: Named> Shared<'o, N> {
     {
         let mut members = Vec::new(alloc);
         for (idle, share) in passes.into_iter().zip(shares.iter_mut()) {
+            let log = WorkerLog::open(alloc, self.log, idle.number())?;
             members.push(Member {
                 source: self.source(&idle, accepted)?,
-                idle,
-                parts: self.parts(rt, alloc, share)?,
+                idle: LoggedIdle::new(idle, Arc::try_clone(&log)?),
+                parts: self.parts(rt, alloc, log, share)?,
             })?;
         }
         Ok(members)
@@ -84,24 +95,27 @@ impl<'o, N: Named> Shared<'o, N> {
         &'a self,
         rt: &R,
         alloc: Global,
+        log: Arc<WorkerLog, Global>,
         share: &'a mut Share,
-    ) -> Result<WorkerParts<'a, SharedSeating<'o, N>, TcpLinks, Elapsed>, NoMemory>
+    ) -> Result<LoggedParts<'a, 'o, N>, NoMemory>
         requires asked { N.tracker.settings ≡ tracker_settings self.now.options.now }
         ensures equipped { IfOk result (IsEquipped
-            ⟦<SharedSeating<'o, N> as Seating>⟧.servers ⟦<TcpLinks as Links>⟧.servers) }
+            ⟦<LoggedSeating<SharedSeating<'o, N>> as Seating>⟧.servers
+            ⟦<LoggedLinks<TcpLinks> as Links>⟧.servers) }
         ensures asked { IfOk result (HasOptions self.now.options.now) }
     {
         let addresses = self.options.config.addresses();
         let wire = TcpWire::new(alloc, addresses, self.options.timeout)?;
         Ok(WorkerParts {
             seating: &self.seating,
-            links: TcpLinks::new(alloc, wire)?,
+            links: LoggedLinks::new(TcpLinks::new(alloc, wire)?, log),
             config: self.options.config.copy(alloc)?,
             probers: Probers::new(alloc, self.options.delays, addresses.len())?,
             moments: Elapsed::new(rt),
             account: Account {
                 book: &self.book,
                 share,
+                log: Log::another(self.log)?,
             },
         })
     }

@@ -19,6 +19,7 @@ use std::sync::{Arc, Mutex};
 use std::thread;
 use std::thread::Threads;
 use tko_desk::{Book, Share, Totals, gather};
+use tko_events::{Log, LoggedSeating};
 use tko_health::SharedSeating;
 use tko_links::IoRuntime;
 use tko_model::{Settings, SettingsFault};
@@ -85,12 +86,26 @@ pub fn run_to_end<R: IoRuntime<Listener = TcpListener> + Threads + Sync>(
     ensures settings { (fault : SettingsFault) → (result ≡ Err (RunFault.Settings fault))
         ↔ (first_fault (tracker_settings options.now) ≡ Some fault) }
 {
+    run_told(rt, alloc, listener, options, None)
+}
+
+/// The same, where the workers tell the log what happens, if there is one.
+pub(crate) fn run_told<R: IoRuntime<Listener = TcpListener> + Threads + Sync>(
+    rt: &R,
+    alloc: Global,
+    listener: &TcpListener,
+    options: &Options,
+    log: Option<&Log>,
+) -> Result<Ended, RunFault>
+    ensures settings { (fault : SettingsFault) → (result ≡ Err (RunFault.Settings fault))
+        ↔ (first_fault (tracker_settings options.now) ≡ Some fault) }
+{
     let settings = Settings {
         servers: options.config.servers(),
         ..options.settings
     };
     let (tracker, passes) = open(alloc, settings)?;
-    run_with::<Brand, R>(rt, alloc, listener, options, &tracker, passes)
+    run_with::<Brand, R>(rt, alloc, listener, options, log, &tracker, passes)
 }
 
 /// The same over this tracker, which `N` names, with the passes of its threads.
@@ -99,6 +114,7 @@ fn run_with<'o, N: Named + Send + Sync, R: IoRuntime<Listener = TcpListener> + T
     alloc: Global,
     listener: &TcpListener,
     options: &'o Options,
+    log: Option<&'o Log>,
     tracker: &'o Tracker,
     passes: Vec<IdlePass>,
 ) -> Result<Ended, RunFault>
@@ -111,8 +127,12 @@ fn run_with<'o, N: Named + Send + Sync, R: IoRuntime<Listener = TcpListener> + T
     let (book, mut shares) = Book::open(alloc, 0, options.settings.threads)?;
     let shared = Shared {
         options,
-        seating: SharedSeating::<N>::new(tracker, options.config.servers() as usize),
+        seating: LoggedSeating::new(SharedSeating::<N>::new(
+            tracker,
+            options.config.servers() as usize,
+        )),
         book: Mutex::new(book),
+        log,
         workers: options.allotment().workers,
     };
     let report = serve_all(rt, alloc, listener, &shared, passes, &mut shares)?;

@@ -64,7 +64,8 @@ pub fn worker<R: IoRuntime, C: Source + Drop, S: Seating, L: Links + Drop, M: Mo
     for _ in rt.forever() {
         match source.next(rt) {
             Next::Connection(mut reader, mut writer) => {
-                working.serve(rt, alloc, &mut reader, &mut writer);
+                let is_faulty = working.serve(rt, alloc, &mut reader, &mut writer);
+                account.log.count_session(is_faulty);
                 working.settle(rt, &mut account);
             }
             Next::Idle => working.round(rt),
@@ -86,20 +87,22 @@ struct Working<H, L, M> {
 }
 
 impl<H: Health, L: Links, M: Moments> Working<H, L, M> {
-    /// Serves one client. A fault of its session is counted, and the worker goes on.
+    /// Serves one client, and returns whether its session ended by a fault. That is counted, and the
+    /// worker goes on.
     fn serve<R: IoRuntime, I: Inlet, O: Outlet>(
         &mut self,
         rt: &R,
         alloc: Global,
         reader: &mut I,
         writer: &mut O,
-    )
+    ) -> bool
         requires reach { Reaches H.servers L.servers self.old.parts }
         ensures reach { Reaches H.servers L.servers self.new.parts }
         ensures report { IsSessionCounted self.old.report self.new.report }
     {
         let served = serve(rt, alloc, reader, writer, &mut self.parts);
         self.report.count(&served);
+        served.is_err()
     }
 
     /// One round of the probers.

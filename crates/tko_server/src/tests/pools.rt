@@ -15,6 +15,7 @@ use std::test::Fail;
 use std::thread::Threads;
 use std::time::Clock;
 use tko_desk::{Book, Share};
+use tko_events::Log;
 use tko_health::{Health, LockedSeating, Seating, SharedSeating};
 use tko_links::{Script, Scripted};
 use tko_session::{Probers, Still};
@@ -91,6 +92,7 @@ impl<P: Drop, S: Seating<Idle = P>> Shared<S> {
             account: Account {
                 book: &self.book,
                 share,
+                log: Log::off(),
             },
         })
     }

@@ -12,6 +12,7 @@ use std::sync::{Mutex, Wait};
 use std::test::Fail;
 use std::time::Clock;
 use tko_desk::{Book, Kind, Numbers};
+use tko_events::Log;
 use tko_health::{LockedSeating, Seating, SharedSeating};
 use tko_links::{Script, Scripted};
 use tko_session::{Listed, Probers};
@@ -74,6 +75,7 @@ fn work<R: Wait + Net<Stream = TcpStream> + Clock, P: Drop, S: Seating<Idle = P>
         account: Account {
             book: &book,
             share: &mut share,
+            log: Log::off(),
         },
     };
     let (_, report) = worker(rt, alloc, source, seat, parts);

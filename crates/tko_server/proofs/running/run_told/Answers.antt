@@ -1,7 +1,7 @@
 use Rattle.std.proofs.Common.{◌∙◌, ap, refl, Err}
 use Rattle.std.proofs.lemmas.Result.{err_from_is_err_and}
 use Rattle.tko_server.proofs.RunLemmas.{not_opened, of_servers}
-use Rattle.tko_server.proofs.running.run_to_end.Goals as goal
+use Rattle.tko_server.proofs.running.run_told.Goals as goal
 
 pub returns-in_err-tracker : goal.returns-in_err-tracker
 returns-in_err-tracker g c =

@@ -1,0 +1,5 @@
+use Rattle.std.proofs.Common.{◌≡◌}
+use Rattle.tko_events.proofs.logged_seating.release_all.Given as goal
+
+abbrev pub invariant-loop-server : goal.invariant-loop-server
+invariant-loop-server g l = g.H.Health.servers l.health ≡ l.server-end

@@ -1,0 +1,118 @@
+//! What the log tells.
+ghost use Rattle.std.specs.Prelude.{◌≡◌};
+ghost use Rattle.tko_events.specs.Events.{cause_of, change_in};
+
+use tko_links::{NoMemory, Outcome};
+use tko_model::Reply;
+
+/// One event.
+#[derive(Clone, Copy, Debug, PartialEq, Eq)]
+pub struct Event {
+    /// In milliseconds since 1970; where there is none, the moment at which its line is written.
+    pub moment: Option<u64>,
+    pub what: What,
+}
+
+/// What happened.
+#[derive(Clone, Copy, Debug, PartialEq, Eq)]
+pub enum What {
+    /// The program has read its configuration.
+    Started,
+    /// Clients can connect.
+    Listening,
+    /// This worker changed the mark of a server, or probed it. The cause is what came of the
+    /// exchange before, if there was one.
+    Server {
+        server: usize,
+        worker: u32,
+        change: Change,
+        cause: Option<Cause>,
+    },
+    /// So many sessions have ended, of which so many by a fault.
+    Clients {
+        sessions: u64,
+        faults: u64,
+    },
+    /// The last event.
+    Ended,
+}
+
+/// What became of a server's mark, or that it was probed.
+#[derive(Clone, Copy, Debug, PartialEq, Eq)]
+pub enum Change {
+    MarkedSoft,
+    MarkedHard,
+    Hardened,
+    Unmarked,
+    Released,
+    Probed,
+}
+
+/// What came of an exchange.
+#[derive(Clone, Copy, Debug, PartialEq, Eq)]
+pub enum Cause {
+    Reply,
+    Timeout,
+    Refused,
+    Broken,
+    Spent,
+    Memory,
+}
+
+impl Change {
+    /// The change that this reply reports, if it reports one.
+    pub fn of(reply: Reply) -> Option<Change>
+        ensures { result ≡ change_in reply }
+    {
+        match reply {
+            Reply::TookSoft => Some(Change::MarkedSoft),
+            Reply::TookHard => Some(Change::MarkedHard),
+            Reply::Hardened => Some(Change::Hardened),
+            Reply::Unmarked(_) => Some(Change::Unmarked),
+            Reply::Released(_) => Some(Change::Released),
+            Reply::Up(_) | Reply::Marked(_) | Reply::Counted(_) | Reply::Full => None,
+            Reply::Already(_) | Reply::Worn | Reply::Contended => None,
+            Reply::Clean | Reply::Reset(_) | Reply::NotMine(_) => None,
+        }
+    }
+
+    /// The second word of its line.
+    pub fn word(self) -> &'static str {
+        match self {
+            Change::MarkedSoft | Change::MarkedHard => "marked",
+            Change::Hardened => "hardened",
+            Change::Unmarked => "unmarked",
+            Change::Released => "released",
+            Change::Probed => "probed",
+        }
+    }
+}
+
+impl Cause {
+    /// What came of a request or of a probe, without the response.
+    pub fn of(came: &Result<Outcome, NoMemory>) -> Cause
+        ensures { result ≡ cause_of came.now }
+    {
+        match came {
+            Ok(Outcome::Reply(_)) => Cause::Reply,
+            Ok(Outcome::Timeout) => Cause::Timeout,
+            Ok(Outcome::Refused) => Cause::Refused,
+            Ok(Outcome::Broken) => Cause::Broken,
+            Ok(Outcome::Spent) => Cause::Spent,
+            Err(_) => Cause::Memory,
+        }
+    }
+
+    /// The word of a cause in a line, `none` where there is none.
+    pub fn word(cause: Option<Cause>) -> &'static str {
+        match cause {
+            Some(Cause::Reply) => "reply",
+            Some(Cause::Timeout) => "timeout",
+            Some(Cause::Refused) => "refused",
+            Some(Cause::Broken) => "broken",
+            Some(Cause::Spent) => "spent",
+            Some(Cause::Memory) => "memory",
+            None => "none",
+        }
+    }
+}

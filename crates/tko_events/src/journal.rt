@@ -1,0 +1,152 @@
+//! The lines of the log.
+ghost use Rattle.std.specs.Prelude.{◌≡◌};
+
+use crate::event::{Cause, Change, Event, What};
+use crate::moment::Utc;
+use std::alloc::{AllocError, Global};
+
+/// The mark of a server in a line.
+#[derive(Clone, Copy, Debug, PartialEq, Eq)]
+enum Marked {
+    Up,
+    Soft,
+    Hard,
+}
+
+/// What the log knows of a server.
+#[derive(Clone, Copy, Debug, PartialEq, Eq)]
+struct Known {
+    mark: Marked,
+    /// The probes since it was marked.
+    probes: u64,
+}
+
+/// The lines of a server's events, with what they know of each server from the events before.
+#[derive(Drop)]
+pub struct Journal {
+    listen: String,
+    /// How many soft failures in a row mark a server.
+    failures: u32,
+    names: Vec<String>,
+    servers: Vec<Known>,
+}
+
+impl Journal {
+    /// No events yet, of a program that listens here, over servers of these names.
+    pub fn new(
+        alloc: Global,
+        listen: String,
+        failures: u32,
+        names: Vec<String>,
+    ) -> Result<Journal, AllocError> {
+        let up = Known {
+            mark: Marked::Up,
+            probes: 0,
+        };
+        let servers = vec![in alloc; up; names.len()]?;
+        Ok(Journal {
+            listen,
+            failures,
+            names,
+            servers,
+        })
+    }
+
+    /// The line of an event; where the event has no moment, it happens at this one.
+    pub fn line(&mut self, alloc: Global, event: Event, now: u64) -> Result<String, AllocError> {
+        let utc = Utc(event.moment.unwrap_or(now));
+        match event.what {
+            What::Started => format!(in alloc; "{utc} started servers={}\n", self.names.len()),
+            What::Listening => format!(in alloc; "{utc} listening address={}\n", self.listen),
+            What::Server {
+                server,
+                worker,
+                change,
+                cause,
+            } => self.server_line(alloc, utc, server, worker, change, cause),
+            What::Clients { sessions, faults } => {
+                format!(in alloc; "{utc} clients sessions={sessions} faults={faults}\n")
+            }
+            What::Ended => format!(in alloc; "{utc} ended\n"),
+        }
+    }
+
+    /// The line of a server's event.
+    fn server_line(
+        &mut self,
+        alloc: Global,
+        utc: Utc,
+        server: usize,
+        worker: u32,
+        change: Change,
+        cause: Option<Cause>,
+    ) -> Result<String, AllocError> {
+        let word = change.word();
+        let cause = Cause::word(cause);
+        let (mark, count) = self.note(server, change);
+        let (name, mark) = (self.name(server), mark.word());
+        format!(in alloc;
+            "{utc} {word} server={name} mark={mark} worker={worker} outcome={cause} count={count}\n"
+        )
+    }
+
+    /// The address of a server.
+    fn name(&self, server: usize) -> &str {
+        match self.names.get(server) {
+            Some(name) => name.as_str(),
+            None => "?",
+        }
+    }
+
+    /// Notes an event of a server. Returns the server's mark from then on, and the count of its
+    /// line: the failures that made a mark, or else the probes since then.
+    fn note(&mut self, server: usize, change: Change) -> (Marked, u64) {
+        let failures = u64::from(self.failures);
+        match self.servers.get_mut(server) {
+            Some(known) => known.note(failures, change),
+            None => (Marked::Up, 0),
+        }
+    }
+}
+
+impl Known {
+    /// Notes an event. So many failures in a row make a soft mark.
+    fn note(&mut self, failures: u64, change: Change) -> (Marked, u64) {
+        let count = match change {
+            Change::MarkedSoft => self.begin(Marked::Soft, failures),
+            Change::MarkedHard => self.begin(Marked::Hard, 1),
+            Change::Hardened => self.turn(Marked::Hard),
+            Change::Unmarked | Change::Released => self.turn(Marked::Up),
+            Change::Probed => self.count_probe(),
+        };
+        (self.mark, count)
+    }
+
+    /// A mark of this kind begins, made by this many failures.
+    fn begin(&mut self, mark: Marked, failures: u64) -> u64 {
+        self.mark = mark;
+        self.probes = 0;
+        failures
+    }
+
+    /// The mark turns into this one.
+    fn turn(&mut self, mark: Marked) -> u64 {
+        self.mark = mark;
+        self.probes
+    }
+
+    fn count_probe(&mut self) -> u64 {
+        self.probes = self.probes.saturating_add(1);
+        self.probes
+    }
+}
+
+impl Marked {
+    fn word(self) -> &'static str {
+        match self {
+            Marked::Up => "up",
+            Marked::Soft => "soft",
+            Marked::Hard => "hard",
+        }
+    }
+}

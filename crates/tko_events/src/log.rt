@@ -1,0 +1,125 @@
+//! The end of the log that takes events.
+
+use crate::event::{Event, What};
+use crate::moment::now;
+use crate::reader::LogReader;
+use crossbeam_channel::{Sender, TrySendError, bounded};
+use std::alloc::{AllocError, Global};
+use std::sync::atomic::{AtomicU64, Ordering};
+use std::sync::{Arc, Wait};
+use std::time::Clock;
+
+/// How many events wait for the reader at most; more are counted and lost.
+pub(crate) const WAITING: usize = 4096;
+
+/// How often a send is tried: beside another thread's send a channel with room may refuse one.
+const TRIES: u32 = 16;
+
+/// What all ends of a log share.
+#[derive(Drop)]
+pub(crate) struct Shared {
+    pub(crate) sender: Sender<Event>,
+    pub(crate) lost: AtomicU64,
+    pub(crate) sessions: AtomicU64,
+    pub(crate) faults: AtomicU64,
+    pub(crate) ended: AtomicU64,
+}
+
+/// Takes events from any thread. It never waits for a reader: where no room is left, an event is
+/// lost and counted. A log that is off takes nothing.
+#[derive(Drop)]
+pub struct Log {
+    shared: Option<Arc<Shared, Global>>,
+}
+
+/// A log and its reader.
+pub fn open(alloc: Global) -> Result<(Log, LogReader), AllocError> {
+    let (sender, receiver) = bounded(alloc, WAITING)?;
+    let shared = Arc::new(
+        alloc,
+        Shared {
+            sender,
+            lost: AtomicU64::new(0),
+            sessions: AtomicU64::new(0),
+            faults: AtomicU64::new(0),
+            ended: AtomicU64::new(0),
+        },
+    )?;
+    let reader = LogReader {
+        receiver,
+        shared: Arc::try_clone(&shared)?,
+    };
+    Ok((
+        Log {
+            shared: Some(shared),
+        },
+        reader,
+    ))
+}
+
+impl Log {
+    /// A log that takes nothing.
+    pub fn off() -> Log {
+        Log { shared: None }
+    }
+
+    /// Whether it takes events.
+    pub(crate) fn is_on(&self) -> bool {
+        self.shared.is_some()
+    }
+
+    /// Another end of this log, or without one a log that takes nothing.
+    pub fn another(log: Option<&Log>) -> Result<Log, AllocError> {
+        match log {
+            Some(
+                Log {
+                    shared: Some(shared),
+                },
+            ) => Ok(Log {
+                shared: Some(Arc::try_clone(shared)?),
+            }),
+            _ => Ok(Log::off()),
+        }
+    }
+
+    /// Tells what happens at this moment.
+    pub fn tell<R: Wait + Clock>(&self, rt: &R, what: What) {
+        if self.is_on() {
+            let moment = Some(now(rt));
+            self.send(rt, Event { moment, what });
+        }
+    }
+
+    /// Counts a session that has ended.
+    pub fn count_session(&self, is_faulty: bool) {
+        if let Some(shared) = &self.shared {
+            shared.sessions.fetch_add(1, Ordering::SeqCst);
+            shared
+                .faults
+                .fetch_add(u64::from(is_faulty), Ordering::SeqCst);
+        }
+    }
+
+    /// Ends the log: its reader writes what is waiting, and returns.
+    pub fn end<R: Wait + Clock>(&self, rt: &R) {
+        if let Some(shared) = &self.shared {
+            shared.ended.store(1, Ordering::SeqCst);
+            self.tell(rt, What::Ended);
+        }
+    }
+
+    /// Sends an event, or counts it as lost.
+    pub(crate) fn send<R: Wait>(&self, rt: &R, event: Event) {
+        let Some(shared) = &self.shared else {
+            return;
+        };
+        for _ in 0..TRIES {
+            match shared.sender.try_send(rt, event) {
+                Ok(()) => return,
+                Err(TrySendError::Full(_)) => {}
+                Err(_) => break,
+            }
+        }
+        shared.lost.fetch_add(1, Ordering::SeqCst);
+    }
+}

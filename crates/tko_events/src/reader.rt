@@ -1,0 +1,109 @@
+//! The end of the log that gives events.
+
+use crate::event::{Event, What};
+use crate::journal::Journal;
+use crate::log::Shared;
+use crate::moment::{Utc, now};
+use crossbeam_channel::{Receiver, RecvTimeoutError};
+use std::alloc::{AllocError, Global};
+use std::sync::atomic::Ordering;
+use std::sync::{Arc, Wait};
+use std::time::{Clock, Duration};
+
+/// How long it waits for the next event, in milliseconds.
+const TURN: u64 = 1000;
+
+/// How long the sum of the clients is kept back at least, in milliseconds.
+const SUM_EVERY: u64 = 10_000;
+
+/// The end of the log that gives events.
+#[derive(Drop)]
+pub struct LogReader {
+    pub(crate) receiver: Receiver<Event>,
+    pub(crate) shared: Arc<Shared, Global>,
+}
+
+/// What was written of the clients.
+#[derive(Clone, Copy)]
+struct Sum {
+    moment: u64,
+    faults: u64,
+}
+
+impl LogReader {
+    /// Writes a line for each event to standard error, until the log has ended. What cannot be
+    /// written is dropped, and so is a line for which there is no memory.
+    pub fn write_lines<R: Wait + Clock + Eprint>(
+        &self,
+        rt: &R,
+        alloc: Global,
+        journal: &mut Journal,
+    ) {
+        let mut sum = Sum {
+            moment: now(rt),
+            faults: 0,
+        };
+        for _ in rt.forever() {
+            let came = self.receiver.recv_timeout(rt, Duration::from_millis(TURN));
+            self.write_lost(rt);
+            match came {
+                Ok(event) if event.what == What::Ended => break,
+                Ok(event) => write_event(rt, alloc, journal, event),
+                Err(RecvTimeoutError::Timeout) if self.has_ended() => break,
+                Err(RecvTimeoutError::Timeout) => {}
+                Err(RecvTimeoutError::Disconnected) => break,
+            }
+            self.write_sum(rt, alloc, journal, &mut sum, SUM_EVERY);
+        }
+        self.write_sum(rt, alloc, journal, &mut sum, 0);
+        let ended = Event {
+            moment: None,
+            what: What::Ended,
+        };
+        write_event(rt, alloc, journal, ended);
+    }
+
+    fn has_ended(&self) -> bool {
+        self.shared.ended.load(Ordering::SeqCst) == 1
+    }
+
+    /// Writes how many events were lost since the last time, if there are any.
+    fn write_lost<R: Wait + Clock + Eprint>(&self, rt: &R) {
+        let lost = self.shared.lost.swap(0, Ordering::SeqCst);
+        if 0 < lost {
+            let utc = Utc(now(rt));
+            let _ = eprintln!(rt; "{utc} lost events={lost}");
+        }
+    }
+
+    /// Writes the sum of the clients, where more of them ended by a fault, at most once in this
+    /// many milliseconds.
+    fn write_sum<R: Wait + Clock + Eprint>(
+        &self,
+        rt: &R,
+        alloc: Global,
+        journal: &mut Journal,
+        sum: &mut Sum,
+        every: u64,
+    ) {
+        let moment = now(rt);
+        let faults = self.shared.faults.load(Ordering::SeqCst);
+        if faults == sum.faults || moment.saturating_sub(sum.moment) < every {
+            return;
+        }
+        *sum = Sum { moment, faults };
+        let sessions = self.shared.sessions.load(Ordering::SeqCst);
+        let event = Event {
+            moment: Some(moment),
+            what: What::Clients { sessions, faults },
+        };
+        write_event(rt, alloc, journal, event);
+    }
+}
+
+/// Writes the line of an event.
+fn write_event<R: Clock + Eprint>(rt: &R, alloc: Global, journal: &mut Journal, event: Event) {
+    if let Ok(line) = journal.line(alloc, event, now(rt)) {
+        let _ = rt.eprint(line.as_str());
+    }
+}

@@ -1,0 +1,92 @@
+//! The lines of the log, and health and links that tell it what happens.
+
+use crate::event::{Cause, Change, Event, What};
+use crate::journal::Journal;
+use crate::log::{WAITING, open};
+use std::alloc::{AllocError, Global};
+use std::sync::atomic::Ordering;
+
+/// 2026-11-23, 12:41:41.007 in UTC.
+const MOMENT: u64 = 1_795_437_701_007;
+
+/// The lines of the death and the return of the second server.
+const LINES: &str = "\
+2026-11-23T12:41:41.007Z started servers=2
+2026-11-23T12:41:41.007Z listening address=127.0.0.1:11300
+2026-11-23T12:41:41.007Z marked server=[::1]:11212 mark=soft worker=3 outcome=timeout count=5
+2026-11-23T12:41:41.007Z probed server=[::1]:11212 mark=soft worker=3 outcome=refused count=1
+2026-11-23T12:41:41.007Z hardened server=[::1]:11212 mark=hard worker=3 outcome=refused count=1
+2026-11-23T12:41:41.007Z probed server=[::1]:11212 mark=hard worker=3 outcome=reply count=2
+2026-11-23T12:41:41.007Z unmarked server=[::1]:11212 mark=up worker=3 outcome=reply count=2
+2026-11-23T12:41:41.007Z marked server=[::1]:11212 mark=hard worker=3 outcome=refused count=1
+2026-11-23T12:41:41.007Z released server=[::1]:11212 mark=up worker=3 outcome=none count=0
+2026-11-23T12:41:41.007Z clients sessions=9 faults=2
+2026-11-23T12:41:41.007Z ended
+";
+
+fn journal(alloc: Global) -> Result<Journal, AllocError> {
+    let mut names = Vec::new(alloc);
+    names.push(String::from_str(alloc, "127.0.0.1:11211")?)?;
+    names.push(String::from_str(alloc, "[::1]:11212")?)?;
+    let listen = String::from_str(alloc, "127.0.0.1:11300")?;
+    Journal::new(alloc, listen, 5, names)
+}
+
+fn of_server(change: Change, cause: Option<Cause>) -> What {
+    What::Server {
+        server: 1,
+        worker: 3,
+        change,
+        cause,
+    }
+}
+
+fn append_line(
+    alloc: Global,
+    text: &mut String,
+    journal: &mut Journal,
+    what: What,
+) -> Result<(), AllocError> {
+    let moment = None;
+    let line = journal.line(alloc, Event { moment, what }, MOMENT)?;
+    text.push_str(line.as_str())
+}
+
+#[test]
+fn a_line_for_each_event(rt: HostRuntime) -> Result<(), AllocError> {
+    let alloc = rt.alloc();
+    let mut journal = journal(alloc)?;
+    let events = [
+        What::Started,
+        What::Listening,
+        of_server(Change::MarkedSoft, Some(Cause::Timeout)),
+        of_server(Change::Probed, Some(Cause::Refused)),
+        of_server(Change::Hardened, Some(Cause::Refused)),
+        of_server(Change::Probed, Some(Cause::Reply)),
+        of_server(Change::Unmarked, Some(Cause::Reply)),
+        of_server(Change::MarkedHard, Some(Cause::Refused)),
+        of_server(Change::Released, None),
+        What::Clients {
+            sessions: 9,
+            faults: 2,
+        },
+        What::Ended,
+    ];
+    let mut text = String::new(alloc);
+    for what in events {
+        append_line(alloc, &mut text, &mut journal, what)?;
+    }
+    assert_eq!(&rt; text.as_str(), LINES);
+    Ok(())
+}
+
+#[test]
+fn an_event_without_room_is_lost_and_counted(rt: HostRuntime) -> Result<(), AllocError> {
+    let (log, reader) = open(rt.alloc())?;
+    for _ in 0..WAITING + 3 {
+        log.tell(&rt, What::Started);
+    }
+    assert_eq!(&rt; reader.receiver.len(), WAITING);
+    assert_eq!(&rt; reader.shared.lost.load(Ordering::SeqCst), 3);
+    Ok(())
+}

@@ -1,0 +1,118 @@
+//! The server over TCP, and its event log beside it.
+ghost use Rattle.std.specs.Prelude.{◌≡◌, ◌↔◌, Err, Some};
+ghost use Rattle.tko_model.specs.Ranges.{first_fault};
+ghost use Rattle.tko_server.specs.Runs.{tracker_settings};
+
+use crate::RunFault;
+use crate::running::{Ended, Options, run_to_end, run_told};
+use std::alloc::{AllocError, Global};
+use std::net::TcpListener;
+use std::sync::Wait;
+use std::thread;
+use std::thread::Threads;
+use std::time::Clock;
+use tko_events::{Journal, Log, LogReader, What, open};
+use tko_links::IoRuntime;
+use tko_model::SettingsFault;
+use tko_pools::Config;
+
+/// An event log that is to be written: both its ends, and the lines.
+#[derive(Drop)]
+pub struct Logging {
+    log: Log,
+    reader: LogReader,
+    journal: Journal,
+}
+
+impl Logging {
+    /// A log of a server of this configuration, which will listen at this address, and where so many
+    /// soft failures in a row mark a server. Its first event is that the program has started.
+    pub fn start<R: Wait + Clock>(
+        rt: &R,
+        alloc: Global,
+        listen: &str,
+        config: &Config,
+        failures: u32,
+    ) -> Result<Logging, AllocError> {
+        let (log, reader) = open(alloc)?;
+        let mut names = Vec::new(alloc);
+        for address in config.addresses() {
+            names.push(String::from_str(alloc, address.as_str())?)?;
+        }
+        let listen = String::from_str(alloc, listen)?;
+        let journal = Journal::new(alloc, listen, failures, names)?;
+        log.tell(rt, What::Started);
+        Ok(Logging {
+            log,
+            reader,
+            journal,
+        })
+    }
+
+    /// Tells what happens.
+    pub fn tell<R: Wait + Clock>(&self, rt: &R, what: What) {
+        self.log.tell(rt, what);
+    }
+}
+
+/// What `run_to_end` does, while the log, if there is one, is written to standard error. It returns
+/// once the log is written: where nobody reads standard error, it waits then, and the workers before
+/// that do not.
+pub fn run_logged<R: IoRuntime<Listener = TcpListener> + Threads + Sync + Eprint>(
+    rt: &R,
+    alloc: Global,
+    listener: &TcpListener,
+    options: &Options,
+    logging: Option<Logging>,
+) -> Result<Ended, RunFault>
+    ensures settings { (fault : SettingsFault) → (result ≡ Err (RunFault.Settings fault))
+        ↔ (first_fault (tracker_settings options.now) ≡ Some fault) }
+{
+    match logging {
+        Some(logging) => run_beside(rt, alloc, listener, options, logging),
+        None => run_to_end(rt, alloc, listener, options),
+    }
+}
+
+/// Runs the server and then ends the log.
+fn run_and_end<R: IoRuntime<Listener = TcpListener> + Threads + Sync>(
+    rt: &R,
+    alloc: Global,
+    listener: &TcpListener,
+    options: &Options,
+    log: &Log,
+) -> Result<Ended, RunFault>
+    ensures settings { (fault : SettingsFault) → (result ≡ Err (RunFault.Settings fault))
+        ↔ (first_fault (tracker_settings options.now) ≡ Some fault) }
+{
+    let ended = run_told(rt, alloc, listener, options, Some(log));
+    log.end(rt);
+    ended
+}
+
+/// The same with a log.
+fn run_beside<R: IoRuntime<Listener = TcpListener> + Threads + Sync + Eprint>(
+    rt: &R,
+    alloc: Global,
+    listener: &TcpListener,
+    options: &Options,
+    logging: Logging,
+) -> Result<Ended, RunFault>
+    ensures settings { (fault : SettingsFault) → (result ≡ Err (RunFault.Settings fault))
+        ↔ (first_fault (tracker_settings options.now) ≡ Some fault) }
+{
+    let Logging {
+        log,
+        reader,
+        mut journal,
+    } = logging;
+    let (ended, _written) = thread::join(
+        rt,
+        || -> Result<Ended, RunFault>
+            ensures settings { (fault : SettingsFault) → (result ≡ Err (RunFault.Settings fault))
+                ↔ (first_fault (tracker_settings options.entry.now) ≡ Some fault) }
+        { run_and_end(rt, alloc, listener, options, &log) },
+        || reader.write_lines(rt, alloc, &mut journal),
+    );
+    ended
+}
