@@ -20,9 +20,9 @@ pub record Left : Type 0 where
   pub settings : Settings
   pub shared : Shared
 
--- what the threads of these passes left: the servers are the replay of one history, which begins with
--- what each pass has seen; the changes in it by each number are, in order, those of its pass's calls,
--- and no other number stands in it; no server is marked, and no slot is taken
+-- what the threads of these passes left: the servers are the replay of one history, which begins
+-- with what each pass has seen; the changes in it by each number are, in order, those of its pass's
+-- calls, and no other number stands in it; no server is marked, and no slot is taken
 pub record IsLeft (s : Settings) (passes : List Pass) (shared : Shared) : Type 0 where
   pub history : List Change
   pub replays : Replays s history shared.servers

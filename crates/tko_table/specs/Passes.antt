@@ -117,8 +117,9 @@ after_step pass call phase read history =
       settings = pass.settings;
     }
 
--- the changes by a thread of this number are those of its answered calls, in their order, and the one
--- that its call under way has made; and it has seen them. A thread without a number made no call
+-- the changes by a thread of this number are those of its answered calls, in their order, and the
+-- one that its call under way has made; and it has seen them. A thread without a number made no
+-- call
 abbrev pub IsTold : Option ℕ → List Change → Pass → Type 0
 IsTold None history pass = pass.mine ≡ []
 IsTold (Some number) history pass =

@@ -100,8 +100,8 @@ abbrev pub IsPlanned : Settings → ThreadState → Type 0
 IsPlanned s (InCall call phase) = IsPlannedAt s call phase
 IsPlanned s state = Unit {0}
 
--- the servers are the replay of the history, and each pass has seen a beginning of it; each change is by
--- a thread that drew a number, whose pass tells its own
+-- the servers are the replay of the history, and each pass has seen a beginning of it; each change
+-- is by a thread that drew a number, whose pass tells its own
 pub record IsToldHalf
     (s : Settings) (shared : Shared) (passes : List Pass) (history : List Change) : Type 0
   where

@@ -46,9 +46,9 @@ abbrev pub read_in : Action → ℕ → Seen
 read_in action number = seen_in action (held_by action number)
 
 -- a step of this call at this phase, by the pass of a thread: it finds the words of some core whose
--- servers are the replay of the history, which begins with what the pass has seen; it reads and leaves
--- what the core's step does; the pass has then seen the whole history, a change that the step makes
--- goes last in it, and an answer goes last in the thread's calls
+-- servers are the replay of the history, which begins with what the pass has seen; it reads and
+-- leaves what the core's step does; the pass has then seen the whole history, a change that the
+-- step makes goes last in it, and an answer goes last in the thread's calls
 pub record Takes (before : Pass) (call : Call) (phase : Phase) (it : Seen) (after : Pass) : Type 0
   where
     pub shared : Shared
@@ -188,8 +188,8 @@ pub record IsWritable (found : ServerState) (mark : Mark) : Type 0 where
   pub new : IsMark mark
   pub below : found.stamp + 1 < stamp_end
 
--- the first of these passes that isn't enrolled drew this number; where they are all passes that there
--- are, it is how many of them were enrolled
+-- the first of these passes that isn't enrolled drew this number; where they are all passes that
+-- there are, it is how many of them were enrolled
 pub record Enrols (before : List Pass) (number : ℕ) (after : List Pass) : Type 0 where
   pub history : List Change
   pub begins : All (λ pass. Begins pass.seen history) before

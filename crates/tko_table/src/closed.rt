@@ -68,8 +68,8 @@ impl Drop for ClosedWords {
 }
 
 impl Words {
-    /// Closes the words with the seat that has the passes of all threads. None of them makes a call,
-    /// or owns a server.
+    /// Closes the words with the seat that has the passes of all threads. None of them makes a
+    /// call, or owns a server.
     pub fn close(self, seat: Seat) -> ClosedWords
         requires seat { seat.table_id ≡ self.table.shared.table_id }
         requires all { length (view_of seat) ≡ self.settings.threads }

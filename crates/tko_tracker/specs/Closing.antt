@@ -34,8 +34,8 @@ TellsAll history it =
     (number : ℕ) →
     it.pass.state ≡ Idle number → made_by number history ≡ changes_in number it.pass.mine
 
--- what a tracker is at its end: its servers are the replay of one history, in which each pass' changes
--- stand once and in order, and no others; no server is marked, and no slot is taken
+-- what a tracker is at its end: its servers are the replay of one history, in which each pass'
+-- changes stand once and in order, and no others; no server is marked, and no slot is taken
 pub record IsFinal (tracker : TrackerId) (passes : List Seated) (left : Left) : Type 0 where
   pub settings : left.settings ≡ tracker.settings
   pub history : List Change
