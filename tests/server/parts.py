@@ -17,6 +17,8 @@ from ports import HOST, free_port, is_open, wait_until
 from talk import Client
 
 PROGRAM = os.environ["TKOPROXY"]
+# A line of the event log: its time, the event, and what is told of it.
+LOG_LINE = rb"\d{4}-\d\d-\d\dT\d\d:\d\d:\d\d\.\d{3}Z [a-z]+( [a-z]+=[^ \n]+)*"
 started = []
 
 
@@ -194,7 +196,7 @@ class ServerTest(unittest.TestCase):
     def close_proxy(self, proxy, may_end):
         running, text = proxy.close()
         self.assertTrue(running or may_end, "the program ended before the test did")
-        self.assertRegex(text, rb"\A(note: [^\n]+\n)+\Z")
+        self.assertRegex(text, rb"\A(note: [^\n]+\n|" + LOG_LINE + rb"\n)+\Z")
 
     def client(self, port):
         return self.kept(Client(port))

@@ -24,7 +24,7 @@ class Descriptors(ServerTest):
                 (1000, 4, b"note: 116 descriptors needed at most, 1000 allowed: 4 workers, 68 clients at once\n"),
                 (128, 16, b"note: 224 descriptors needed at most, 128 allowed: 12 workers, 16 clients at once\n"),
                 (20, 16, b"note: 224 descriptors needed at most, 20 allowed: 1 workers, 1 clients at once\n")):
-            proxy = self.proxy(configuration(only=servers), open_files=open_files, threads=threads)
+            proxy = self.proxy(configuration(only=servers), open_files=open_files, threads=threads, log="off")
             self.assertEqual(proxy.error_text(), line)
 
     def test_more_clients_than_descriptors(self):

@@ -27,7 +27,7 @@ const REFUSED: u8 = 2;
 /// status: 0 where it was done, 1 after a fault, 2 where the words were refused. Replies and runs
 /// go to `output`, and the line of a fault to `faults`.
 pub fn command<
-    R: IoRuntime<Listener = TcpListener> + Threads + Sync + Files,
+    R: IoRuntime<Listener = TcpListener> + Threads + Sync + Files + Eprint,
     I: Inlet,
     O: Outlet,
     F: Outlet,
@@ -117,13 +117,11 @@ fn run_check<R: IoRuntime + Files, O: Outlet, F: Outlet>(
 }
 
 /// Serves clients, and returns the status.
-fn run_server<R: IoRuntime<Listener = TcpListener> + Threads + Sync + Files, O: Outlet, F: Outlet>(
-    rt: &R,
-    alloc: Global,
-    options: ServeOptions,
-    output: &mut O,
-    faults: &mut F,
-) -> u8
+fn run_server<
+    R: IoRuntime<Listener = TcpListener> + Threads + Sync + Files + Eprint,
+    O: Outlet,
+    F: Outlet,
+>(rt: &R, alloc: Global, options: ServeOptions, output: &mut O, faults: &mut F) -> u8
     ensures status { result ≤ 1 }
     ensures done { result ≡ 0 → IsQuiet O.takes F.takes F.failures
         output.old output.new faults.old faults.new }
@@ -138,7 +136,7 @@ fn run_server<R: IoRuntime<Listener = TcpListener> + Threads + Sync + Files, O: 
 
 /// Serves clients over the configuration of the options, and returns the status.
 fn serve_loaded<
-    R: IoRuntime<Listener = TcpListener> + Threads + Sync + Files,
+    R: IoRuntime<Listener = TcpListener> + Threads + Sync + Files + Eprint,
     O: Outlet,
     F: Outlet,
 >(rt: &R, alloc: Global, options: &ServeOptions, output: &mut O, faults: &mut F) -> u8

@@ -1,28 +1,29 @@
 //! The command `serve`: a server over TCP, and its totals.
-ghost use Rattle.std.specs.Prelude.{OnOk, IfErr, OnErr};
+ghost use Rattle.std.specs.Prelude.{◌≡◌, IfOk, OnOk, IfErr, OnErr, bytes_eq, codes, is_some, string_bytes};
 ghost use Rattle.tko_cli.specs.Notices.{HasNotices};
 ghost use Rattle.tko_cli.specs.Serving.{HasServed, IsSilentOrBegun, ServeFails};
 
 use crate::Fault;
 use crate::notice::{Notice, write_notice, write_notice_if};
 use crate::open_files::open_file_limit;
-use crate::planned::plan_of;
+use crate::planned::{Plan, plan_of};
 use crate::totals::totals_lines;
 use crate::writing::write_text;
-use std::alloc::Global;
+use std::alloc::{AllocError, Global};
 use std::fs::Files;
 use std::net::TcpListener;
 use std::thread::Threads;
+use tko_events::What;
 use tko_links::IoRuntime;
 use tko_options::ServeOptions;
-use tko_server::{WorkerReport, run_to_end};
+use tko_server::{Logging, WorkerReport, run_logged};
 use tko_session::Outlet;
 
 /// Serves clients over TCP until the last of the connections has ended, and then prints the totals.
 /// `ready` is printed once clients can connect. Before it a notice says what the server does with its
 /// descriptors, and before the totals notices say what the workers met.
 pub(crate) fn serve<
-    R: IoRuntime<Listener = TcpListener> + Threads + Sync + Files,
+    R: IoRuntime<Listener = TcpListener> + Threads + Sync + Files + Eprint,
     O: Outlet,
     F: Outlet,
 >(
@@ -39,17 +40,45 @@ pub(crate) fn serve<
         output.old output.new faults.old faults.new) }
 {
     let plan = plan_of(alloc, options)?;
+    let logging = logging_of(rt, alloc, options, &plan)?;
     let Ok(listener) = TcpListener::bind(rt, options.listen.as_str()) else {
         return Err(Fault::Listen);
     };
     let server = plan.server(options, open_file_limit(rt, alloc));
     note_descriptors(rt, alloc, faults, &server);
+    tell_listening(rt, &logging);
     write_text(rt, output, b"ready\n")?;
-    let ended = run_to_end(rt, alloc, &listener, &server)?;
+    let ended = run_logged(rt, alloc, &listener, &server, logging)?;
     report(rt, alloc, faults, &ended.report);
     let lines = totals_lines(alloc, &ended.totals)?;
     write_text(rt, output, &lines)?;
     Ok(())
+}
+
+/// The event log that the options ask for, if they do. Its lines go to the standard error of the
+/// runtime, and not to the outlet of the faults.
+fn logging_of<R: IoRuntime>(
+    rt: &R,
+    alloc: Global,
+    options: &ServeOptions,
+    plan: &Plan,
+) -> Result<Option<Logging>, AllocError>
+    ensures { IfOk result (λ logging.
+        is_some logging ≡ bytes_eq (string_bytes options.now.log) (codes "stderr")) }
+{
+    if !options.has_log() {
+        return Ok(None);
+    }
+    let failures = options.failures;
+    let logging = Logging::start(rt, alloc, options.listen.as_str(), &plan.config, failures)?;
+    Ok(Some(logging))
+}
+
+/// Tells the log that clients can connect.
+fn tell_listening<R: IoRuntime>(rt: &R, logging: &Option<Logging>) {
+    if let Some(logging) = logging {
+        logging.tell(rt, What::Listening);
+    }
 }
 
 /// Writes what a server does with the descriptors that it may have open.

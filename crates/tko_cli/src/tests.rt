@@ -35,7 +35,15 @@ fn tape(alloc: Global, bytes: &str, greatest: usize) -> Result<Taped, AllocError
 }
 
 /// The status of a line's command over these ends, what it writes, and the line of its fault.
-fn came<R: Wait + Net<Stream = TcpStream, Listener = TcpListener> + Clock + Threads + Sync + Files>(
+fn came<
+    R: Wait
+        + Net<Stream = TcpStream, Listener = TcpListener>
+        + Clock
+        + Threads
+        + Sync
+        + Files
+        + Eprint,
+>(
     rt: &R,
     alloc: Global,
     line: &str,

@@ -1,10 +1,10 @@
 -- What the words of the command line ask for.
-use Rattle.std.specs.Prelude.{◌≡◌, ℕ, List, Some, codes, option_map}
+use Rattle.std.specs.Prelude.{◌≡◌, ℕ, Bool, true, List, Some, codes, option_map, string_bytes}
 use Rattle.clap.specs.Simple.{subcommand_rows_of}
 use Rattle.clap.specs.Words.{HasMatchesOf, rows_of, subcommand_name_of}
 use Rattle.clap.specs.declared.parser.matches.ArgMatches.{ArgMatches}
 use Rattle.clap.specs.declared.parser.matches.Found.{Found}
-use Rattle.tko_options.specs.Found.{AreCheckFound, AreDryFound, AreFound}
+use Rattle.tko_options.specs.Found.{AreCheckFound, AreDryFound, AreFound, is_log_place}
 use Rattle.tko_options.specs.Program.{program_app}
 use Rattle.tko_options.specs.declared.asked.Asked.{Asked}
 use Rattle.tko_options.specs.declared.asked.Asked.TheVariants as asked
@@ -29,6 +29,11 @@ AsksFor matches (asked.Serve options) =
     IsCommandWith (codes "serve") (λ found. AreFound found options) matches
 AsksFor matches (asked.Check options) =
     IsCommandWith (codes "check") (λ found. AreCheckFound found options) matches
+
+-- a server has an event log where one can go
+abbrev pub names_log : Asked → Bool
+names_log (asked.Serve options) = is_log_place (string_bytes options.log)
+names_log wanted = true
 
 -- what was asked for is what clap finds in the words, as it reads the program
 pub record IsReadFrom (words : List (List ℕ)) (wanted : Asked) : Type 0 where

@@ -1,5 +1,5 @@
 -- The options of the commands, as clap read them.
-use Rattle.std.specs.Prelude.{◌≡◌, ◌<◌, ◌^◌, ℕ, Bool, true, false, List, [], Some, codes, map, option_map, string_bytes, unwrap_or}
+use Rattle.std.specs.Prelude.{◌≡◌, ◌<◌, ◌^◌, ℕ, Bool, true, false, ◌||◌, List, [], Some, bytes_eq, codes, map, option_map, string_bytes, unwrap_or}
 use Rattle.std.specs.Str.Parse.{IsNumeral, digits_value, without_leading_plus}
 use Rattle.clap.specs.Words.{first_value, matched_of, one_text, raw_values}
 use Rattle.clap.specs.declared.parser.matches.Found.{Found}
@@ -46,6 +46,10 @@ pub record AreCheckFound (found : Found) (options : CheckOptions) : Type 0 where
       option_map string_bytes options.config_file ≡ first_value found (codes "config-file")
   pub keys : map string_bytes options.keys.items ≡ texts_at found (codes "key")
 
+-- where an event log goes: to standard error, or nowhere
+abbrev pub is_log_place : List ℕ → Bool
+is_log_place text = bytes_eq text (codes "stderr") || bytes_eq text (codes "off")
+
 -- each option of `serve` is what clap read for its name
 pub record AreFound (found : Found) (options : ServeOptions) : Type 0 where
   pub listen : IsTextAt found (codes "listen") (string_bytes options.listen)
@@ -62,3 +66,4 @@ pub record AreFound (found : Found) (options : ServeOptions) : Type 0 where
   pub failures : IsNumberAt 32 found (codes "failures") options.failures
   pub limit : IsNumberAt 32 found (codes "limit") options.limit
   pub tries : IsNumberAt 32 found (codes "tries") options.tries
+  pub log : IsTextAt found (codes "log") (string_bytes options.log)

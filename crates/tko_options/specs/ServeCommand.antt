@@ -1,5 +1,5 @@
 -- The command `serve` as clap reads it, and its defaults.
-use Rattle.std.specs.Prelude.{ℕ, true, pos, Some, codes}
+use Rattle.std.specs.Prelude.{ℕ, true, pos, Some, [], ◌∷◌, codes}
 use Rattle.clap.specs.Words.{App, Rule, Text, new_app, new_rule, with_rule}
 use Rattle.clap.specs.declared.builder.value_parser.ValueParser.{ValueParser}
 use Rattle.clap.specs.declared.builder.value_parser.ValueParser.TheVariants as parser
@@ -26,6 +26,9 @@ default_first_delay = codes "10000"
 abbrev pub default_greatest_delay : Text
 default_greatest_delay = codes "60000"
 
+abbrev pub default_log : Text
+default_log = codes "stderr"
+
 -- the greatest number of connections
 abbrev pub max_connections : ℕ
 max_connections = 18446744073709551615
@@ -48,6 +51,14 @@ listen_option = record (new_rule (codes "listen")) {
   long = Some (codes "listen");
   value_names = 1;
   required = true;
+}
+
+-- `--log WHERE`
+abbrev pub log_option : Rule
+log_option = record (new_rule (codes "log")) {
+  long = Some (codes "log");
+  value_names = 1;
+  defaults = default_log ∷ [];
 }
 
 -- `--connections N`, a number of 64 bits
@@ -86,4 +97,6 @@ with_times app =
 
 abbrev pub serve_command : App
 serve_command =
-    with_tracker (with_times (with_patience (with_clients (with_ends (new_app (codes "serve"))))))
+    with_rule
+    (with_tracker (with_times (with_patience (with_clients (with_ends (new_app (codes "serve")))))))
+    log_option

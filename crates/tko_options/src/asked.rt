@@ -1,6 +1,6 @@
 //! What the words of the command line ask for.
-ghost use Rattle.std.specs.Prelude.{IfOk, IfSome, map, string_bytes};
-ghost use Rattle.tko_options.specs.Asked.{AsksFor, IsReadFrom};
+ghost use Rattle.std.specs.Prelude.{◌≡◌, true, IfOk, IfSome, map, string_bytes};
+ghost use Rattle.tko_options.specs.Asked.{AsksFor, IsReadFrom, names_log};
 
 use crate::check_options::CheckOptions;
 use crate::command_line::program;
@@ -10,6 +10,10 @@ use crate::serve_options::ServeOptions;
 use clap::ArgMatches;
 use clap::error::ErrorKind;
 use std::alloc::{AllocError, Global};
+
+const WITHOUT_COMMAND: &str = "a command is wanted";
+
+const LOG_NOWHERE: &str = "invalid value for '--log <WHERE>'\n  [possible values: stderr, off]";
 
 /// What the words ask for: a command and its options.
 #[derive(Debug, Drop)]
@@ -23,7 +27,8 @@ pub enum Asked {
 impl Asked {
     /// Reads the words, of which the first is the program's name.
     pub fn read(alloc: Global, words: &[String]) -> Result<Asked, Refusal>
-        ensures { IfOk result (IsReadFrom (map string_bytes words.now)) }
+        ensures read { IfOk result (IsReadFrom (map string_bytes words.now)) }
+        ensures log { IfOk result (λ asked. names_log asked ≡ true) }
     {
         match program(alloc)?.try_get_matches_from(words) {
             Ok(matches) => Asked::among(alloc, &matches),
@@ -33,11 +38,26 @@ impl Asked {
 
     /// The command of these matches. clap refuses words without one before.
     fn among(alloc: Global, matches: &ArgMatches<'_>) -> Result<Asked, Refusal>
-        ensures { IfOk result (AsksFor matches.now) }
+        ensures asks { IfOk result (AsksFor matches.now) }
+        ensures log { IfOk result (λ asked. names_log asked ≡ true) }
     {
-        match Asked::of(alloc, matches)? {
-            Some(asked) => Ok(asked),
-            None => Err(without_command(alloc)?),
+        let Some(asked) = Asked::of(alloc, matches)? else {
+            return Err(refusal(alloc, ErrorKind::MissingSubcommand, WITHOUT_COMMAND)?);
+        };
+        if !asked.names_log() {
+            return Err(refusal(alloc, ErrorKind::InvalidValue, LOG_NOWHERE)?);
+        }
+        Ok(asked)
+    }
+
+    /// Whether a server's event log goes where one can go. clap's own parser of names takes a list by
+    /// reference, which no definition of the command can name, so clap reads any text here.
+    fn names_log(&self) -> bool
+        ensures { result ≡ names_log self.now }
+    {
+        match self {
+            Asked::Serve(options) => options.names_log(),
+            _ => true,
         }
     }
 
@@ -61,8 +81,8 @@ impl Asked {
     }
 }
 
-/// The refusal of words without a command.
-fn without_command(alloc: Global) -> Result<Refusal, AllocError> {
-    let error = program(alloc)?.error(ErrorKind::MissingSubcommand, "a command is wanted")?;
+/// The refusal of words that clap takes.
+fn refusal(alloc: Global, kind: ErrorKind, reason: &str) -> Result<Refusal, AllocError> {
+    let error = program(alloc)?.error(kind, reason)?;
     Ok(Refusal::of(alloc, &error))
 }

@@ -2,7 +2,7 @@
 ghost use Rattle.std.specs.Prelude.{◌≡◌, false, IfOk, codes};
 ghost use Rattle.clap.specs.Words.{App, rule_of};
 ghost use Rattle.tko_options.specs.CommandLine.{IsOption, ReadsAs, number_option, required_config};
-ghost use Rattle.tko_options.specs.ServeCommand.{connections_option, default_timeout, limit_option, listen_option, serve_command, with_clients, with_ends, with_patience, with_times};
+ghost use Rattle.tko_options.specs.ServeCommand.{connections_option, default_timeout, limit_option, listen_option, log_option, serve_command, with_clients, with_ends, with_patience, with_times};
 
 use crate::command_line::{config_file, number, with_tracker};
 use clap::builder::ValueParser;
@@ -10,6 +10,8 @@ use clap::{Arg, Command, value_parser};
 use std::alloc::{AllocError, Global};
 
 const DEFAULT_THREADS: &str = "4";
+
+const DEFAULT_LOG: &str = "stderr";
 
 const DEFAULT_CONNECTIONS: &str = "0";
 
@@ -47,7 +49,7 @@ pub(crate) fn serve<'a>(alloc: Global) -> Result<Command<'a>, AllocError>
     let serve = with_clients(alloc, serve)?;
     let serve = with_patience(alloc, serve)?;
     let serve = with_times(alloc, serve)?;
-    with_tracker(alloc, serve)
+    with_tracker(alloc, serve)?.arg(log(alloc))
 }
 
 /// With its address and its configuration.
@@ -91,6 +93,18 @@ fn with_times<'a>(alloc: Global, command: Command<'a>) -> Result<Command<'a>, Al
         .arg(timeout(alloc))?
         .arg(delay(alloc, "first-delay", DEFAULT_FIRST_DELAY, first))?
         .arg(delay(alloc, "greatest-delay", DEFAULT_GREATEST_DELAY, greatest))
+}
+
+/// `--log stderr` or `--log off`.
+fn log<'a>(alloc: Global) -> Arg<'a>
+    ensures rule { rule_of result ≡ log_option }
+    ensures local { result.global ≡ false }
+{
+    Arg::new(alloc, "log")
+        .long("log")
+        .value_name("WHERE")
+        .default_value(DEFAULT_LOG)
+        .help("Where the event log goes, stderr or off")
 }
 
 fn listen<'a>(alloc: Global) -> Arg<'a>

@@ -1,7 +1,7 @@
 //! The options of `serve`.
-ghost use Rattle.std.specs.Prelude.{◌≡◌, IfOk, codes};
+ghost use Rattle.std.specs.Prelude.{◌≡◌, IfOk, bytes_eq, codes, string_bytes};
 ghost use Rattle.clap.specs.Words.{found_of};
-ghost use Rattle.tko_options.specs.Found.{AreFound, IsNumberAt};
+ghost use Rattle.tko_options.specs.Found.{AreFound, IsNumberAt, is_log_place};
 ghost use Rattle.tko_options.specs.Trackers.{serve_settings};
 
 use crate::found::{number_of, optional_text, text_of};
@@ -35,6 +35,8 @@ pub struct ServeOptions {
     pub failures: u32,
     pub limit: u32,
     pub tries: u32,
+    /// Where the event log goes: `stderr` or `off`.
+    pub log: String,
 }
 
 impl ServeOptions {
@@ -55,7 +57,22 @@ impl ServeOptions {
             failures: number_of(found, "failures"),
             limit: number_of(found, "limit"),
             tries: number_of(found, "tries"),
+            log: text_of(alloc, found, "log")?,
         })
+    }
+
+    /// Whether there is an event log.
+    pub fn has_log(&self) -> bool
+        ensures { result ≡ bytes_eq (string_bytes self.now.log) (codes "stderr") }
+    {
+        self.log.as_str() == "stderr"
+    }
+
+    /// Whether the event log goes where one can go.
+    pub(crate) fn names_log(&self) -> bool
+        ensures { result ≡ is_log_place (string_bytes self.now.log) }
+    {
+        self.has_log() || self.log.as_str() == "off"
     }
 
     /// The settings of a tracker of `servers` servers.

@@ -25,8 +25,9 @@ pub struct Logging {
 }
 
 impl Logging {
-    /// A log of a server of this configuration, which will listen at this address, and where so many
-    /// soft failures in a row mark a server. Its first event is that the program has started.
+    /// A log of a server of this configuration, which will listen at this address, and where
+    /// `failures` soft failures in a row mark a server. Its first event is that the program has
+    /// started.
     pub fn start<R: Wait + Clock>(
         rt: &R,
         alloc: Global,
@@ -56,8 +57,8 @@ impl Logging {
 }
 
 /// What `run_to_end` does, while the log, if there is one, is written to standard error. It returns
-/// once the log is written: where nobody reads standard error, it waits then, and the workers before
-/// that do not.
+/// once the log is written: where nobody reads standard error, it waits then, and the workers
+/// before that do not. Where the system gives the log no thread, it is written at the end.
 pub fn run_logged<R: IoRuntime<Listener = TcpListener> + Threads + Sync + Eprint>(
     rt: &R,
     alloc: Global,
@@ -106,13 +107,14 @@ fn run_beside<R: IoRuntime<Listener = TcpListener> + Threads + Sync + Eprint>(
         reader,
         mut journal,
     } = logging;
-    let (ended, _written) = thread::join(
+    // (where the system gives no thread, what the first of the two does comes last)
+    let (_written, ended) = thread::join(
         rt,
+        || reader.write_lines(rt, alloc, &mut journal),
         || -> Result<Ended, RunFault>
             ensures settings { (fault : SettingsFault) → (result ≡ Err (RunFault.Settings fault))
                 ↔ (first_fault (tracker_settings options.entry.now) ≡ Some fault) }
         { run_and_end(rt, alloc, listener, options, &log) },
-        || reader.write_lines(rt, alloc, &mut journal),
     );
     ended
 }

@@ -32,7 +32,13 @@ fn words_of(rt: &(impl Env + AllocGlobal)) -> io::Result<Vec<String>> {
 /// Runs the command over std's readers and writers. The bounds of `IoRuntime` are written out,
 /// since the prover covers only those at the runtime itself.
 fn run<
-    R: Wait + Net<Stream = TcpStream, Listener = TcpListener> + Clock + Threads + Sync + Files,
+    R: Wait
+        + Net<Stream = TcpStream, Listener = TcpListener>
+        + Clock
+        + Threads
+        + Sync
+        + Files
+        + Eprint,
     I: Read + Drop,
     O: Write + Drop,
     F: Write + Drop,

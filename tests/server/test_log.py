@@ -1,0 +1,118 @@
+"""The event log on standard error: the death and the return of a server, and a log that nobody reads."""
+import fcntl
+import os
+import re
+import struct
+import subprocess
+import termios
+
+from parts import ServerTest, configuration, serve_words, start, stop
+from ports import HOST, free_port, is_open, wait_until
+from talk import Client
+
+STAMP = re.compile(r"^\d{4}-\d\d-\d\dT\d\d:\d\d:\d\d\.\d{3}Z ")
+
+
+def without_count(line):
+    return re.sub(r" count=\d+$", "", line)
+
+
+def log_of(proxy):
+    """The lines of its log so far, without their times. Lines that differ in their count alone are one line."""
+    lines = [STAMP.sub("", line) for line in proxy.error_text().decode().splitlines() if STAMP.match(line)]
+    kept = []
+    for line in lines:
+        if not kept or without_count(line) != without_count(kept[-1]):
+            kept.append(line)
+    return kept
+
+
+class Log(ServerTest):
+    def waits_for(self, proxy, words):
+        wait_until(lambda: any(words in line for line in log_of(proxy)), 20, f"the log says {words}")
+
+    def test_a_server_dies_and_returns(self):
+        server = self.memcached()
+        proxy = self.proxy(configuration(only=[server]), threads=1, failures=2, first_delay=200, greatest_delay=200)
+        name = f"server={server.address}"
+        with proxy.client() as client:
+            self.assertEqual(client.ask(b"get a\r\n"), b"END\r\n")
+            server.kill()
+            self.assertEqual(client.ask(b"get a\r\n"), b"SERVER_ERROR no server\r\n")
+            self.waits_for(proxy, "probed")
+            server.start()
+            self.waits_for(proxy, "unmarked")
+            self.assertEqual(client.ask(b"get a\r\n"), b"END\r\n")
+        first, second, *lines = log_of(proxy)
+        self.assertEqual([first, second], ["started servers=1", f"listening address={HOST}:{proxy.port}"])
+        self.assertEqual([without_count(line) for line in lines], [
+            f"marked {name} mark=hard worker=0 outcome=refused",
+            f"probed {name} mark=hard worker=0 outcome=refused",
+            f"probed {name} mark=hard worker=0 outcome=reply",
+            f"unmarked {name} mark=up worker=0 outcome=reply"])
+        # The probes are counted from the mark on, and what they lead to has the count of the last.
+        counts = [int(line.rsplit("=", 1)[1]) for line in lines]
+        self.assertEqual((counts[0], counts[1]), (1, 1))
+        self.assertGreater(counts[2], counts[1])
+        self.assertEqual(counts[3], counts[2])
+
+    def test_a_soft_mark_is_hardened_and_released(self):
+        server = self.memcached()
+        proxy = self.proxy(configuration(only=[server]), threads=1, failures=1, timeout=300, connections=1,
+                           first_delay=1000, greatest_delay=1000)
+        name = f"server={server.address}"
+        with proxy.client() as client:
+            server.pause()
+            self.assertEqual(client.ask(b"get a\r\n"), b"SERVER_ERROR no server\r\n")
+            server.kill()
+            self.waits_for(proxy, "hardened")
+        self.assertEqual(proxy.end(30)[0], 0)
+        lines = [without_count(line) for line in log_of(proxy)[2:] if not line.startswith("probed")]
+        self.assertEqual(lines, [
+            f"marked {name} mark=soft worker=0 outcome=timeout",
+            f"hardened {name} mark=hard worker=0 outcome=refused",
+            f"released {name} mark=up worker=0 outcome=none",
+            "ended"])
+
+    def test_clients_that_end_by_a_fault_are_told_as_a_sum(self):
+        proxy = self.proxy(configuration(only=[self.memcached()]), threads=1, connections=3)
+        for request in (b"version\r\n", b"get " + b"a" * 70000, b"get " + b"a" * 70000):
+            with proxy.client() as client:
+                client.send(request)
+                client.end_input()
+                client.rest()
+        self.assertEqual(proxy.end(30)[0], 0)
+        lines = log_of(proxy)[2:]
+        self.assertEqual(lines[-2:], ["clients sessions=3 faults=2", "ended"])
+        # A sum is written at most once in some seconds, so a slow machine may have written one before.
+        self.assertTrue(all(line.startswith("clients ") for line in lines[:-1]), lines)
+
+    def test_without_a_log(self):
+        proxy = self.proxy(configuration(only=[self.closed()]), threads=1, log="off")
+        with proxy.client() as client:
+            self.assertEqual(client.ask(b"get a\r\n"), b"SERVER_ERROR no server\r\n")
+        self.assertEqual(log_of(proxy), [])
+
+    def test_a_log_that_nobody_reads_stops_no_worker(self):
+        port, (reader, writer) = free_port(), os.pipe()
+        self.addCleanup(os.close, reader)
+        room = fcntl.fcntl(writer, fcntl.F_SETPIPE_SZ, 4096)
+        words = serve_words(port, configuration(only=[self.closed()]),
+                            {"threads": 1, "first-delay": 1, "greatest-delay": 1})
+        process = start(words, stdout=subprocess.DEVNULL, stderr=writer)
+        self.addCleanup(stop, process)
+        os.close(writer)
+        wait_until(lambda: is_open(port), 20, "clients can connect")
+        unread = lambda: struct.unpack("i", fcntl.ioctl(reader, termios.FIONREAD, b"\0" * 4))[0]
+        with Client(port) as client:
+            def is_full():
+                self.assertEqual(client.ask(b"get a\r\n"), b"SERVER_ERROR no server\r\n")
+                return room - unread() < 200
+
+            wait_until(is_full, 60, "the log fills its pipe")
+            # Its writer waits now. The worker goes on, far past what the log has room for.
+            for _ in range(100):
+                client.send(b"get a\r\n" * 100)
+                for _ in range(100):
+                    self.assertEqual(client.reply(), b"SERVER_ERROR no server\r\n")
+        self.assertIsNone(process.poll())
