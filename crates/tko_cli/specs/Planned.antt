@@ -34,7 +34,7 @@ pub record IsPlanned (options : ServeOptions) (plan : Plan) : Type 0 where
   pub listen : is_address (string_bytes options.listen) ≡ true
 
 -- a server of this plan, with the time limits and the number of connections that the options name,
--- in a process that may have so many files open
+-- in a process that may have `allowed` files open
 pub record IsServerOf (plan : Plan) (options : ServeOptions) (allowed : Option ℕ)
     (server : Server) : Type 0 where
   pub config : server.config ≡ plan.config

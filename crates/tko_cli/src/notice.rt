@@ -17,7 +17,7 @@ pub(crate) enum Notice {
     Descriptors(Allotment, u64),
     /// The same where it is not known how many it may have open.
     UnknownLimit(Allotment),
-    /// So many sessions ended by a fault, of so many.
+    /// How many sessions ended by a fault, and how many ended.
     Faults(u64, u64),
     /// Memory ran out in a session or in a round.
     Memory,

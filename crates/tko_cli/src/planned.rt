@@ -19,7 +19,7 @@ pub(crate) struct Plan {
 }
 
 impl Plan {
-    /// What a server is started with, where the process may have so many files open.
+    /// What a server is started with, in a process that may have `open_files` files open.
     pub fn server(self, options: &ServeOptions, open_files: Option<u64>) -> tko_server::Options
         ensures { IsServerOf self options.now open_files result }
     {

@@ -20,8 +20,8 @@ use tko_server::{Logging, WorkerReport, run_logged};
 use tko_session::Outlet;
 
 /// Serves clients over TCP until the last of the connections has ended, and then prints the totals.
-/// `ready` is printed once clients can connect. Before it a notice says what the server does with its
-/// descriptors, and before the totals notices say what the workers met.
+/// `ready` is printed once clients can connect. Before it a notice says what the server does with
+/// its descriptors, and before the totals notices say what the workers met.
 pub(crate) fn serve<
     R: IoRuntime<Listener = TcpListener> + Threads + Sync + Files + Eprint,
     O: Outlet,

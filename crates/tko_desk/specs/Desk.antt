@@ -2,7 +2,7 @@
 use Rattle.std.specs.Prelude.{ℕ, ◌≤◌, List, length, All}
 use Rattle.tko_tracker.specs.Seated.{IsOf, Seated, TrackerId}
 
--- these passes, of so many at most
+-- these passes, and the greatest number of them
 pub record Held : Type 0 where
   pub passes : List Seated
   pub most : ℕ

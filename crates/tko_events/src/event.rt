@@ -28,7 +28,7 @@ pub enum What {
         change: Change,
         cause: Option<Cause>,
     },
-    /// So many sessions have ended, of which so many by a fault.
+    /// How many sessions have ended, and how many of them by a fault.
     Clients {
         sessions: u64,
         faults: u64,

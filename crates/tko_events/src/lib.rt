@@ -6,8 +6,8 @@
 //! - `Log`: takes events from any thread and never waits for a reader; `open` makes it with its
 //!   `LogReader`, whose `write_lines` writes a line for each event.
 //! - `WorkerLog`: one worker's end of the log, which its health and its links share.
-//! - `LoggedHealth`, `LoggedLinks`, `LoggedSeating`: health, links and seats that tell what happens,
-//!   and are in all else those that they wrap.
+//! - `LoggedHealth`, `LoggedLinks`, `LoggedSeating`: health, links and seats that tell what
+//!   happens, and are in all else those that they wrap.
 //! - `Journal`: the lines, with what they know of the servers.
 #![tactic(auto)]
 

@@ -33,8 +33,8 @@ abbrev pub IsGranted : OneThread → ℕ → Type 0
 IsGranted at server =
     duty_of server (server_at at.tracker.servers server).mark at.thread ≡ Some server
 
--- an item has the reply that the tracker gives to this thread; the right to probe a server is denied
--- where its mark is not the thread's own
+-- an item has the reply that the tracker gives to this thread; the right to probe a server is
+-- denied where its mark is not the thread's own
 abbrev pub HasReply : Tracker → ℕ → HealthItem → Type 0
 HasReply tracker thread (Called op server answer) = answer ≡ reply_of tracker thread op server
 HasReply tracker thread (NoDuty server) =

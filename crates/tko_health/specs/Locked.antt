@@ -1,6 +1,6 @@
--- What is known of a tracker that several threads change: each reply is the sequential tracker's, for
--- some state of a tracker with these settings. Nothing is known of that state but what the seat of
--- the calling thread keeps of it.
+-- What is known of a tracker that several threads change: each reply is the sequential tracker's,
+-- for some state of a tracker with these settings. Nothing is known of that state but what the seat
+-- of the calling thread keeps of it.
 use Rattle.std.specs.Prelude.{◌≡◌, ℕ, ◌<◌, ◌==◌, Bool, false, List, All, length, replicate, slice_set, Option, Some}
 use Rattle.tko_model.specs.Looks.{duty_of}
 use Rattle.tko_model.specs.Records.{HealthItem, Called, NoDuty}
@@ -10,8 +10,8 @@ use Rattle.tko_model.specs.declared.mark.Mark.TheVariants.{Up, Soft, Hard}
 use Rattle.tko_model.specs.declared.settings.Settings.{Settings}
 use Rattle.tko_health.specs.Health.{HasReply}
 
--- a thread's place at a tracker in a lock: its number, and for each server whether the thread's last
--- call there left the mark its own
+-- a thread's place at a tracker in a lock: its number, and for each server whether the thread's
+-- last call there left the mark its own
 pub record SeatState : Type 0 where
   pub thread : ℕ
   pub owned : List Bool
@@ -51,8 +51,8 @@ pub record IsFound (settings : Settings) (tracker : Tracker) : Type 0 where
   pub opened : tracker.settings ≡ settings
   pub within : IsTracker tracker
 
--- an item of a thread's record: a tracker that the call may find gives that reply, and the seat knows
--- the mark that the call left
+-- an item of a thread's record: a tracker that the call may find gives that reply, and the seat
+-- knows the mark that the call left
 pub record IsLockedStep (settings : Settings) (old : SeatState) (it : HealthItem) (new : SeatState)
     : Type 0 where
   pub tracker : Tracker

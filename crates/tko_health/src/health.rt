@@ -7,8 +7,8 @@ use std::sync::Wait;
 use tko_model::{Duty, Look, Reply};
 
 /// What is known of the servers' health, and what a router reports of them. Each call is one item
-/// of a record that contracts see: the operation, the server and the reply. So is each call of `duty`
-/// that denies the right; one that grants it changes nothing.
+/// of a record that contracts see: the operation, the server and the reply. So is each call of
+/// `duty` that denies the right; one that grants it changes nothing.
 pub trait Health {
     ghost use Rattle.std.specs.Prelude.{ℕ};
     ghost use Rattle.tko_model.specs.Records.{HealthItem};

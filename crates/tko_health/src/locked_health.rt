@@ -10,8 +10,8 @@ use std::sync::{Arc, Mutex, Wait};
 use tko_model::{Duty, Look, Op, Reply};
 
 /// The sequential tracker in a lock, as one of the threads that share it uses it. Contracts see the
-/// thread's seat: its number, and for each server whether the thread's last call there left the mark
-/// its own. The lock is held for one operation of the tracker, which takes no memory.
+/// thread's seat: its number, and for each server whether the thread's last call there left the
+/// mark its own. The lock is held for one operation of the tracker, which takes no memory.
 #[derive(Drop)]
 pub struct LockedHealth<S: TrackerSettings> {
     tracker: Arc<Mutex<LockedTracker<S>>>,

@@ -41,8 +41,8 @@ impl<S: TrackerSettings> LockedIdle<S> {
     }
 }
 
-/// Seats the threads that share one tracker in a lock. Each idle seat has a handle of its own on the
-/// tracker, so seating takes no memory.
+/// Seats the threads that share one tracker in a lock. Each idle seat has a handle of its own on
+/// the tracker, so seating takes no memory.
 #[derive(Drop)]
 pub struct LockedSeating<S: TrackerSettings> {
     of: PhantomData<S>,

@@ -19,7 +19,14 @@ pub trait TrackerSettings {
 }
 
 impl TrackerSettings for Brand {
-    ghost settings = { record { servers = 1; threads = 1; failures = 1; limit = 0; tries = 1; opening_stamp = 0 } };
+    ghost settings = { record {
+      servers = 1;
+      threads = 1;
+      failures = 1;
+      limit = 0;
+      tries = 1;
+      opening_stamp = 0;
+    } };
 }
 
 /// A thread's place at a tracker in a lock: its number, and for each server whether the thread's

@@ -16,7 +16,7 @@ pub struct SharedSeating<'t, N: Named> {
 }
 
 impl<'t, N: Named> SharedSeating<'t, N> {
-    /// Seats threads at the tracker that `N` names, which has so many servers.
+    /// Seats threads at the tracker that `N` names, which has `servers` servers.
     pub fn new(tracker: &'t Tracker, servers: usize) -> SharedSeating<'t, N>
         requires named { tracker.now ≡ N.tracker }
         requires servers { servers ≡ N.tracker.settings.servers }

@@ -40,7 +40,8 @@ impl Model for TcpWire {
 
 impl TcpWire {
     /// Connections to the servers with these addresses, none of which is connected yet. An exchange
-    /// may take `time_limit_ms` milliseconds, of which connecting is a part; probes share that time.
+    /// may take `time_limit_ms` milliseconds, of which connecting is a part; probes share that
+    /// time.
     pub fn new(alloc: Global, addresses: &[String], time_limit_ms: u32) -> Result<TcpWire, NoMemory>
         ensures { IfOk result (λ wire. wire
             ≡ record { connected = replicate (length addresses.now) false; failures = 0 }) }

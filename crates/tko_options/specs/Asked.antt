@@ -15,7 +15,8 @@ pub record IsCommand (name : List ℕ) (matches : ArgMatches) (found : Found) : 
   pub rows : option_map (λ entry. entry.1) (subcommand_rows_of matches) ≡ Some (rows_of found)
 
 -- a command whose options are what clap found for it
-pub record IsCommandWith (name : List ℕ) (are : Found → Type 0) (matches : ArgMatches) : Type 0 where
+pub record IsCommandWith (name : List ℕ) (are : Found → Type 0) (matches : ArgMatches) : Type 0
+  where
   pub found : Found
   pub command : IsCommand name matches found
   pub options : are found

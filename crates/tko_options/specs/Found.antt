@@ -7,7 +7,7 @@ use Rattle.tko_options.specs.declared.check_options.CheckOptions.{CheckOptions}
 use Rattle.tko_options.specs.declared.dry_options.DryOptions.{DryOptions}
 use Rattle.tko_options.specs.declared.serve_options.ServeOptions.{ServeOptions}
 
--- where the text of an option is a number of so many bits, in decimal digits, it is this number
+-- where the text of an option is a number of `bits` bits, in decimal digits, it is this number
 abbrev pub IsNumberAt : ℕ → Found → List ℕ → ℕ → Type 0
 IsNumberAt bits found name number = (text : List ℕ) → one_text found name ≡ Some text
     → IsNumeral 10 (without_leading_plus text)

@@ -75,7 +75,8 @@ limit_option name default = record (number_option name default) {
 
 -- where it listens, and to whom it speaks
 abbrev pub with_ends : App → App
-with_ends app = with_rule (with_rule (with_rule app listen_option) required_config) config_file_option
+with_ends app =
+    with_rule (with_rule (with_rule app listen_option) required_config) config_file_option
 
 -- how many clients it serves
 abbrev pub with_clients : App → App

@@ -50,8 +50,8 @@ impl Asked {
         Ok(asked)
     }
 
-    /// Whether a server's event log goes where one can go. clap's own parser of names takes a list by
-    /// reference, which no definition of the command can name, so clap reads any text here.
+    /// Whether a server's event log goes where one can go. clap's own parser of names takes a list
+    /// by reference, which no definition of the command can name, so clap reads any text here.
     fn names_log(&self) -> bool
         ensures { result ≡ names_log self.now }
     {

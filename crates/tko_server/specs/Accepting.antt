@@ -24,7 +24,7 @@ stop_of_kind _ = stop.Failed
 
 -- how many connections there are after an accept, if there were `count`; it stays at 2^64 - 1
 abbrev pub count_after : {S : Type 0} → ℕ → Result S AcceptStop → ℕ
-count_after count (Ok stream) = min 18446744073709551615 (count + 1)
+count_after count (Ok stream) = min (2 ^ 64 - 1) (count + 1)
 count_after count (Err stop) = count
 
 -- whether an accept found the listener broken

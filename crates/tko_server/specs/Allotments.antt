@@ -5,7 +5,7 @@ use Rattle.tko_server.specs.declared.allotment.Allotment.{Allotment}
 -- each worker has a connection to each server, a client, and two more while it looks up the name of
 -- a host; 64 clients wait; and there are the standard streams, the listener, and a dozen to spare
 abbrev pub needed_files : ℕ → ℕ → ℕ
-needed_files threads servers = min 18446744073709551615 (threads * (servers + 3) + 80)
+needed_files threads servers = min (2 ^ 64 - 1) (threads * (servers + 3) + 80)
 
 -- `workers` workers, each with `each` descriptors beside its client's, and `clients` clients
 pub record Fits (limit threads each workers clients : ℕ) : Type 0 where

@@ -26,7 +26,8 @@ abbrev pub AreReady : {C P S L M : Type 0} → (S → P → Type 0) → (S → �
 AreReady own seated linked members = All (λ member. IsReady own seated linked member) members
 
 -- what a worker works with is what the options ask for
-pub record HasOptions {S L M : Type 0} (options : Options) (parts : WorkerParts S L M) : Type 0 where
+pub record HasOptions {S L M : Type 0} (options : Options) (parts : WorkerParts S L M) : Type 0
+  where
   pub config : parts.config ≡ options.config
   pub probers : parts.probers ≡ no_probers options.delays (length options.config.addresses)
 

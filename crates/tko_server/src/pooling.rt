@@ -20,9 +20,9 @@ pub struct Member<'a, C, P, S, L, M> {
     pub parts: WorkerParts<'a, S, L, M>,
 }
 
-/// Runs a worker for each member, on a thread of its own, or one after another where no thread can be
-/// made. Returns what each returned, in order, once all have ended. If memory runs out, some members
-/// may not have run, and what the others returned is lost.
+/// Runs a worker for each member, on a thread of its own, or one after another where no thread can
+/// be made. Returns what each returned, in order, once all have ended. If memory runs out, some
+/// members may not have run, and what the others returned is lost.
 pub fn pool<
     'a,
     R: IoRuntime<Listener = TcpListener> + Threads + Sync,

@@ -87,8 +87,8 @@ struct Working<H, L, M> {
 }
 
 impl<H: Health, L: Links, M: Moments> Working<H, L, M> {
-    /// Serves one client, and returns whether its session ended by a fault. That is counted, and the
-    /// worker goes on.
+    /// Serves one client, and returns whether its session ended by a fault. That is counted, and
+    /// the worker goes on.
     fn serve<R: IoRuntime, I: Inlet, O: Outlet>(
         &mut self,
         rt: &R,

@@ -4,8 +4,9 @@ use Rattle.std.specs.Option.{option_map}
 use Rattle.tko_session.specs.declared.io.Stop.{Stop}
 use Rattle.tko_session.specs.declared.io.Stop.TheVariants.{Idle, Again, Fault}
 
--- all the bytes, how many there is room for, those that are still to be read, the greatest number of bytes a call, at
--- which calls it stops and how, how many calls there were, and how often it failed and was idle
+-- all the bytes, how many there is room for, those that are still to be read, the greatest number
+-- of bytes a call, at which calls it stops and how, how many calls there were, and how often it
+-- failed and was idle
 pub record Tape : Type 0 where
   pub bytes : List ℕ
   pub room : ℕ

@@ -13,7 +13,7 @@ use Rattle.tko_steps.specs.declared.step.BeginFault.TheVariants as fault
 use Rattle.tko_steps.specs.declared.table.Action.{Action}
 use Rattle.tko_steps.specs.declared.table.Action.TheVariants.{LookAtServer, LookAtSlots, Exchange, Reserve, Settle, Loosen, Give}
 use Rattle.tko_steps.specs.declared.table.Decision.{Decision}
-use Rattle.tko_steps.specs.declared.table.Seen.{Seen}
+use Rattle.tko_steps.specs.declared.table.Observed.{Observed}
 use Rattle.tko_steps.specs.declared.phase.Call.{Call}
 use Rattle.tko_steps.specs.declared.phase.Phase.{Phase}
 use Rattle.tko_steps.specs.declared.phase.Slots.{Slots}
@@ -137,7 +137,7 @@ shared_after shared server action =
     }
 
 -- what a step reads
-abbrev pub seen_by : Shared → ℕ → Action → Seen
+abbrev pub seen_by : Shared → ℕ → Action → Observed
 seen_by shared server action = seen_in action (word_at shared (place_of server action))
 
 -- a step changes the word that it is on alone, to what that word alone decides

@@ -12,8 +12,8 @@ use Rattle.tko_steps.specs.declared.table.Action.{Action}
 use Rattle.tko_steps.specs.declared.table.Action.TheVariants.{LookAtServer, LookAtSlots, Exchange, Reserve, Settle, Loosen, Give}
 use Rattle.tko_steps.specs.declared.table.Decision.{Decision}
 use Rattle.tko_steps.specs.declared.table.Decision.TheVariants.{Goes, Answers}
-use Rattle.tko_steps.specs.declared.table.Seen.{Seen}
-use Rattle.tko_steps.specs.declared.table.Seen.TheVariants as seen
+use Rattle.tko_steps.specs.declared.table.Observed.{Observed}
+use Rattle.tko_steps.specs.declared.table.Observed.TheVariants as seen
 use Rattle.tko_steps.specs.declared.phase.Call.{Call}
 use Rattle.tko_steps.specs.declared.phase.Phase.{Phase}
 use Rattle.tko_steps.specs.declared.phase.Phase.TheVariants.{Start}
@@ -92,13 +92,13 @@ word_after action (word.Soft now) = word.Soft (slots_after action now)
 word_after action (word.Enrolled count) = word.Enrolled count
 
 -- what a step reads in the word that it finds: a look reads the word, another step whether it wrote
-abbrev pub seen_in : Action → Word → Seen
+abbrev pub seen_in : Action → Word → Observed
 seen_in LookAtServer (word.Server now) = seen.Server now
 seen_in LookAtSlots (word.Soft now) = seen.Slots now
 seen_in action found = seen.Done (writes action found)
 
 -- whether a step that read this did what it meant to; a look always does
-abbrev pub is_done : Seen → Bool
+abbrev pub is_done : Observed → Bool
 is_done (seen.Server found) = true
 is_done (seen.Slots slots) = true
 is_done (seen.Done won) = won

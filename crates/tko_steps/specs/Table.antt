@@ -14,8 +14,8 @@ use Rattle.tko_steps.specs.declared.table.Action.{Action}
 use Rattle.tko_steps.specs.declared.table.Action.TheVariants as action
 use Rattle.tko_steps.specs.declared.table.Decision.{Decision}
 use Rattle.tko_steps.specs.declared.table.Decision.TheVariants.{Goes, Answers}
-use Rattle.tko_steps.specs.declared.table.Seen.{Seen}
-use Rattle.tko_steps.specs.declared.table.Seen.TheVariants as seen
+use Rattle.tko_steps.specs.declared.table.Observed.{Observed}
+use Rattle.tko_steps.specs.declared.table.Observed.TheVariants as seen
 use Rattle.tko_steps.specs.declared.phase.Call.{Call}
 use Rattle.tko_steps.specs.declared.phase.Phase.{Phase}
 use Rattle.tko_steps.specs.declared.phase.Phase.TheVariants.{Start, Read, AtThreshold, Limit, Reserving, Holding, Firming, Losing, Loosening, Loosened, Emptied}
@@ -163,7 +163,7 @@ after_change s call (Emptied answer) won = Answers answer
 after_change s call phase won = goes call phase
 
 -- what follows once the step of its phase has read this
-abbrev pub next_of : Settings → Call → Phase → Seen → Decision
+abbrev pub next_of : Settings → Call → Phase → Observed → Decision
 next_of s call phase (seen.Server found) = after_look s call phase found
 next_of s call phase (seen.Slots slots) = after_slots s call phase slots
 next_of s call phase (seen.Done won) = after_change s call phase won

@@ -24,7 +24,7 @@ pub use atomic::Core;
 pub use law::{every_run, one_thread_alone, one_word_a_step};
 pub use phase::{Call, Phase, Slots, ThreadState};
 pub use step::{BeginFault, Kind, Place, Stepped, Word};
-pub use table::{Action, Decision, Seen, next};
+pub use table::{Action, Decision, Observed, next};
 
 #[cfg(test)]
 mod tests;

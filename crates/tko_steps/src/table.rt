@@ -25,7 +25,7 @@ pub enum Action {
 
 /// What a step read.
 #[derive(Clone, Copy)]
-pub enum Seen {
+pub enum Observed {
     Server(ServerState),
     Slots(Slots),
     /// Whether the step wrote: an exchange that found another word did not.
@@ -81,7 +81,7 @@ impl Action {
     }
 }
 
-impl Seen {
+impl Observed {
     ghost use Rattle.tko_steps.specs.Steps.{is_done};
 
     /// Whether the step did what it meant to; a look always does.
@@ -89,8 +89,8 @@ impl Seen {
         ensures { result ≡ is_done self.now }
     {
         match *self {
-            Seen::Server(_) | Seen::Slots(_) => true,
-            Seen::Done(won) => won,
+            Observed::Server(_) | Observed::Slots(_) => true,
+            Observed::Done(won) => won,
         }
     }
 }
@@ -147,15 +147,15 @@ impl Phase {
 }
 
 /// What a call does once the step of its phase has read this.
-pub fn next(settings: &Settings, call: &Call, phase: Phase, seen: Seen) -> Decision
+pub fn next(settings: &Settings, call: &Call, phase: Phase, seen: Observed) -> Decision
     requires settings { IsWithinRanges settings.now }
     requires tries { call.now.lost < settings.now.tries }
     ensures { result ≡ next_of settings.now call.now phase seen }
 {
     match seen {
-        Seen::Server(found) => after_look(settings, call, phase, found),
-        Seen::Slots(slots) => after_slots(settings, call, phase, slots),
-        Seen::Done(won) => after_change(settings, call, phase, won),
+        Observed::Server(found) => after_look(settings, call, phase, found),
+        Observed::Slots(slots) => after_slots(settings, call, phase, slots),
+        Observed::Done(won) => after_change(settings, call, phase, won),
     }
 }
 

@@ -6,7 +6,7 @@ ghost use Rattle.tko_steps.specs.Table.{same_server, same_slots};
 ghost use Rattle.tko_word.specs.Words.{IsMark, stamp_end};
 
 use crate::table::is_same;
-use crate::{Action, Place, Seen, Slots, Word};
+use crate::{Action, Place, Observed, Slots, Word};
 use std::alloc::{AllocError, Global};
 use std::marker::Model;
 use tko_model::{Mark, ServerState, Settings};
@@ -98,16 +98,16 @@ impl Words {
     }
 
     /// One step on one word; an exchange is of this server's.
-    pub fn act(&mut self, server: usize, action: Action) -> Seen
+    pub fn act(&mut self, server: usize, action: Action) -> Observed
         requires { CanAct self.old server action }
         ensures seen { result ≡ seen_by self.old server action }
         ensures state { self.new ≡ shared_after self.old server action }
     {
         match action {
-            Action::LookAtServer => Seen::Server(self.server(server)),
-            Action::LookAtSlots => Seen::Slots(self.slots()),
-            Action::Exchange { found, mark } => Seen::Done(self.exchange(server, found, mark)),
-            Action::Reserve { slots } => Seen::Done(self.reserve(slots)),
+            Action::LookAtServer => Observed::Server(self.server(server)),
+            Action::LookAtSlots => Observed::Slots(self.slots()),
+            Action::Exchange { found, mark } => Observed::Done(self.exchange(server, found, mark)),
+            Action::Reserve { slots } => Observed::Done(self.reserve(slots)),
             Action::Settle => self.settle(),
             Action::Loosen => self.loosen(),
             Action::Give => self.give(),
@@ -151,33 +151,33 @@ impl Words {
         true
     }
 
-    fn settle(&mut self) -> Seen
+    fn settle(&mut self) -> Observed
         requires { CanAct self.old 0 Settle }
         ensures seen { result ≡ seen_by self.old 0 Settle }
         ensures state { self.new ≡ shared_after self.old 0 Settle }
     {
         let now = self.slots();
         self.soft = pack_soft(now.firm + 1, now.held - 1);
-        Seen::Done(true)
+        Observed::Done(true)
     }
 
-    fn loosen(&mut self) -> Seen
+    fn loosen(&mut self) -> Observed
         requires { CanAct self.old 0 Loosen }
         ensures seen { result ≡ seen_by self.old 0 Loosen }
         ensures state { self.new ≡ shared_after self.old 0 Loosen }
     {
         let now = self.slots();
         self.soft = pack_soft(now.firm - 1, now.held + 1);
-        Seen::Done(true)
+        Observed::Done(true)
     }
 
-    fn give(&mut self) -> Seen
+    fn give(&mut self) -> Observed
         requires { CanAct self.old 0 Give }
         ensures seen { result ≡ seen_by self.old 0 Give }
         ensures state { self.new ≡ shared_after self.old 0 Give }
     {
         let now = self.slots();
         self.soft = pack_soft(now.firm, now.held - 1);
-        Seen::Done(true)
+        Observed::Done(true)
     }
 }

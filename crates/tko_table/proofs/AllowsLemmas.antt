@@ -18,7 +18,7 @@ use Rattle.tko_steps.specs.declared.phase.ThreadState.{ThreadState}
 use Rattle.tko_steps.specs.declared.phase.ThreadState.TheVariants.{NotEnrolled, Idle, InCall}
 use Rattle.tko_steps.specs.declared.table.Action.{Action}
 use Rattle.tko_steps.specs.declared.table.Action.TheVariants as action
-use Rattle.tko_steps.specs.declared.table.Seen.{Seen}
+use Rattle.tko_steps.specs.declared.table.Observed.{Observed}
 use Rattle.tko_steps.specs.Core.{CanAct}
 use Rattle.tko_steps.specs.Steps.{in_call, is_marked_state}
 use Rattle.tko_steps.specs.Table.{action_of}
@@ -60,7 +60,7 @@ taken-call : (s : Settings) (words new_words : List ℕ) (views : List (List Pas
     → IsKept s words views → get_elem? views id ≡ some (pass ∷ []) → pass.state ≡ InCall call phase → IsStepOn words new_words call.server (action_of call.number phase) found
     → IsTaken s words new_words views id pass call phase found
 taken-call s words new_words views id pass call phase found kept there stands on =
-    let P : Seen → Type 0 = λ it. Takes pass call phase it (pass_after s words new_words views id [] [] pass call phase kept there stands on.left on.valid) in
+    let P : Observed → Type 0 = λ it. Takes pass call phase it (pass_after s words new_words views id [] [] pass call phase kept there stands on.left on.valid) in
     record {
       new = pass_after s words new_words views id [] [] pass call phase kept there stands on.left on.valid;
       kept = act-kept s words new_words views id [] [] pass call phase kept there stands on.left on.valid;

@@ -16,7 +16,7 @@ use Rattle.tko_steps.specs.declared.phase.ThreadState.{ThreadState}
 use Rattle.tko_steps.specs.declared.phase.ThreadState.TheVariants.{NotEnrolled, InCall}
 use Rattle.tko_steps.specs.declared.table.Decision.{Decision}
 use Rattle.tko_steps.specs.declared.table.Decision.TheVariants.{Goes, Answers}
-use Rattle.tko_steps.specs.declared.table.Seen.{Seen}
+use Rattle.tko_steps.specs.declared.table.Observed.{Observed}
 use Rattle.tko_model.specs.declared.mark.Mark.{Mark}
 use Rattle.tko_model.specs.declared.mark.Mark.TheVariants.{Up, Soft, Hard}
 use Rattle.tko_steps.specs.Core.{Shared, after_act, has_number, number_of, seen_by, shared_after, thread_at, names, word_at}
@@ -89,7 +89,7 @@ module _ (s : Settings) (words new_words : List ℕ) (views : List (List Pass)) 
     (stands : pass.state ≡ InCall call phase)
     (left : shared_in new_words ≡ shared_after (shared_in words) call.server (action_of call.number phase))
     (valid : All IsWord (health_in new_words)) where
-  abbrev it : Seen
+  abbrev it : Observed
   it = seen_by (shared_in words) call.server (action_of call.number phase)
 
   abbrev pub history_after : List Change

@@ -21,7 +21,7 @@ use Rattle.tko_steps.specs.declared.phase.Slots.{Slots}
 use Rattle.tko_steps.specs.declared.phase.ThreadState.TheVariants.{NotEnrolled, InCall}
 use Rattle.tko_steps.specs.declared.table.Action.{Action}
 use Rattle.tko_steps.specs.declared.table.Action.TheVariants as action
-use Rattle.tko_steps.specs.declared.table.Seen.TheVariants as read
+use Rattle.tko_steps.specs.declared.table.Observed.TheVariants as read
 use Rattle.tko_steps.specs.Core.{CanAct, owner_of, seen_by, shared_after, thread_at}
 use Rattle.tko_steps.specs.Table.{action_of, same_server, same_slots}
 use Rattle.tko_steps.proofs.CoreLemmas.{CanAct-at, enrolled-le, knows_at}

@@ -75,7 +75,7 @@ abbrev pub place_of_answer : Reply → ℕ → Option ℕ
 place_of_answer reply.Contended at = None
 place_of_answer answer at = Some at
 
--- the call with its answer, which was decided after so many changes
+-- the call with its answer, which was decided after the first `at` changes
 abbrev pub made_with : Call → Reply → ℕ → Made
 made_with call answer at =
     record {

@@ -7,7 +7,7 @@ use Rattle.tko_steps.specs.declared.phase.ThreadState.TheVariants.{NotEnrolled, 
 use Rattle.tko_table.specs.declared.pass.Pass.{Pass}
 use Rattle.tko_table.specs.Steps.{view_of}
 
--- the pass of the thread of this place, where so many threads are enrolled; it owns no server
+-- the pass of the thread of this place, where `drawn` threads are enrolled; it owns no server
 pub record IsPassAt (s : Settings) (drawn place : ℕ) (pass : Pass) : Type 0 where
   pub settings : pass.settings ≡ s
   pub owned : pass.owned ≡ []

@@ -15,7 +15,7 @@ use Rattle.tko_steps.specs.declared.table.Action.{Action}
 use Rattle.tko_steps.specs.declared.table.Action.TheVariants.{Exchange}
 use Rattle.tko_steps.specs.declared.table.Decision.{Decision}
 use Rattle.tko_steps.specs.declared.table.Decision.TheVariants.{Goes, Answers}
-use Rattle.tko_steps.specs.declared.table.Seen.{Seen}
+use Rattle.tko_steps.specs.declared.table.Observed.{Observed}
 use Rattle.tko_steps.specs.Core.{is_enrolled, number_of}
 use Rattle.tko_steps.specs.Steps.{is_done, state_after}
 use Rattle.tko_steps.specs.Table.{action_of, next_of}
@@ -102,7 +102,7 @@ mine_after mine call (Goes lost phase) at = mine
 mine_after mine call (Answers answer) at = mine ++ made_with call answer at ∷ []
 
 -- the pass once its call, at this phase, took the step that read this, and found this history
-abbrev pub after_step : Pass → Call → Phase → Seen → List Change → Pass
+abbrev pub after_step : Pass → Call → Phase → Observed → List Change → Pass
 after_step pass call phase read history =
     let decision = next_of pass.settings call phase read in
     let at = decided_after phase pass.decided_at (length history) in

@@ -13,8 +13,8 @@ use Rattle.tko_steps.specs.declared.phase.Phase.{Phase}
 use Rattle.tko_steps.specs.declared.phase.ThreadState.TheVariants.{InCall}
 use Rattle.tko_steps.specs.declared.table.Action.{Action}
 use Rattle.tko_steps.specs.declared.table.Action.TheVariants.{LookAtServer, LookAtSlots, Exchange, Settle, Loosen}
-use Rattle.tko_steps.specs.declared.table.Seen.{Seen}
-use Rattle.tko_steps.specs.declared.table.Seen.TheVariants as read
+use Rattle.tko_steps.specs.declared.table.Observed.{Observed}
+use Rattle.tko_steps.specs.declared.table.Observed.TheVariants as read
 use Rattle.tko_steps.specs.Core.{Shared, seen_by, shared_after, word_at}
 use Rattle.tko_steps.specs.Steps.{in_call, is_marked_state, seen_in, owned_after, place_of}
 use Rattle.tko_steps.specs.declared.step.Word.{Word}
@@ -42,14 +42,15 @@ held_by (Exchange found mark) number = held.Server (server_in number)
 held_by action number = held.Soft (slots_in number)
 
 -- what a step reads in the number that it found in its word
-abbrev pub read_in : Action → ℕ → Seen
+abbrev pub read_in : Action → ℕ → Observed
 read_in action number = seen_in action (held_by action number)
 
 -- a step of this call at this phase, by the pass of a thread: it finds the words of some core whose
 -- servers are the replay of the history, which begins with what the pass has seen; it reads and
 -- leaves what the core's step does; the pass has then seen the whole history, a change that the
 -- step makes goes last in it, and an answer goes last in the thread's calls
-pub record Takes (before : Pass) (call : Call) (phase : Phase) (it : Seen) (after : Pass) : Type 0
+pub record Takes (before : Pass) (call : Call) (phase : Phase) (it : Observed) (after : Pass)
+    : Type 0
   where
     pub shared : Shared
     -- the changes since the pass looked last, which are other threads'
@@ -82,7 +83,8 @@ pub record Takes (before : Pass) (call : Call) (phase : Phase) (it : Seen) (afte
     pub knows : after ≡ after_step before call phase it (before.seen ++ between)
 
 -- the seat's one pass took that step, which read this
-pub record Took (before : List Pass) (call : Call) (phase : Phase) (it : Seen) (after : List Pass)
+pub record Took
+    (before : List Pass) (call : Call) (phase : Phase) (it : Observed) (after : List Pass)
     : Type 0 where
   pub old : Pass
   pub new : Pass
@@ -111,8 +113,8 @@ pub record IsWithinLimit (s : Settings) (slots : Slots) : Type 0 where
 -- what a load of a server's word tells: the call that is under way, or that begins with this
 -- operation on this server, took the step of its phase
 pub record Looked
-    (op : Op) (word : ℕ) (old : Me (Unit {0}) (List Pass)) (found : ℕ) (new : Me (Unit {0}) (List Pass))
-    : Type 0
+    (op : Op) (word : ℕ) (old : Me (Unit {0}) (List Pass)) (found : ℕ)
+    (new : Me (Unit {0}) (List Pass)) : Type 0
   where
     pub plays : (pass : Pass) (call : Call) (phase : Phase) →
         old.0 ≡ pass ∷ [] →
@@ -123,11 +125,13 @@ pub record Looked
 
 -- what an exchange of a server's word tells; a mark that its own call expects still stands
 pub record Exchanged
-    (word : ℕ) (old : Me (Unit {0}) (List Pass)) (found : ℕ) (new : Me (Unit {0}) (List Pass)) : Type 0
+    (word : ℕ) (old : Me (Unit {0}) (List Pass)) (found : ℕ)
+    (new : Me (Unit {0}) (List Pass)) : Type 0
   where
     pub plays : Plays old found new
     pub valid : IsWord found
-    pub stands : (pass : Pass) (call : Call) (phase : Phase) (expected : ServerState) (mark : Mark) →
+    pub stands : (pass : Pass) (call : Call) (phase : Phase) →
+        (expected : ServerState) (mark : Mark) →
         old.0 ≡ pass ∷ [] →
         word ≡ health_place call.server →
         pass.state ≡ InCall call phase →
@@ -149,7 +153,8 @@ pub record IsAt (view : List Pass) (call : Call) (phase : Phase) : Type 0 where
   pub stands : pass.state ≡ InCall call phase
 
 -- the same under these settings, or the call begins here with this operation
-pub record CanLook (s : Settings) (op : Op) (view : List Pass) (call : Call) (phase : Phase) : Type 0
+pub record CanLook (s : Settings) (op : Op) (view : List Pass) (call : Call) (phase : Phase)
+    : Type 0
   where
     pub pass : Pass
     pub alone : view ≡ pass ∷ []
@@ -177,7 +182,7 @@ is_settle Settle = true
 is_settle action = false
 
 -- what a look found: a server whose mark and stamp the settings allow, or slots within the limit
-abbrev pub IsSound : Settings → Seen → Type 0
+abbrev pub IsSound : Settings → Observed → Type 0
 IsSound s (read.Server found) = IsMarkOf s found.mark × IsFit s found.mark found.stamp
 IsSound s (read.Slots slots) = slots.firm + slots.held ≤ s.limit
 IsSound s (read.Done won) = Unit {0}

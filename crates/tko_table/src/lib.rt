@@ -1,7 +1,7 @@
 //! The words that threads share, each changed in single atomic steps, under one rule.
 //!
-//! - A *pass* is what one thread knows: its state, the servers that it owns, the history as far as it
-//!   has seen it, and the calls that it made. It is data of the proofs alone.
+//! - A *pass* is what one thread knows: its state, the servers that it owns, the history as far as
+//!   it has seen it, and the calls that it made. It is data of the proofs alone.
 //! - A *seat* is a token of no bytes with which a thread takes steps. It has the pass of one
 //!   thread, or those of several.
 //! - `Words`: a health word for each server, the soft word and the enrolment word. Each step

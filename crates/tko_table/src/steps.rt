@@ -4,7 +4,7 @@ ghost use Rattle.std.specs.Prelude.{◌≡◌, ◌<◌, ◌+◌, true, [], drop,
 ghost use Rattle.tko_model.specs.Tracker.{IsFit};
 ghost use Rattle.tko_word.specs.Words.{IsMarkOf, IsWord};
 ghost use Rattle.tko_steps.specs.declared.table.Action.TheVariants.{Exchange, Give, LookAtServer, LookAtSlots, Reserve};
-ghost use Rattle.tko_steps.specs.declared.table.Seen.TheVariants as seen;
+ghost use Rattle.tko_steps.specs.declared.table.Observed.TheVariants as seen;
 ghost use Rattle.tko_steps.specs.Table.{action_of};
 ghost use Rattle.tko_steps.specs.declared.step.Kind.TheVariants as kind;
 ghost use Rattle.tko_steps.specs.Steps.{is_marked_state, kind_of_exchange};
@@ -21,13 +21,13 @@ use crate::values::{
 };
 use crate::{Seat, Words};
 use tko_model::{Mark, Op, ServerState};
-use tko_steps::{Action, Call, Phase, Seen, Slots};
+use tko_steps::{Action, Call, Phase, Observed, Slots};
 use tko_word::{pack_soft, unpack, unpack_soft};
 
 impl Words {
     /// Loads the word that the call looks at next. A call begins with its first look: the pass is
     /// then idle, and the phase is `Start`.
-    pub fn look(&self, seat: &mut Seat, call: &Call, phase: Phase) -> Seen
+    pub fn look(&self, seat: &mut Seat, call: &Call, phase: Phase) -> Observed
         requires seat { seat.old.table_id ≡ self.now.table.shared.table_id }
         requires server { call.now.server < self.now.settings.servers }
         requires stands { CanLook self.now.settings call.now.op (view_of seat.old) call.now phase }
@@ -37,9 +37,9 @@ impl Words {
         ensures sound { IsSound self.now.settings result }
     {
         if is_look_at_slots(phase.action(call)) {
-            Seen::Slots(self.look_at_slots(seat, call, phase))
+            Observed::Slots(self.look_at_slots(seat, call, phase))
         } else {
-            Seen::Server(self.look_at_server(seat, call, phase))
+            Observed::Server(self.look_at_server(seat, call, phase))
         }
     }
 

@@ -3,7 +3,7 @@ ghost use Rattle.std.specs.Prelude.{◌≡◌, ◌<◌, IsTrue, []};
 ghost use Rattle.tko_word.specs.Words.{IsMark};
 ghost use Rattle.tko_steps.specs.declared.phase.ThreadState.TheVariants.{InCall};
 ghost use Rattle.tko_steps.specs.declared.table.Action.TheVariants.{Exchange};
-ghost use Rattle.tko_steps.specs.declared.table.Seen.TheVariants as seen;
+ghost use Rattle.tko_steps.specs.declared.table.Observed.TheVariants as seen;
 ghost use Rattle.tko_model.specs.declared.mark.Op.TheVariants.{SoftFailure};
 ghost use Rattle.tko_steps.specs.declared.phase.Phase.TheVariants.{Start};
 ghost use Rattle.tko_steps.specs.Steps.{begun_by};
@@ -16,7 +16,7 @@ use crate::{Seat, Words};
 use std::process::Abort;
 use std::test::Fail;
 use tko_model::{Mark, Op, OpenFault, Reply, ServerState, Settings, SettingsFault};
-use tko_steps::{Action, Call, Decision, Kind, Phase, Seen, Slots, ThreadState, next};
+use tko_steps::{Action, Call, Decision, Kind, Phase, Observed, Slots, ThreadState, next};
 
 const SETTINGS: Settings = Settings {
     servers: 1,
@@ -69,7 +69,7 @@ fn exchange(
 }
 
 /// The step of a call, by its action.
-fn take(rt: &impl Abort, words: &Words, seat: &mut Seat, call: &Call, phase: Phase) -> Seen
+fn take(rt: &impl Abort, words: &Words, seat: &mut Seat, call: &Call, phase: Phase) -> Observed
     requires seat { seat.old.table_id ≡ words.now.table.shared.table_id }
     requires server { call.now.server < words.now.settings.servers }
     requires stands { IsCaller words.now.settings seat.old (InCall call.now phase) }
@@ -80,20 +80,20 @@ fn take(rt: &impl Abort, words: &Words, seat: &mut Seat, call: &Call, phase: Pha
         Action::LookAtServer => words.look(seat, call, phase),
         Action::LookAtSlots => words.look(seat, call, phase),
         Action::Exchange { found, mark } => {
-            Seen::Done(exchange(rt, words, seat, call, phase, found, mark))
+            Observed::Done(exchange(rt, words, seat, call, phase, found, mark))
         }
-        Action::Reserve { slots } => Seen::Done(words.reserve(seat, call, phase, slots)),
+        Action::Reserve { slots } => Observed::Done(words.reserve(seat, call, phase, slots)),
         Action::Settle => {
             words.shift(seat, call, phase);
-            Seen::Done(true)
+            Observed::Done(true)
         }
         Action::Loosen => {
             words.shift(seat, call, phase);
-            Seen::Done(true)
+            Observed::Done(true)
         }
         Action::Give => {
             words.give(seat, call, phase);
-            Seen::Done(true)
+            Observed::Done(true)
         }
     }
 }
@@ -104,7 +104,7 @@ fn step(
     words: &Words,
     seat: &mut Seat,
     state: ThreadState,
-) -> (Seen, ThreadState, Option<Reply>)
+) -> (Observed, ThreadState, Option<Reply>)
     requires seat { seat.old.table_id ≡ words.now.table.shared.table_id }
     requires stands { IsCaller words.now.settings seat.old state }
     ensures seat { IsSameSeat seat.old seat.new }
@@ -122,16 +122,16 @@ fn step(
 
 /// What a step is to read, and the answer that it is to give.
 fn is_as_expected(
-    seen: Seen,
+    seen: Observed,
     answer: Option<Reply>,
-    expected: Seen,
+    expected: Observed,
     expected_answer: Option<Reply>,
 ) -> bool {
     answer == expected_answer
         && match (seen, expected) {
-            (Seen::Server(one), Seen::Server(other)) => one == other,
-            (Seen::Slots(one), Seen::Slots(other)) => one == other,
-            (Seen::Done(one), Seen::Done(other)) => one == other,
+            (Observed::Server(one), Observed::Server(other)) => one == other,
+            (Observed::Slots(one), Observed::Slots(other)) => one == other,
+            (Observed::Done(one), Observed::Done(other)) => one == other,
             _ => false,
         }
 }
@@ -150,34 +150,34 @@ fn begun(number: u32) -> ThreadState
     }
 }
 
-const fn up(stamp: u64) -> Seen {
-    Seen::Server(ServerState {
+const fn up(stamp: u64) -> Observed {
+    Observed::Server(ServerState {
         mark: Mark::Up(0),
         stamp,
     })
 }
 
-const fn slots(firm: u32, held: u32) -> Seen {
-    Seen::Slots(Slots { firm, held })
+const fn slots(firm: u32, held: u32) -> Observed {
+    Observed::Slots(Slots { firm, held })
 }
 
 /// Steps of the two threads, in the order of a schedule: who steps, what it reads, what it answers.
-fn schedule() -> [(bool, Seen, Option<Reply>); 11] {
+fn schedule() -> [(bool, Observed, Option<Reply>); 11] {
     let soft = Mark::Soft(0);
     [
         (false, up(0), None),
         (false, slots(0, 0), None),
-        (false, Seen::Done(true), None),
+        (false, Observed::Done(true), None),
         (true, up(0), None),
         (true, slots(0, 1), None),
-        (true, Seen::Done(true), None),
-        (false, Seen::Done(true), None),
-        (true, Seen::Done(false), None),
-        (false, Seen::Done(true), Some(Reply::TookSoft)),
-        (true, Seen::Done(true), None),
+        (true, Observed::Done(true), None),
+        (false, Observed::Done(true), None),
+        (true, Observed::Done(false), None),
+        (false, Observed::Done(true), Some(Reply::TookSoft)),
+        (true, Observed::Done(true), None),
         (
             true,
-            Seen::Server(ServerState {
+            Observed::Server(ServerState {
                 mark: soft,
                 stamp: 1,
             }),

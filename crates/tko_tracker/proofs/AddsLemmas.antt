@@ -13,8 +13,8 @@ use Rattle.tko_steps.specs.declared.phase.Phase.TheVariants.{Start, Read, AtThre
 use Rattle.tko_steps.specs.declared.table.Action.TheVariants.{Exchange}
 use Rattle.tko_steps.specs.declared.table.Decision.{Decision}
 use Rattle.tko_steps.specs.declared.table.Decision.TheVariants.{Goes, Answers}
-use Rattle.tko_steps.specs.declared.table.Seen.{Seen}
-use Rattle.tko_steps.specs.declared.table.Seen.TheVariants as seen
+use Rattle.tko_steps.specs.declared.table.Observed.{Observed}
+use Rattle.tko_steps.specs.declared.table.Observed.TheVariants as seen
 use Rattle.tko_steps.specs.Core.{Shared, seen_by}
 use Rattle.tko_steps.specs.Steps.{is_done, is_marked_state, state_after}
 use Rattle.tko_steps.specs.Table.{action_of, next_of, same_server}
@@ -53,7 +53,7 @@ pub added-none : (s : Settings) (first : Pass) (call : Call) → HasAdded s firs
 added-none s first call = record { more = []; seen = sym (append-nil first.seen); own = refl; mine = refl; planned = tt }
 
 -- a thread does not lose the exchange of its own mark
-sure-at : (op : Op) (base owned : List ℕ) (call : Call) (shared : Shared) (read : Seen) (phase : Phase)
+sure-at : (op : Op) (base owned : List ℕ) (call : Call) (shared : Shared) (read : Observed) (phase : Phase)
     → KnowsAt op call.server base owned phase → read ≡ seen_by shared call.server (action_of call.number phase)
     → ((found : ServerState) (mark : Mark) → action_of call.number phase ≡ Exchange found mark → is_marked_state found.mark ≡ true → read ≡ seen.Done true)
     → IsSure call shared phase
@@ -70,7 +70,7 @@ sure-at op base owned call shared read (Loosened found mark answer) knows reads 
     let both : seen.Done (same_server (server_at shared.servers call.server) found) ≡ seen.Done true = sym reads ∙ sure found mark refl knows.3 in cc
 sure-at op base owned call shared read (Emptied answer) knows reads sure = tt
 
-module _ (s : Settings) (first now mid : Pass) (call : Call) (phase : Phase) (read : Seen) (has : HasAdded s first now call phase)
+module _ (s : Settings) (first now mid : Pass) (call : Call) (phase : Phase) (read : Observed) (has : HasAdded s first now call phase)
     (settings : now.settings ≡ s) (op : Op) (base owned : List ℕ) (knows : KnowsAt op call.server base owned phase)
     (step : IsStep now call phase read mid) where
   abbrev takes : Takes now call phase read mid
@@ -106,7 +106,7 @@ module _ (s : Settings) (first now mid : Pass) (call : Call) (phase : Phase) (re
   adds =
       let sure = sure-at op base owned call takes.shared read phase knows takes.reads step.sure in
       let told = told-next s call [] at takes.shared phase has.planned sure in
-      let P : Seen → Type 0 = λ it. changes_in call.number (mine_after [] call (next_of s call phase it) at) ++ pending (state_after call (next_of s call phase it))
+      let P : Observed → Type 0 = λ it. changes_in call.number (mine_after [] call (next_of s call phase it) at) ++ pending (state_after call (next_of s call phase it))
       ≡ pending_at call phase ++ changes_by call phase (is_done it) in
       subst P (sym takes.reads) told
 
@@ -118,7 +118,7 @@ module _ (s : Settings) (first now mid : Pass) (call : Call) (phase : Phase) (re
 
   planned-mid : IsPlanned s (state_after call decision)
   planned-mid =
-      let P : Seen → Type 0 = λ it. IsPlanned s (state_after call (next_of s call phase it)) in
+      let P : Observed → Type 0 = λ it. IsPlanned s (state_after call (next_of s call phase it)) in
       subst P (sym takes.reads) (plans-next s call takes.shared phase has.planned)
 
   after-by : (it : Decision) → decision ≡ it → HasAddedAfter s first mid call it

@@ -17,8 +17,8 @@ use Rattle.tko_steps.specs.declared.phase.Phase.TheVariants.{Start}
 use Rattle.tko_steps.specs.declared.phase.ThreadState.TheVariants.{Idle, InCall}
 use Rattle.tko_steps.specs.declared.table.Decision.{Decision}
 use Rattle.tko_steps.specs.declared.table.Decision.TheVariants.{Goes, Answers}
-use Rattle.tko_steps.specs.declared.table.Seen.{Seen}
-use Rattle.tko_steps.specs.declared.table.Seen.TheVariants as seen
+use Rattle.tko_steps.specs.declared.table.Observed.{Observed}
+use Rattle.tko_steps.specs.declared.table.Observed.TheVariants as seen
 use Rattle.tko_steps.specs.Cost.{most_steps}
 use Rattle.tko_steps.specs.Steps.{begun_by, in_call, is_done, state_after}
 use Rattle.tko_steps.specs.Table.{action_of, from_mark, from_up_by, next_of, on_others, on_own_hard_by, on_own_soft_by}
@@ -108,7 +108,7 @@ head one other e = cc
 
 -- what one more step makes of it
 module _ (s : Settings) (ranges : IsWithinRanges s) (number : ℕ) (op : Op) (server : ℕ) (before : List Pass) (call : Call) (phase : Phase)
-    (view : List Pass) (at : IsUnderWay s number op server before call phase view) (read : Seen) (after : List Pass)
+    (view : List Pass) (at : IsUnderWay s number op server before call phase view) (read : Observed) (after : List Pass)
     (stepped : Stepped s view call phase read after) where
   abbrev mid : Pass
   mid = stepped.new
@@ -134,7 +134,7 @@ module _ (s : Settings) (ranges : IsWithinRanges s) (number : ℕ) (op : Op) (se
       let act = action_of call.number phase in
       let steps : at.now.steps + 1 ≡ mid.steps = sym (ap (λ (it : Pass). it.steps) takes.knows) in
       let owned : owned_after at.now.owned call.server act (is_done read) ≡ mid.owned = sym (ap (λ (it : Pass). it.owned) takes.knows) in
-      let P : Seen → Type 0 = λ it.
+      let P : Observed → Type 0 = λ it.
       KnowsAfter s at.first.steps at.first.owned call phase (next_of s call phase it) (at.now.steps + 1)
       (owned_after at.now.owned call.server act (is_done it)) in
       let Q : ℕ → Type 0 = λ n. KnowsAfter s at.first.steps at.first.owned call phase (next_of s call phase read) n
@@ -212,7 +212,7 @@ look-mark (Hard owner) s call found is of =
     (λ theirs. ap (λ op. Answers (on_others op found.mark)) is ∙ ap (λ mark. Answers (Marked mark)) of)
 
 -- a look-up that took its one step
-pub looked-up : (s : Settings) (ranges : IsWithinRanges s) (number server : ℕ) (before : List Pass) (found : ServerState) (read : Seen) (after : List Pass)
+pub looked-up : (s : Settings) (ranges : IsWithinRanges s) (number server : ℕ) (before : List Pass) (found : ServerState) (read : Observed) (after : List Pass)
     → CanCall s number before → read ≡ seen.Server found → Stepped s before (begun_by number LookUp server) Start read after
     → Ran s number before LookUp server (look_reply found.mark) after
 looked-up s ranges number server before found read after can is stepped =

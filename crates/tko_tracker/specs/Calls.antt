@@ -13,8 +13,8 @@ use Rattle.tko_steps.specs.declared.phase.ThreadState.TheVariants.{Idle}
 use Rattle.tko_steps.specs.declared.table.Action.TheVariants.{Exchange}
 use Rattle.tko_steps.specs.declared.table.Decision.{Decision}
 use Rattle.tko_steps.specs.declared.table.Decision.TheVariants.{Goes, Answers}
-use Rattle.tko_steps.specs.declared.table.Seen.{Seen}
-use Rattle.tko_steps.specs.declared.table.Seen.TheVariants as seen
+use Rattle.tko_steps.specs.declared.table.Observed.{Observed}
+use Rattle.tko_steps.specs.declared.table.Observed.TheVariants as seen
 use Rattle.tko_steps.specs.Steps.{begun_by, is_marked_state}
 use Rattle.tko_steps.specs.Table.{action_of, next_of}
 use Rattle.tko_table.specs.declared.pass.Pass.{Pass}
@@ -80,12 +80,13 @@ owned_left answer server owned =
 
 -- one step of a call: what it read, and what the pass knew then
 pub record Taken : Type 0 where
-  pub read : Seen
+  pub read : Observed
   pub after : Pass
 
--- the step of a call at this phase: that of the core. A thread does not lose the exchange of its own
--- mark
-pub record IsStep (before : Pass) (call : Call) (phase : Phase) (read : Seen) (after : Pass) : Type 0
+-- the step of a call at this phase: that of the core. A thread does not lose the exchange of its
+-- own mark
+pub record IsStep (before : Pass) (call : Call) (phase : Phase) (read : Observed) (after : Pass)
+    : Type 0
   where
     pub takes : Takes before call phase read after
     pub sure : (found : ServerState) (mark : Mark) →

@@ -11,10 +11,11 @@ use Rattle.tko_table.specs.History.{changes_in, made_by, made_with}
 -- a call with this answer: its pass has then seen what it had seen and more; in that its thread's
 -- only change is the call's own, if its answer stands for one; and the call goes last in the
 -- thread's calls
-pub record Adds (before : Pass) (op : Op) (server : ℕ) (answer : Reply) (after : Pass) : Type 0 where
+pub record Adds (before : Pass) (op : Op) (server : ℕ) (answer : Reply) (after : Pass) : Type 0
+  where
   pub number : ℕ
   pub idle : before.state ≡ Idle number
-  -- after so many changes its answer was decided
+  -- the number of changes after which its answer was decided
   pub at : ℕ
   pub more : List Change
   pub seen : after.seen ≡ before.seen ++ more

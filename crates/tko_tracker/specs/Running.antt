@@ -8,7 +8,7 @@ use Rattle.tko_steps.specs.declared.phase.Call.{Call}
 use Rattle.tko_steps.specs.declared.phase.Phase.{Phase}
 use Rattle.tko_steps.specs.declared.phase.Phase.TheVariants.{Read, AtThreshold, Reserving, Holding, Loosening, Loosened}
 use Rattle.tko_steps.specs.declared.phase.ThreadState.TheVariants.{Idle, InCall}
-use Rattle.tko_steps.specs.declared.table.Seen.{Seen}
+use Rattle.tko_steps.specs.declared.table.Observed.{Observed}
 use Rattle.tko_steps.specs.Cost.{most_steps}
 use Rattle.tko_steps.specs.Steps.{in_call}
 use Rattle.tko_table.specs.declared.pass.Pass.{Pass}
@@ -37,8 +37,8 @@ pub record IsReady (s : Settings) (view : List Pass) (call : Call) (phase : Phas
 
 -- it took that step, which read this
 pub record Stepped
-    (s : Settings) (before : List Pass) (call : Call) (phase : Phase) (read : Seen) (after : List Pass)
-    : Type 0
+    (s : Settings) (before : List Pass) (call : Call) (phase : Phase) (read : Observed)
+    (after : List Pass) : Type 0
   where
     pub old : Pass
     pub new : Pass
@@ -57,8 +57,8 @@ pub record CanCall (s : Settings) (number : ℕ) (view : List Pass) : Type 0 whe
 
 -- that pass made a call with this answer, and makes none now
 pub record Ran
-    (s : Settings) (number : ℕ) (before : List Pass) (op : Op) (server : ℕ) (answer : Reply) (after : List Pass)
-    : Type 0
+    (s : Settings) (number : ℕ) (before : List Pass) (op : Op) (server : ℕ) (answer : Reply)
+    (after : List Pass) : Type 0
   where
     pub old : Pass
     pub new : Pass

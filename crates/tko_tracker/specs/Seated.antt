@@ -84,7 +84,8 @@ pub record ArePasses (tracker : TrackerId) (passes : List Seated) : Type 0 where
       IsOf tracker (slice_index_or passes place other)
       × ((slice_index_or passes place other).pass.state ≡ Idle place)
 
--- a pass of this tracker made a call with this answer, in so many steps at most, and is idle again
+-- a pass of this tracker made a call with this answer, within the bound of its steps, and is idle
+-- again
 pub record Answered
     (tracker : TrackerId) (before : Seated) (op : Op) (server : ℕ) (answer : Reply) (after : Seated)
     : Type 0

@@ -108,7 +108,8 @@ fn call(words: &Words, pass: &mut Pass, op: Op, server: usize) -> Reply
 fn look(words: &Words, pass: &mut Pass, server: usize) -> Mark
     requires tracker { IsOf (tracker_of words.now) pass.old }
     requires server { server < words.now.settings.servers }
-    ensures { Answered (tracker_of words.now) pass.old op.LookUp server (look_reply result) pass.new }
+    ensures { Answered (tracker_of words.now) pass.old op.LookUp server
+        (look_reply result) pass.new }
 {
     look_at(words, &mut pass.seat, pass.number, server)
 }

@@ -97,7 +97,7 @@ pub fn close(tracker: Tracker, passes: Vec<IdlePass>) -> Result<Final, (Tracker,
     })
 }
 
-/// Whether these are the passes of so many threads, each once.
+/// Whether these are the passes of `threads` threads, each once.
 fn holds_each_once(passes: &[IdlePass], threads: u32) -> bool
     ensures holds { result ≡ true → HoldsEachOnce threads passes.now }
     ensures fails { result ≡ false → ¬ HoldsEachOnce threads passes.now }

@@ -7,7 +7,7 @@ ghost use Rattle.tko_tracker.specs.Running.{CanCall, Ran};
 
 use crate::step::take_step;
 use tko_model::{Mark, Op, Reply};
-use tko_steps::{Call, Decision, Phase, Seen, next};
+use tko_steps::{Call, Decision, Phase, Observed, next};
 use tko_table::{Seat, Words};
 
 /// Makes a call of the thread with this number, and returns its answer.
@@ -58,7 +58,7 @@ pub(crate) fn look_at(words: &Words, seat: &mut Seat, number: u32, server: usize
         lost: 0,
     };
     match take_step(words, seat, &call, Phase::Start) {
-        Seen::Server(found) => found.mark,
-        Seen::Slots(_) | Seen::Done(_) => Mark::Up(0),
+        Observed::Server(found) => found.mark,
+        Observed::Slots(_) | Observed::Done(_) => Mark::Up(0),
     }
 }

@@ -3,16 +3,16 @@ ghost use Rattle.std.specs.Prelude.{◌≡◌, ◌<◌, true};
 ghost use Rattle.tko_steps.specs.Steps.{is_marked_state};
 ghost use Rattle.tko_steps.specs.Table.{action_of};
 ghost use Rattle.tko_steps.specs.declared.table.Action.TheVariants.{Exchange};
-ghost use Rattle.tko_steps.specs.declared.table.Seen.TheVariants as seen;
+ghost use Rattle.tko_steps.specs.declared.table.Observed.TheVariants as seen;
 ghost use Rattle.tko_table.specs.Steps.{IsAt, IsSameSeat, IsShift, IsWritable, Took, view_of};
 ghost use Rattle.tko_tracker.specs.Running.{IsReady, Stepped};
 
 use tko_model::{Mark, ServerState};
-use tko_steps::{Action, Call, Phase, Seen};
+use tko_steps::{Action, Call, Phase, Observed};
 use tko_table::{Seat, Words};
 
 /// Takes the step of the call's phase, and returns what it read.
-pub(crate) fn take_step(words: &Words, seat: &mut Seat, call: &Call, phase: Phase) -> Seen
+pub(crate) fn take_step(words: &Words, seat: &mut Seat, call: &Call, phase: Phase) -> Observed
     requires seat { seat.old.table_id ≡ words.now.table.shared.table_id }
     requires server { call.now.server < words.now.settings.servers }
     requires ready { IsReady words.now.settings (view_of seat.old) call.now phase }
@@ -24,19 +24,19 @@ pub(crate) fn take_step(words: &Words, seat: &mut Seat, call: &Call, phase: Phas
         Action::LookAtServer => words.look(seat, call, phase),
         Action::LookAtSlots => words.look(seat, call, phase),
         Action::Exchange { found, mark } => {
-            Seen::Done(exchange(words, seat, call, phase, found, mark))
+            Observed::Done(exchange(words, seat, call, phase, found, mark))
         }
-        Action::Reserve { slots } => Seen::Done(words.reserve(seat, call, phase, slots)),
+        Action::Reserve { slots } => Observed::Done(words.reserve(seat, call, phase, slots)),
         Action::Settle => shift(words, seat, call, phase),
         Action::Loosen => shift(words, seat, call, phase),
         Action::Give => {
             words.give(seat, call, phase);
-            Seen::Done(true)
+            Observed::Done(true)
         }
     }
 }
 
-fn shift(words: &Words, seat: &mut Seat, call: &Call, phase: Phase) -> Seen
+fn shift(words: &Words, seat: &mut Seat, call: &Call, phase: Phase) -> Observed
     requires seat { seat.old.table_id ≡ words.now.table.shared.table_id }
     requires stands { IsAt (view_of seat.old) call.now phase }
     requires kind { IsShift (action_of call.now.number phase) }
@@ -45,7 +45,7 @@ fn shift(words: &Words, seat: &mut Seat, call: &Call, phase: Phase) -> Seen
     ensures done { result ≡ seen.Done true }
 {
     words.shift(seat, call, phase);
-    Seen::Done(true)
+    Observed::Done(true)
 }
 
 /// Exchanges the server's word by the step function of this kind of exchange.

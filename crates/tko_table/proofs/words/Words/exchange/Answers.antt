@@ -3,8 +3,8 @@ use Rattle.tko_steps.proofs.TableLemmas.{eq-same_server}
 use Rattle.tko_model.specs.declared.settings.Settings.{Settings}
 use Rattle.tko_word.specs.Words.{server_in}
 use Rattle.tko_steps.specs.declared.table.Action.{Action}
-use Rattle.tko_steps.specs.declared.table.Seen.{Seen}
-use Rattle.tko_steps.specs.declared.table.Seen.TheVariants as read
+use Rattle.tko_steps.specs.declared.table.Observed.{Observed}
+use Rattle.tko_steps.specs.declared.table.Observed.TheVariants as read
 use Rattle.tko_table.specs.Steps.{Took, read_in, view_of}
 use Rattle.tko_table.proofs.ValueLemmas.{allows-exchange_at}
 use Rattle.tko_table.proofs.SharedLemmas.{word-expected}
@@ -30,7 +30,7 @@ pub returns-clause-step : goal.returns-clause-step
 returns-clause-step c =
     let at = c.requires.stands in
     let told = c.compare_exchange.ensures.2.0 in
-    let P : Seen → Type 0 = λ it.
+    let P : Observed → Type 0 = λ it.
     Took (view_of c.args.seat.now) c.args.call.now c.args.phase it (view_of c.compare_exchange.new.seat) in
     let Q : Action → Type 0 = λ it. P (read_in it c.compare_exchange.result) in
     let tests = c.is_won.ensures ∙ word-expected c.compare_exchange.result c.word_of-expected.result c.args.found told.valid

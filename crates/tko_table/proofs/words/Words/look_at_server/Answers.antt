@@ -5,8 +5,8 @@ use Rattle.tko_model.specs.Tracker.{IsFit}
 use Rattle.tko_word.specs.Words.{IsMarkOf}
 use Rattle.tko_steps.specs.declared.table.Action.{Action}
 use Rattle.tko_steps.specs.declared.table.Action.TheVariants.{LookAtServer}
-use Rattle.tko_steps.specs.declared.table.Seen.{Seen}
-use Rattle.tko_steps.specs.declared.table.Seen.TheVariants as read
+use Rattle.tko_steps.specs.declared.table.Observed.{Observed}
+use Rattle.tko_steps.specs.declared.table.Observed.TheVariants as read
 use Rattle.tko_table.specs.Steps.{Took, IsSoundWord, read_in, view_of}
 use Rattle.tko_table.proofs.words.Words.look_at_server.Goals as goal
 
@@ -18,7 +18,7 @@ pub returns-clause-step : goal.returns-clause-step
 returns-clause-step c =
     let at = c.requires.stands in
     let took = c.load.ensures.looked.plays at.pass c.args.call.now c.args.phase at.alone refl at.stands in
-    let P : Seen → Type 0 = λ it. Took (view_of c.args.seat.now) c.args.call.now c.args.phase it (view_of c.load.new.seat) in
+    let P : Observed → Type 0 = λ it. Took (view_of c.args.seat.now) c.args.call.now c.args.phase it (view_of c.load.new.seat) in
     let Q : Action → Type 0 = λ it. P (read_in it c.load.result) in
     let is_look : Q LookAtServer = subst Q c.requires.kind took in
     subst P (ap read.Server c.unpack-mark.ensures.read) is_look

@@ -1,8 +1,8 @@
 use Rattle.std.proofs.Common.{◌≡◌, ap, arith, subst, sym, ◌∙◌}
 use Rattle.tko_model.specs.declared.settings.Settings.{Settings}
 use Rattle.tko_steps.specs.declared.table.Action.{Action}
-use Rattle.tko_steps.specs.declared.table.Seen.{Seen}
-use Rattle.tko_steps.specs.declared.table.Seen.TheVariants as read
+use Rattle.tko_steps.specs.declared.table.Observed.{Observed}
+use Rattle.tko_steps.specs.declared.table.Observed.TheVariants as read
 use Rattle.tko_table.specs.Rule.{slots_in}
 use Rattle.tko_table.specs.Steps.{Took, read_in, view_of}
 use Rattle.tko_table.proofs.AllowsLemmas.{allows-look_at_slots, under-way}
@@ -21,7 +21,7 @@ load-word-requires c =
 pub returns-clause-step : goal.returns-clause-step
 returns-clause-step c =
     let at = c.requires.stands in
-    let P : Seen → Type 0 = λ it.
+    let P : Observed → Type 0 = λ it.
     Took (view_of c.args.seat.now) c.args.call.now c.args.phase it (view_of c.load-word.new.seat) in
     let Q : Action → Type 0 = λ it. P (read_in it c.load-word.result) in
     let same : slots_in c.load-word.result ≡ record { firm = c.unpack_soft-firm.result.0; held = c.unpack_soft-firm.result.1 } =

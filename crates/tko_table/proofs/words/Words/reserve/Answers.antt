@@ -1,7 +1,7 @@
 use Rattle.std.proofs.Common.{◌≡◌, ◌+◌, ◌%◌, ◌^◌, ◌∙◌, ap, arith, subst, sym}
 use Rattle.tko_steps.specs.declared.table.Action.{Action}
-use Rattle.tko_steps.specs.declared.table.Seen.{Seen}
-use Rattle.tko_steps.specs.declared.table.Seen.TheVariants as read
+use Rattle.tko_steps.specs.declared.table.Observed.{Observed}
+use Rattle.tko_steps.specs.declared.table.Observed.TheVariants as read
 use Rattle.tko_table.specs.Rule.{slots_in}
 use Rattle.tko_table.specs.Steps.{Took, read_in, view_of}
 use Rattle.tko_table.proofs.AllowsLemmas.{allows-reserve}
@@ -24,7 +24,7 @@ compare_exchange-requires c =
 pub returns-clause-step : goal.returns-clause-step
 returns-clause-step c =
     let at = c.requires.stands in
-    let P : Seen → Type 0 = λ it.
+    let P : Observed → Type 0 = λ it.
     Took (view_of c.args.seat.now) c.args.call.now c.args.phase it (view_of c.compare_exchange.new.seat) in
     let Q : Action → Type 0 = λ it. P (read_in it c.compare_exchange.result) in
     let expects : slots_in c.pack_soft-expected.result ≡ c.args.slots =
