@@ -31,7 +31,6 @@ use Rattle.tko_steps.proofs.OwnLemmas.{act_step, exchange_step}
 use Rattle.tko_steps.proofs.AlongLemmas.{AtAct, AtBegin, AtEnrol, along-turn, along-turns}
 use Rattle.tko_steps.proofs.FamilyLemmas.{Acts, Follows, InFamily, InFamily-start, InFamily-turn, IsEnough, KeptAtBegin, KeptAtStep, Opens, act_own}
 use Rattle.tko_steps.proofs.RunLemmas.{Holds, Holds-start, Holds-turn, loose-le-holds}
-use Rattle.tko_steps.proofs.StartLemmas.{Says-from_start}
 use Rattle.tko_steps.proofs.TableLemmas.{eq-same_server, same_server-true}
 use Rattle.tko_steps.proofs.ThreadLemmas.{count_by-moved}
 use Rattle.tko_steps.proofs.WiringLemmas.{stepped_from}
@@ -201,8 +200,7 @@ module _ (core : CoreState) (thread : ℕ) (call : CallState) (is : IsCore core)
 
     told-act : (phase : Phase) → thread_at core thread ≡ InCall call phase → Knows core.settings thread call steps now phase → ToldBy phase
     told-act Start stands knows =
-        told-start core.settings thread call steps number (act_step core thread call Start) (follows core call Start) refl knows (softs-le core is)
-        (Says-from_start core.settings call now)
+        told-start core.settings thread call steps number (act_step core thread call Start) refl knows (softs-le core is)
     told-act (Read found mark answer) stands knows = told-Read found mark answer knows
     told-act (AtThreshold found) stands knows = told-AtThreshold found knows
     told-act (Limit found) stands knows = told-Limit found knows

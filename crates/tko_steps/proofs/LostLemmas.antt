@@ -25,10 +25,9 @@ use Rattle.tko_steps.specs.Lost.{ExpectsWhatItSaw, HasLostEachTry, IsChangedSinc
 use Rattle.tko_steps.specs.Runs.{Call, Moment, OwnStep, StepTaken, Took, World}
 use Rattle.tko_steps.specs.Table.{goes, lost_try, same_server, same_slots}
 use Rattle.tko_steps.proofs.FamilyLemmas.{Follows, act_own}
-use Rattle.tko_steps.proofs.FirstLookLemmas.{Leads, LeadsTo, Leads-from_start, leads-to}
+use Rattle.tko_steps.proofs.StartLemmas.{from_start-is, is_plain, plain≢}
 use Rattle.tko_steps.proofs.TryLemmas.{exchange-holds, exchange-is_exchange, exchange-no_give, exchange-not_look, last_look-elsewhere, last_look-here, last_look-lost, loses_try-change, lost_tries-given, lost_tries-held, lost_tries-kept, lost_tries-lost, owes_slot-held}
 use Rattle.tko_steps.proofs.WiringLemmas.{stepped_from}
-use Rattle.tko_steps.proofs.TrackerLemmas.{is_plain, plain≢}
 
 -- ---- what a call knows of its tries
 
@@ -162,28 +161,21 @@ module _ (w : World) (thread : ℕ) (call : CallState) (steps : List OwnStep) (i
       }
 
   -- the first look of a try
-  start-next : (decision : Decision) → HasNotLooked s call.server call.lost steps → ExpectsWhatItSaw s steps
-      → (own Start).step.answer ≡ answer_of decision → Leads call.op call now decision → Next Start decision
-  start-next (Goes lost phase) knows expects is_answer (same, leads) = to-phase phase leads
-    where
-      loses_not : loses Start ≡ false
-      loses_not = ap (λ it. loses_try s (own Start).step it) knows.looked
-
-      looked : (found : ServerState) → found ≡ now → HasLooked s (after Start) thread call.server lost (own Start ∷ steps) false found
-      looked found is_now =
-          record {
-            count = lost_tries-kept s (own Start) steps loses_not refl ∙ knows.count ∙ sym same;
-            holds = knows.holds;
-            looked = last_look-here s (own Start) steps at_server loses_not here ∙ ap (λ it. Some (word.Server it)) (sym is_now);
-            since = inl (sym is_now);
-          }
-
-      to-phase : (phase : Phase) → LeadsTo call.op call now phase → Next Start (Goes lost phase)
-      to-phase = leads-to call.op call now (λ it. Next Start (Goes lost it))
-          (λ found mark answer leads. ((refl, expects), (looked found leads.0, leads.1)))
-          (λ found leads. ((refl, expects), looked found leads.0))
-          (λ found mark answer leads. ((refl, expects), (looked found leads.0, leads.1)))
-  start-next (Answers answer) knows expects is_answer leads = answers Start answer is_answer leads.0 (refl, expects)
+  act-Start : KnowsTries s w thread call steps Start → Next Start (follows w.core call Start)
+  act-Start (expects, knows) =
+      let loses_not : loses Start ≡ false = ap (λ it. loses_try s (own Start).step it) knows.looked in
+      let looked : HasLooked s (after Start) thread call.server call.lost (own Start ∷ steps) false now = record {
+        count = lost_tries-kept s (own Start) steps loses_not refl ∙ knows.count;
+        holds = knows.holds;
+        looked = last_look-here s (own Start) steps at_server loses_not here;
+        since = inl refl;
+      } in
+      from_start-is s call now (λ decision. (own Start).step.answer ≡ answer_of decision → Next Start decision)
+      (λ answer is_answer is told. answers Start answer told is_answer.contended (refl, expects))
+      (λ soft fresh is told. ((refl, expects), looked))
+      (λ mark answer put can by is told. ((refl, expects), (looked, put.plain)))
+      (λ mark answer put can mine is told. ((refl, expects), (looked, put.plain)))
+      refl
 
   -- an exchange of the server's word expects what the last look found
   expects-exchange : (phase : Phase) (found : ServerState) (mark : Mark) (held : Bool) → HasLooked s w thread call.server call.lost steps held found
@@ -291,8 +283,7 @@ module _ (w : World) (thread : ℕ) (call : CallState) (steps : List OwnStep) (i
 
   pub tries-act : (phase : Phase) → thread_at w.core thread ≡ InCall call phase → KnowsTries s w thread call steps phase
       → Next phase (follows w.core call phase)
-  tries-act Start stands (expects, knows) =
-      start-next (follows w.core call Start) knows expects refl (Leads-from_start s call now)
+  tries-act Start stands knows = act-Start knows
   tries-act (Read found mark answer) stands knows = act-Read found mark answer knows
   tries-act (AtThreshold found) stands knows = act-AtThreshold found knows
   tries-act (Limit found) stands knows = act-Limit found knows

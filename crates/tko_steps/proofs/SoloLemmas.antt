@@ -28,13 +28,12 @@ use Rattle.tko_steps.proofs.CountLemmas.{get_or-replicate_same}
 use Rattle.tko_steps.proofs.AloneLemmas.{IsNotContended, Plays, Plays-with_step, Replays-plays}
 use Rattle.tko_steps.proofs.CallLemmas.{All-with_step, latest, with_step-none}
 use Rattle.tko_steps.proofs.EveryCallLemmas.{HoldsBoth, HoldsBoth-run, along}
-use Rattle.tko_steps.proofs.FirstLookLemmas.{Leads, LeadsTo, Leads-from_start, leads-to}
+use Rattle.tko_steps.proofs.StartLemmas.{from_start-is, is_plain, plain≢}
 use Rattle.tko_steps.proofs.LegalLemmas.{IsSoundCall, open_call}
 use Rattle.tko_steps.proofs.LoserLemmas.{eq-same_slots, passes-count_by}
 use Rattle.tko_steps.proofs.OwnLemmas.{act_step, enrol_step}
 use Rattle.tko_steps.proofs.TableLemmas.{eq-same_server}
 use Rattle.tko_steps.proofs.WiringLemmas.{begun, stepped_from}
-use Rattle.tko_steps.proofs.TrackerLemmas.{is_plain, plain≢}
 
 -- ---- what the thread saw still is there
 
@@ -104,18 +103,13 @@ module _ (core : CoreState) (thread : ℕ) (call : CallState) (is : IsCore core)
       cc)
       (cases_eq found.at thread)
 
-  start-next : (decision : Decision) → Leads call.op call now decision → Next Start decision
-  start-next (Goes lost phase) (same, leads) = to-phase phase leads
-    where
-      to-phase : (phase : Phase) → LeadsTo call.op call now phase → SteadyAt now slots phase
-      to-phase = leads-to call.op call now (λ it. SteadyAt now slots it)
-          (λ found mark answer leads. (sym leads.0, leads.1))
-          (λ found leads. sym leads.0)
-          (λ found mark answer leads. leads.1)
-  start-next (Answers answer) leads = leads.0
-
   steady-act : (phase : Phase) → thread_at core thread ≡ InCall call phase → SteadyAt now slots phase → Next phase (follows core call phase)
-  steady-act Start stands knows = start-next (follows core call Start) (Leads-from_start s call now)
+  steady-act Start stands knows =
+      from_start-is s call now (Next Start)
+      (λ answer is_answer is. is_answer.contended)
+      (λ soft fresh is. refl)
+      (λ mark answer put can by is. (refl, put.plain))
+      (λ mark answer put can own is. put.plain)
   steady-act (Read found mark answer) stands knows =
       let phase : Phase = Read found mark answer in
       cond_both (same_server now found) (Answers answer) (lost_try s call) (Next phase)

@@ -1,6 +1,6 @@
 -- A call under way: what its loop keeps from step to step.
 use Rattle.std.proofs.Common.{◌≡◌, ℕ, ◌+◌, ◌<◌, ◌≤◌, true, eqb, List, [], ◌∷◌, ◌++◌, refl, sym, ap, ◌∙◌, subst, arith}
-use Rattle.std.proofs.lemmas.Bool.{cond_both}
+use Rattle.std.proofs.lemmas.Bool.{cond_both, eqb-true}
 use Rattle.tko_model.specs.declared.mark.Mark.{Mark}
 use Rattle.tko_model.specs.declared.mark.Mark.TheVariants.{Up, Soft, Hard}
 use Rattle.tko_model.specs.declared.mark.Op.{Op}
@@ -10,7 +10,9 @@ use Rattle.tko_model.specs.declared.mark.Reply.TheVariants.{Marked}
 use Rattle.tko_model.specs.declared.settings.Settings.{Settings}
 use Rattle.tko_model.specs.declared.state.ServerState.{ServerState}
 use Rattle.tko_model.specs.Looks.{look_reply}
+use Rattle.tko_model.specs.declared.transition.Transition.{Transition}
 use Rattle.tko_model.specs.Ranges.{IsWithinRanges}
+use Rattle.tko_model.specs.Tracker.{on_others, on_own_hard, on_own_soft, stays, transition}
 use Rattle.tko_steps.specs.declared.phase.Call.{Call}
 use Rattle.tko_steps.specs.declared.phase.Phase.{Phase}
 use Rattle.tko_steps.specs.declared.phase.Phase.TheVariants.{Start}
@@ -21,7 +23,7 @@ use Rattle.tko_steps.specs.declared.table.Observed.{Observed}
 use Rattle.tko_steps.specs.declared.table.Observed.TheVariants as seen
 use Rattle.tko_steps.specs.Cost.{most_steps}
 use Rattle.tko_steps.specs.Steps.{begun_by, in_call, is_done, state_after}
-use Rattle.tko_steps.specs.Table.{action_of, from_mark, from_up_by, next_of, on_others, on_own_hard_by, on_own_soft_by}
+use Rattle.tko_steps.specs.Table.{action_of, next_of, sets_out}
 use Rattle.tko_table.specs.declared.pass.Pass.{Pass}
 use Rattle.tko_table.specs.History.{changes_in, made_by, made_with, place_of_answer}
 use Rattle.tko_table.specs.Passes.{owned_after, owns}
@@ -199,17 +201,14 @@ module _ (s : Settings) (ranges : IsWithinRanges s) (number : ℕ) (op : Op) (se
       }
 
 -- a look-up's first step answers it
-look-mark : (mark : Mark) (s : Settings) (call : Call) (found : ServerState) → call.op ≡ LookUp → found.mark ≡ mark
-    → from_mark mark s call found ≡ Answers (look_reply mark)
-look-mark (Up count) s call found is of = ap (λ op. from_up_by op s call found count) is
-look-mark (Soft owner) s call found is of =
-    cond_both (eqb owner call.number) (on_own_soft_by call.op call found) (Answers (on_others call.op found.mark)) (λ it. it ≡ Answers (Marked (Soft owner)))
-    (λ mine. ap (λ op. on_own_soft_by op call found) is ∙ ap (λ mark. Answers (Marked mark)) of)
-    (λ theirs. ap (λ op. Answers (on_others op found.mark)) is ∙ ap (λ mark. Answers (Marked mark)) of)
-look-mark (Hard owner) s call found is of =
-    cond_both (eqb owner call.number) (on_own_hard_by call.op call found) (Answers (on_others call.op found.mark)) (λ it. it ≡ Answers (Marked (Hard owner)))
-    (λ mine. ap (λ op. on_own_hard_by op call found) is ∙ ap (λ mark. Answers (Marked mark)) of)
-    (λ theirs. ap (λ op. Answers (on_others op found.mark)) is ∙ ap (λ mark. Answers (Marked mark)) of)
+look-stays : (s : Settings) (number stamp : ℕ) (mark : Mark) → transition s true number LookUp mark stamp ≡ stays (look_reply mark)
+look-stays s number stamp (Up count) = refl
+look-stays s number stamp (Soft owner) =
+    cond_both (eqb owner number) (on_own_soft number LookUp) (on_others LookUp (Soft owner)) (λ it. it ≡ stays (Marked (Soft owner)))
+    (λ mine. ap (λ it. stays (Marked (Soft it))) (sym (eqb-true owner number mine))) (λ theirs. refl)
+look-stays s number stamp (Hard owner) =
+    cond_both (eqb owner number) (on_own_hard number LookUp) (on_others LookUp (Hard owner)) (λ it. it ≡ stays (Marked (Hard owner)))
+    (λ mine. ap (λ it. stays (Marked (Hard it))) (sym (eqb-true owner number mine))) (λ theirs. refl)
 
 -- a look-up that took its one step
 pub looked-up : (s : Settings) (ranges : IsWithinRanges s) (number server : ℕ) (before : List Pass) (found : ServerState) (read : Observed) (after : List Pass)
@@ -218,4 +217,5 @@ pub looked-up : (s : Settings) (ranges : IsWithinRanges s) (number server : ℕ)
 looked-up s ranges number server before found read after can is stepped =
     let call = begun_by number LookUp server in
     answers s ranges number LookUp server before call Start before (begins s number LookUp server before ranges can) read after stepped (look_reply found.mark)
-    (ap (λ it. next_of s call Start it) is ∙ look-mark found.mark s call found refl refl)
+    (ap (λ it. next_of s call Start it) is
+    ∙ ap (λ (given : Transition). sets_out call found given.reply given.change) (look-stays s number found.stamp found.mark))
