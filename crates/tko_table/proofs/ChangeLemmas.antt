@@ -146,7 +146,7 @@ changes_in-append number (made ∷ one) other =
 
 -- ---- what a step adds
 
-by_test : (P : Bool → Type 0) (test : Bool) → (test ≡ true → P true) → (test ≡ false → P false) → P test
+pub by_test : (P : Bool → Type 0) (test : Bool) → (test ≡ true → P true) → (test ≡ false → P false) → P test
 by_test P test one other =
     elim (cases_Bool test) as (λ it. P test) [
       | inl e ↦ subst P (sym e) (one e)

@@ -3,5 +3,6 @@ pub mod ClosingLemmas
 pub mod KnowsLemmas
 pub mod OwnedLemmas
 pub mod PassLemmas
+pub mod PlaceLemmas
 pub mod RetireLemmas
 pub mod RunLemmas

@@ -30,7 +30,7 @@ use Rattle.tko_table.specs.Passes.{owned_after, owns}
 use Rattle.tko_table.specs.Steps.{IsSound}
 use Rattle.tko_tracker.specs.Calls.{Called, GoesOn, IsStep, Leads, Taken, answers_owner, can_answer, owned_left}
 use Rattle.tko_tracker.specs.Running.{CanCall, IsReady, Ran, Stepped}
-use Rattle.tko_tracker.specs.History.{Adds}
+use Rattle.tko_tracker.specs.History.{Adds, IsAnsweredAt}
 use Rattle.tko_tracker.proofs.AddsLemmas.{HasAdded, HasAddedAfter, HasEnded, added-next, added-none}
 use Rattle.tko_tracker.proofs.KnowsLemmas.{Knows, KnowsAfter, knows-next, left}
 
@@ -90,9 +90,9 @@ ready s number op server before call phase view at =
     }
 
 -- a call that ended, by the number, operation and server that it began with
-ended-adds : (first mid : Pass) (number : ℕ) (op : Op) (server : ℕ) (call : Call) (answer : Reply) → first.state ≡ Idle number
-    → call.number ≡ number → call.op ≡ op → call.server ≡ server → HasEnded first mid call answer → Adds first op server answer mid
-ended-adds first mid number op server call answer idle by does on ended =
+ended-adds : (s : Settings) (first mid : Pass) (number : ℕ) (op : Op) (server : ℕ) (call : Call) (answer : Reply) → first.state ≡ Idle number → first.settings ≡ s
+    → call.number ≡ number → call.op ≡ op → call.server ≡ server → HasEnded s first mid call answer → Adds first op server answer mid
+ended-adds s first mid number op server call answer idle same by does on ended =
     let made : made_with call answer ended.at ≡ made_with (begun_by number op server) answer ended.at =
     λ i. record { op = does i; server = on i; reply = answer; at = place_of_answer answer ended.at } in
     record {
@@ -103,6 +103,9 @@ ended-adds first mid number op server call answer idle by does on ended =
       seen = ended.seen;
       own = ap (λ it. made_by it ended.more) (sym by) ∙ ended.own ∙ (λ i. changes_in (by i) (made i ∷ []));
       mine = ended.mine ∙ ap (λ it. first.mine ++ it ∷ []) made;
+      decided = λ differs. subst (λ it. it) (λ i. IsAnsweredAt (sym same i) (by i) (does i) (on i) answer ended.at first.seen mid.seen) (ended.decided differs);
+      stepped = ended.stepped;
+      at_once = ended.at_once;
     }
 
 head : (one other : Pass) → one ∷ [] ≡ other ∷ [] → one ≡ other
@@ -143,7 +146,7 @@ module _ (s : Settings) (ranges : IsWithinRanges s) (number : ℕ) (op : Op) (se
       (owned_after at.now.owned call.server act (is_done read)) in
       let R : List ℕ → Type 0 = λ it. KnowsAfter s at.first.steps at.first.owned call phase (next_of s call phase read) mid.steps it in
       let next = knows-next s ranges at.first.steps at.first.owned call (subst (λ n. n < s.threads) (sym at.by) at.within) at.now.steps at.now.owned
-      takes.shared phase (subst (IsSound s) takes.reads stepped.sound) (λ found mark is marked. sym takes.reads ∙ step.sure found mark is marked) at.knows (takes.own call.server) in
+      takes.core.shared phase (subst (IsSound s) takes.reads stepped.sound) (λ found mark is marked. sym takes.reads ∙ step.sure found mark is marked) at.knows (takes.own call.server) in
       subst R owned (subst Q steps (subst P (sym takes.reads) next))
 
   added-mid : HasAddedAfter s at.first mid call (next_of s call phase read)
@@ -190,7 +193,7 @@ module _ (s : Settings) (ranges : IsWithinRanges s) (number : ℕ) (op : Op) (se
         was = at.was;
         is = stepped.is;
         called = leads-mid (Answers answer) is [] answer mid (refl, refl, refl);
-        adds = ended-adds at.first mid number op server call answer at.idle at.by at.does at.on (subst (HasAddedAfter s at.first mid call) is added-mid);
+        adds = ended-adds s at.first mid number op server call answer at.idle at.same at.by at.does at.on (subst (HasAddedAfter s at.first mid call) is added-mid);
         state = state-mid ∙ ap (state_after call) is ∙ ap Idle at.by;
         settings = settings-mid ∙ sym at.same;
         steps = subst (λ it. mid.steps ≤ at.first.steps + most_steps s it) at.does ends.few;
