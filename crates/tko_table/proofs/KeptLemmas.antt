@@ -27,7 +27,7 @@ use Rattle.tko_steps.specs.Invariant.{IsCore, IsPhase, holds, is_loose}
 use Rattle.tko_steps.specs.Table.{action_of, next_of}
 use Rattle.tko_steps.proofs.CoreLemmas.{IsCore-after_act, enrolled-le, knows_at}
 use Rattle.tko_steps.proofs.CountLemmas.{bit}
-use Rattle.tko_steps.proofs.RunLemmas.{loose-le-holds}
+use Rattle.tko_steps.proofs.CoreLemmas.{loose-le-holds}
 use Rattle.tko_steps.proofs.ThreadLemmas.{number-lt, number-once}
 use Rattle.tko_table.specs.declared.pass.Change.{Change}
 use Rattle.tko_table.specs.declared.pass.Pass.{Pass}
