@@ -15,7 +15,7 @@ use Rattle.tko_steps.specs.declared.phase.Phase.{Phase}
 use Rattle.tko_steps.specs.declared.phase.Phase.TheVariants.{Start, Read, AtThreshold, Limit, Reserving, Holding, Firming, Losing, Loosening, Loosened, Emptied}
 use Rattle.tko_steps.specs.declared.table.Decision.{Decision}
 use Rattle.tko_steps.specs.declared.table.Decision.TheVariants.{Goes, Answers}
-use Rattle.tko_steps.specs.Steps.{answer_of}
+use Rattle.tko_steps.specs.Steps.{answer_of, begun_by}
 use Rattle.tko_steps.specs.Legal.{ChangesAtMostOnce, IsFullAtLimit, IsLegal, IsLegalAt, IsQuiet, TakesEffect}
 use Rattle.tko_steps.specs.Runs.{Call, OwnStep, StepTaken, and_step}
 use Rattle.tko_steps.specs.Table.{from_start, goes, lost_try}
@@ -182,23 +182,27 @@ pub record SawLimit (s : Settings) (server : ℕ) (found now : ServerState) (ste
   pub after_found : IsNotNewer found (server_at own.step.before server)
   pub before_now : IsNotNewer (server_at own.step.before server) now
 
-abbrev pub Knows : Settings → ℕ → CallState → List OwnStep → ServerState → Phase → Type 0
-Knows s thread call steps now Start = All IsQuiet steps
-Knows s thread call steps now (Read found mark answer) =
+abbrev KnowsAt : Settings → ℕ → CallState → List OwnStep → ServerState → Phase → Type 0
+KnowsAt s thread call steps now Start = All IsQuiet steps
+KnowsAt s thread call steps now (Read found mark answer) =
     All IsQuiet steps × Decides s call.number call.op found (becomes mark answer)
-Knows s thread call steps now (AtThreshold found) =
+KnowsAt s thread call steps now (AtThreshold found) =
     All IsQuiet steps × Marks s call.number call.op found × IsNotNewer found now
-Knows s thread call steps now (Limit found) =
+KnowsAt s thread call steps now (Limit found) =
     All IsQuiet steps × Marks s call.number call.op found × SawLimit s call.server found now steps
-Knows s thread call steps now (Reserving found slots) = All IsQuiet steps × Marks s call.number call.op found
-Knows s thread call steps now (Holding found) = All IsQuiet steps × Marks s call.number call.op found
-Knows s thread call steps now Firming = IsDone s (open_call thread call steps) TookSoft
-Knows s thread call steps now Losing = All IsQuiet steps
-Knows s thread call steps now (Loosening found mark answer) =
+KnowsAt s thread call steps now (Reserving found slots) = All IsQuiet steps × Marks s call.number call.op found
+KnowsAt s thread call steps now (Holding found) = All IsQuiet steps × Marks s call.number call.op found
+KnowsAt s thread call steps now Firming = IsDone s (open_call thread call steps) TookSoft
+KnowsAt s thread call steps now Losing = All IsQuiet steps
+KnowsAt s thread call steps now (Loosening found mark answer) =
     All IsQuiet steps × Decides s call.number call.op found (becomes mark answer)
-Knows s thread call steps now (Loosened found mark answer) =
+KnowsAt s thread call steps now (Loosened found mark answer) =
     All IsQuiet steps × Decides s call.number call.op found (becomes mark answer)
-Knows s thread call steps now (Emptied answer) = IsDone s (open_call thread call steps) answer
+KnowsAt s thread call steps now (Emptied answer) = IsDone s (open_call thread call steps) answer
+
+-- lost tries are no matter of it
+abbrev pub Knows : Settings → ℕ → CallState → List OwnStep → ServerState → Phase → Type 0
+Knows s thread call steps now phase = KnowsAt s thread (begun_by call.number call.op call.server) steps now phase
 
 -- an open call at any phase is sound
 pub sound-open : (s : Settings) (thread : ℕ) (call : CallState) (steps : List OwnStep) (now : ServerState) (phase : Phase)

@@ -160,23 +160,6 @@ module _ (w : World) (thread : ℕ) (call : CallState) (steps : List OwnStep) (i
         since = since;
       }
 
-  -- the first look of a try
-  act-Start : KnowsTries s w thread call steps Start → Next Start (follows w.core call Start)
-  act-Start (expects, knows) =
-      let loses_not : loses Start ≡ false = ap (λ it. loses_try s (own Start).step it) knows.looked in
-      let looked : HasLooked s (after Start) thread call.server call.lost (own Start ∷ steps) false now = record {
-        count = lost_tries-kept s (own Start) steps loses_not refl ∙ knows.count;
-        holds = knows.holds;
-        looked = last_look-here s (own Start) steps at_server loses_not here;
-        since = inl refl;
-      } in
-      from_start-is s call now (λ decision. (own Start).step.answer ≡ answer_of decision → Next Start decision)
-      (λ answer is_answer is told. answers Start answer told is_answer.contended (refl, expects))
-      (λ soft fresh is told. ((refl, expects), looked))
-      (λ mark answer put can by is told. ((refl, expects), (looked, put.plain)))
-      (λ mark answer put can mine is told. ((refl, expects), (looked, put.plain)))
-      refl
-
   -- an exchange of the server's word expects what the last look found
   expects-exchange : (phase : Phase) (found : ServerState) (mark : Mark) (held : Bool) → HasLooked s w thread call.server call.lost steps held found
       → (own phase).step.kind ≡ kind_of_exchange found.mark mark → (own phase).step.place ≡ at_server
@@ -198,9 +181,23 @@ module _ (w : World) (thread : ℕ) (call : CallState) (steps : List OwnStep) (i
       (ap (λ at. is_some (last_look s at steps)) on ∙ ap is_some has.looked)
       ∙ ap not is_won
 
-  act-Read : (found : ServerState) (mark : Mark) (answer : Reply) → KnowsTries s w thread call steps (Read found mark answer)
-      → Next (Read found mark answer) (follows w.core call (Read found mark answer))
-  act-Read found mark answer (expects, (has, plain)) =
+  pub tries-act : (phase : Phase) → thread_at w.core thread ≡ InCall call phase → KnowsTries s w thread call steps phase
+      → Next phase (follows w.core call phase)
+  tries-act Start stands (expects, knows) =
+      let loses_not : loses Start ≡ false = ap (λ it. loses_try s (own Start).step it) knows.looked in
+      let looked : HasLooked s (after Start) thread call.server call.lost (own Start ∷ steps) false now = record {
+        count = lost_tries-kept s (own Start) steps loses_not refl ∙ knows.count;
+        holds = knows.holds;
+        looked = last_look-here s (own Start) steps at_server loses_not here;
+        since = inl refl;
+      } in
+      from_start-is s call now (λ decision. (own Start).step.answer ≡ answer_of decision → Next Start decision)
+      (λ answer is_answer is told. answers Start answer told is_answer.contended (refl, expects))
+      (λ soft fresh is told. ((refl, expects), looked))
+      (λ mark answer put can by is told. ((refl, expects), (looked, put.plain)))
+      (λ mark answer put can mine is told. ((refl, expects), (looked, put.plain)))
+      refl
+  tries-act (Read found mark answer) stands (expects, (has, plain)) =
       let phase : Phase = Read found mark answer in
       let expected = expects-exchange phase found mark false has refl refl refl refl expects in
       cond_both (same_server now found) (Answers answer) (lost_try s call) (Next phase)
@@ -209,29 +206,7 @@ module _ (w : World) (thread : ℕ) (call : CallState) (steps : List OwnStep) (i
       (λ lost.
       loses-now phase found (cond-false _ _ _ lost) has (exchange-loses phase found mark false false has refl refl lost)
       (exchange-no_give found.mark mark) (exchange-holds found.mark mark (own phase).step.won (holds_slot steps) ∙ has.holds) expected)
-
-  act-Holding : (found : ServerState) → KnowsTries s w thread call steps (Holding found)
-      → Next (Holding found) (follows w.core call (Holding found))
-  act-Holding found (expects, has) =
-      let phase : Phase = Holding found in
-      let mark : Mark = Soft call.number in
-      let expected = expects-exchange phase found mark true has refl refl refl refl expects in
-      cond_both (same_server now found) (goes call Firming) (goes call Losing) (Next phase)
-      (λ won. (expected, tt))
-      (λ lost.
-      let loses = exchange-loses phase found mark false true has refl refl lost in
-      let no_give = exchange-no_give found.mark mark in (
-        expected,
-        record {
-          count = lost_tries-held s (own phase) steps loses no_give has.holds ∙ has.count;
-          owes = owes_slot-held s (own phase) steps loses no_give has.holds;
-          looked = last_look-lost s (own phase) steps at_server loses;
-        },
-      ))
-
-  act-AtThreshold : (found : ServerState) → KnowsTries s w thread call steps (AtThreshold found)
-      → Next (AtThreshold found) (follows w.core call (AtThreshold found))
-  act-AtThreshold found (expects, has) =
+  tries-act (AtThreshold found) stands (expects, has) =
       let phase : Phase = AtThreshold found in
       let rest = cond (eqb (slots.firm + slots.held) s.limit) (lost_try s call) (goes call (Reserving found slots)) in
       let since = since-push thread at_server (own phase).step w.past refl has.since in
@@ -254,10 +229,7 @@ module _ (w : World) (thread : ℕ) (call : CallState) (steps : List OwnStep) (i
           record { looked = last_look-here s (own phase) steps place.Soft goes_on refl; since = inl refl },
         ),
       )))
-
-  act-Limit : (found : ServerState) → KnowsTries s w thread call steps (Limit found)
-      → Next (Limit found) (follows w.core call (Limit found))
-  act-Limit found (expects, has) =
+  tries-act (Limit found) stands (expects, has) =
       let phase : Phase = Limit found in
       let looks : loses phase ≡ loses_try s (own phase).step (Some (word.Server found)) = ap (λ it. loses_try s (own phase).step it) has.looked in
       cond_both (same_server found now) (Answers Full) (lost_try s call) (Next phase)
@@ -265,10 +237,7 @@ module _ (w : World) (thread : ℕ) (call : CallState) (steps : List OwnStep) (i
       answers phase Full (ap (λ b. answer_of (cond b (Answers Full) (lost_try s call))) same) (λ e. cc) (refl, expects))
       (λ other.
       loses-now phase found (cond-false _ _ _ other) has (looks ∙ ap (λ b. not b || false) other) refl has.holds (refl, expects))
-
-  act-Reserving : (found : ServerState) (before : Slots) → KnowsTries s w thread call steps (Reserving found before)
-      → Next (Reserving found before) (follows w.core call (Reserving found before))
-  act-Reserving found before (expects, (has, counted)) =
+  tries-act (Reserving found before) stands (expects, (has, counted)) =
       let phase : Phase = Reserving found before in
       let seen : was_seen (last_look s place.Soft steps) (word.Soft slots) ≡ same_slots slots before =
       ap (λ it. was_seen it (word.Soft slots)) counted.looked in
@@ -280,15 +249,22 @@ module _ (w : World) (thread : ℕ) (call : CallState) (steps : List OwnStep) (i
       (λ lost.
       loses-now phase found (cond-false _ _ _ lost) has (loses_not_won ∙ ap not lost) refl
       (ap (λ b. b || holds_slot steps) lost ∙ has.holds) (sym seen, expects))
-
-  pub tries-act : (phase : Phase) → thread_at w.core thread ≡ InCall call phase → KnowsTries s w thread call steps phase
-      → Next phase (follows w.core call phase)
-  tries-act Start stands knows = act-Start knows
-  tries-act (Read found mark answer) stands knows = act-Read found mark answer knows
-  tries-act (AtThreshold found) stands knows = act-AtThreshold found knows
-  tries-act (Limit found) stands knows = act-Limit found knows
-  tries-act (Reserving found before) stands knows = act-Reserving found before knows
-  tries-act (Holding found) stands knows = act-Holding found knows
+  tries-act (Holding found) stands (expects, has) =
+      let phase : Phase = Holding found in
+      let mark : Mark = Soft call.number in
+      let expected = expects-exchange phase found mark true has refl refl refl refl expects in
+      cond_both (same_server now found) (goes call Firming) (goes call Losing) (Next phase)
+      (λ won. (expected, tt))
+      (λ lost.
+      let loses = exchange-loses phase found mark false true has refl refl lost in
+      let no_give = exchange-no_give found.mark mark in (
+        expected,
+        record {
+          count = lost_tries-held s (own phase) steps loses no_give has.holds ∙ has.count;
+          owes = owes_slot-held s (own phase) steps loses no_give has.holds;
+          looked = last_look-lost s (own phase) steps at_server loses;
+        },
+      ))
   tries-act Firming stands (expects, knows) = answers Firming TookSoft refl (λ e. cc) (refl, expects)
   tries-act Losing stands (expects, knows) =
       lost-try Losing refl
