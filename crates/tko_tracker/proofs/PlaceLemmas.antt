@@ -23,7 +23,7 @@ use Rattle.tko_steps.specs.Steps.{is_done}
 use Rattle.tko_steps.specs.Table.{action_of, from_start, goes, lost_try, next_of, same_server, same_slots}
 use Rattle.tko_steps.proofs.EveryCallLemmas.{softs-le}
 use Rattle.tko_steps.proofs.LegalLemmas.{IsNotNewer}
-use Rattle.tko_steps.proofs.StartLemmas.{Says, Says-from_start}
+use Rattle.tko_steps.proofs.StartLemmas.{from_start-is}
 use Rattle.tko_steps.proofs.TableLemmas.{same_server-true}
 use Rattle.tko_table.specs.declared.pass.Change.{Change}
 use Rattle.tko_table.specs.History.{Replays, change_by, is_change}
@@ -159,21 +159,15 @@ module _ (s : Settings) (begun more seen between : List Change) (same : seen ≡
       answered-by s begun (more ++ between) history (change ∷ []) [] (history ++ change ∷ []) call.number call.op call.server answer servers whole
       (cond-true (is_change answer) (change ∷ []) [] changes) found_by refl made.reply made.left
 
-  start-after : (decision : Decision) → Says s call.number call.op now decision → After (length history) (history ++ []) decision
-  start-after (Answers answer) says =
-      λ differs. stays-at answer history (more ++ between) [] (history ++ []) servers whole found_by refl (says (has_room s (softs servers)))
-  start-after (Goes lost Start) says = absurd says
-  start-after (Goes lost (Read found mark answer)) says = tt
-  start-after (Goes lost (AtThreshold found)) says =
-      record { servers = servers; replays = subst (λ it. Replays s it servers) (sym (append-nil history)) found_by; is = sym says.0 }
-  start-after (Goes lost (Limit found)) says = absurd says
-  start-after (Goes lost (Reserving found taken)) says = absurd says
-  start-after (Goes lost (Holding found)) says = absurd says
-  start-after (Goes lost Firming) says = absurd says
-  start-after (Goes lost Losing) says = absurd says
-  start-after (Goes lost (Loosening found mark answer)) says = tt
-  start-after (Goes lost (Loosened found mark answer)) says = absurd says
-  start-after (Goes lost (Emptied answer)) says = absurd says
+  start-after : After (length history) (history ++ []) (from_start s call now)
+  start-after =
+      from_start-is s call now (After (length history) (history ++ []))
+      (λ answer is_answer is. λ differs.
+      stays-at answer history (more ++ between) [] (history ++ []) servers whole found_by refl (is (has_room s (softs servers))))
+      (λ soft fresh is.
+      record { servers = servers; replays = subst (λ it. Replays s it servers) (sym (append-nil history)) found_by; is = refl })
+      (λ mark answer put can by is. tt)
+      (λ mark answer put can own is. tt)
 
   -- the look at the soft word, which finds as many settled marks as may be
   limit-after : (found : ServerState) → Saw s seen call.server found → slots.firm ≡ s.limit
@@ -219,7 +213,7 @@ module _ (s : Settings) (begun more seen between : List Change) (same : seen ≡
 
   pub place-next : (last : List ServerState) (phase : Phase) → PlaceAt s call.number call.op call.server begun seen decided phase
       → IsPlannedAt s call phase → IsSure call core.shared phase → PlaceNext last phase
-  place-next last Start knows planned sure left = start-after (from_start s call now) (Says-from_start s call now)
+  place-next last Start knows planned sure left = start-after
   place-next last (Read found mark answer) knows planned sure left =
       let change = change_by call answer ∷ [] in
       by_test (λ won. Replays s (history ++ cond won change []) last → After (length history) (history ++ cond won change []) (cond won (Answers answer) (lost_try s call)))
