@@ -1,5 +1,5 @@
 //! A worn stamp, and no soft mark at all.
-ghost use Rattle.std.specs.Prelude.{◌≡◌, ◌<◌};
+ghost use Rattle.std.specs.Prelude.{◌<◌};
 
 use super::{is_at, reply};
 use crate::{close, open, wake};
