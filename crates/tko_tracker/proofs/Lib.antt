@@ -6,3 +6,4 @@ pub mod PassLemmas
 pub mod PlaceLemmas
 pub mod RetireLemmas
 pub mod RunLemmas
+pub mod TryLemmas

@@ -21,18 +21,23 @@ use Rattle.tko_steps.specs.declared.table.Decision.{Decision}
 use Rattle.tko_steps.specs.declared.table.Decision.TheVariants.{Goes, Answers}
 use Rattle.tko_steps.specs.declared.table.Observed.{Observed}
 use Rattle.tko_steps.specs.declared.table.Observed.TheVariants as seen
+use Rattle.tko_steps.specs.Core.{CoreState, follows, seen_by}
 use Rattle.tko_steps.specs.Cost.{most_steps}
+use Rattle.tko_steps.specs.Runs.{OwnStep}
 use Rattle.tko_steps.specs.Steps.{begun_by, in_call, is_done, state_after}
 use Rattle.tko_steps.specs.Table.{action_of, next_of, sets_out}
+use Rattle.tko_steps.proofs.OwnLemmas.{act_step}
 use Rattle.tko_table.specs.declared.pass.Pass.{Pass}
 use Rattle.tko_table.specs.History.{changes_in, made_by, made_with, place_of_answer}
 use Rattle.tko_table.specs.Passes.{owned_after, owns}
 use Rattle.tko_table.specs.Steps.{IsSound}
-use Rattle.tko_tracker.specs.Calls.{Called, GoesOn, IsStep, Leads, Taken, answers_owner, can_answer, owned_left}
+use Rattle.tko_tracker.specs.Tries.{HasTried, Taken, and_steps, own_step, own_steps}
+use Rattle.tko_tracker.specs.Calls.{Called, GoesOn, IsStep, IsTaken, Leads, answers_owner, can_answer, owned_left}
 use Rattle.tko_tracker.specs.Running.{CanCall, IsReady, Ran, Stepped}
 use Rattle.tko_tracker.specs.History.{Adds, IsAnsweredAt}
 use Rattle.tko_tracker.proofs.AddsLemmas.{HasAdded, HasAddedAfter, HasEnded, added-next, added-none}
 use Rattle.tko_tracker.proofs.KnowsLemmas.{Knows, KnowsAfter, knows-next, left}
+use Rattle.tko_tracker.proofs.TryLemmas.{KnowsAnywhere, TriedAfter, begins-anywhere, slot-held, tried-next, turn-is}
 
 -- the call of the pass that the view had first, at this phase
 pub record IsUnderWay
@@ -52,9 +57,12 @@ pub record IsUnderWay
     pub stands : in_call now.state op server ≡ InCall call phase
     pub knows : Knows s first.steps first.owned call phase now.steps now.owned
     pub added : HasAdded s first now call phase
+    -- its own steps so far, the newest first
+    pub own : List OwnStep
+    pub tried : KnowsAnywhere s call own phase
     -- what follows makes a whole call
     pub rest : (steps : List Taken) (answer : Reply) (after : Pass) →
-        Leads now call phase steps answer after → Called first op server answer after
+        Leads now call phase steps answer after → HasTried s answer (and_steps own steps) → Called first op server answer after
 
 -- the call begins
 pub begins : (s : Settings) (number : ℕ) (op : Op) (server : ℕ) (view : List Pass) → IsWithinRanges s → CanCall s number view
@@ -75,7 +83,16 @@ begins s number op server view ranges can =
       stands = ap (λ state. in_call state op server) can.state;
       knows = record { lost = omega (arith, ranges.tries.0); few = omega arith; at = refl; writes = tt; owner = λ own. tt };
       added = added-none s can.pass (begun_by number op server);
-      rest = λ steps answer after leads. record { number = number; idle = can.state; steps = steps; leads = leads };
+      own = [];
+      tried = begins-anywhere s (begun_by number op server) refl;
+      rest = λ steps answer after leads tried.
+          record {
+            number = number;
+            idle = can.state;
+            steps = steps;
+            leads = leads;
+            tried = subst (λ it. HasTried it answer (own_steps steps)) (sym can.settings) tried;
+          };
     }
 
 pub ready : (s : Settings) (number : ℕ) (op : Op) (server : ℕ) (before : List Pass) (call : Call) (phase : Phase) (view : List Pass)
@@ -152,13 +169,45 @@ module _ (s : Settings) (ranges : IsWithinRanges s) (number : ℕ) (op : Op) (se
   added-mid : HasAddedAfter s at.first mid call (next_of s call phase read)
   added-mid = added-next s at.first at.now mid call phase read at.added at.settings call.op at.first.owned at.now.owned at.knows.at step
 
+  abbrev core : CoreState
+  core = step.takes.core
+
+  abbrev thread : ℕ
+  thread = step.takes.is_found.thread
+
+  abbrev taken : Taken
+  taken = record { read = read; step = act_step core thread call phase; after = mid }
+
+  is-taken : IsTaken at.now call phase taken
+  is-taken =
+      let found = step.takes.is_found in
+      record {
+        step = step;
+        turn = turn-is core thread call phase found.inside found.stands;
+        held = λ e. slot-held at.now.settings core thread call phase found.is found.stands e;
+      }
+
+  follows-is : follows core call phase ≡ next_of s call phase read
+  follows-is =
+      ap (λ (it : Settings). next_of it call phase (seen_by core.shared call.server (action_of call.number phase))) (step.takes.is_found.settings ∙ at.settings)
+      ∙ ap (next_of s call phase) (sym step.takes.reads)
+
+  tried-mid : TriedAfter s call (own_step taken ∷ at.own) (next_of s call phase read)
+  tried-mid =
+      let found = step.takes.is_found in
+      let next = tried-next s core thread call phase at.own at.now.steps found.is found.inside found.stands (found.settings ∙ at.settings) at.tried in
+      let count : at.now.steps + 1 ≡ mid.steps = sym (ap (λ (it : Pass). it.steps) step.takes.knows) in
+      let P : ℕ → Type 0 = λ n. TriedAfter s call (record { at = n; step = act_step core thread call phase } ∷ at.own) (next_of s call phase read) in
+      subst P count (subst (TriedAfter s call (record { at = at.now.steps + 1; step = act_step core thread call phase } ∷ at.own)) follows-is next)
+
   leads-mid : (decision : Decision) → next_of s call phase read ≡ decision → (steps : List Taken) (answer : Reply) (end : Pass)
       → GoesOn call decision (λ same later. Leads mid same later steps answer end) (λ given. (steps ≡ []) × (given ≡ answer) × (mid ≡ end))
+      → HasTried s answer (and_steps (own_step taken ∷ at.own) steps)
       → Called at.first op server answer end
-  leads-mid decision is steps answer end goes =
+  leads-mid decision is steps answer end goes tried =
       let P : Decision → Type 0 = λ it.
       GoesOn call it (λ same later. Leads mid same later steps answer end) (λ given. (steps ≡ []) × (given ≡ answer) × (mid ≡ end)) in
-      at.rest (record { read = read; after = mid } ∷ steps) answer end (step, subst P (sym (decided ∙ is)) goes)
+      at.rest (taken ∷ steps) answer end (is-taken, subst P (sym (decided ∙ is)) goes) tried
 
   pub goes-on : (lost : ℕ) (next : Phase) → next_of s call phase read ≡ Goes lost next
       → IsUnderWay s number op server before (record call { lost = lost }) next after × (left s lost next < left s call.lost phase)
@@ -179,7 +228,9 @@ module _ (s : Settings) (ranges : IsWithinRanges s) (number : ℕ) (op : Op) (se
           stands = ap (λ state. in_call state op server) (state-mid ∙ ap (state_after call) is);
           knows = both.0;
           added = subst (HasAddedAfter s at.first mid call) is added-mid;
-          rest = λ steps answer end leads. leads-mid (Goes lost next) is steps answer end leads;
+          own = own_step taken ∷ at.own;
+          tried = subst (TriedAfter s call (own_step taken ∷ at.own)) is tried-mid;
+          rest = λ steps answer end leads tried. leads-mid (Goes lost next) is steps answer end leads tried;
         },
         both.1,
       )
@@ -192,7 +243,7 @@ module _ (s : Settings) (ranges : IsWithinRanges s) (number : ℕ) (op : Op) (se
         new = mid;
         was = at.was;
         is = stepped.is;
-        called = leads-mid (Answers answer) is [] answer mid (refl, refl, refl);
+        called = leads-mid (Answers answer) is [] answer mid (refl, refl, refl) (subst (TriedAfter s call (own_step taken ∷ at.own)) is tried-mid);
         adds = ended-adds s at.first mid number op server call answer at.idle at.same at.by at.does at.on (subst (HasAddedAfter s at.first mid call) is added-mid);
         state = state-mid ∙ ap (state_after call) is ∙ ap Idle at.by;
         settings = settings-mid ∙ sym at.same;
