@@ -1,5 +1,5 @@
 -- What a call under way has added to the history, from step to step.
-use Rattle.std.proofs.Common.{◌≡◌, ◌≢◌, ℕ, ◌+◌, ◌<◌, ◌≤◌, true, false, ⊎_elim, arith, List, [], ◌∷◌, ◌++◌, length, refl, sym, ap, ◌∙◌, subst}
+use Rattle.std.proofs.Common.{◌≡◌, ◌≢◌, ℕ, ◌+◌, ◌<◌, ◌≤◌, true, false, ⊎_elim, arith, List, [], ◌∷◌, ◌++◌, length, All, refl, sym, ap, ◌∙◌, subst}
 use Rattle.std.proofs.lemmas.Bool.{cases_Bool}
 use Rattle.std.proofs.lemmas.List.{append-nil, append_assoc}
 use Rattle.tko_model.specs.declared.mark.Mark.{Mark}
@@ -32,6 +32,7 @@ use Rattle.tko_tracker.specs.Calls.{IsStep}
 use Rattle.tko_tracker.specs.History.{IsAnsweredAt}
 use Rattle.tko_tracker.proofs.KnowsLemmas.{KnowsAt}
 use Rattle.tko_tracker.proofs.PlaceLemmas.{PlaceAfter, PlaceAt, is_start, place-next, start-at-end}
+use Rattle.tko_tracker.proofs.SoloLemmas.{SoloAfter, SoloAt, none-other, solo-next}
 
 -- what a call at this phase has added, where its pass was the first as it began
 pub record HasAdded (s : Settings) (first now : Pass) (call : Call) (phase : Phase) : Type 0 where
@@ -43,6 +44,7 @@ pub record HasAdded (s : Settings) (first now : Pass) (call : Call) (phase : Pha
   pub place : PlaceAt s call.number call.op call.server first.seen now.seen now.decided_at phase
   pub steps : first.steps ≤ now.steps
   pub later : is_start phase ≡ false → first.steps < now.steps
+  pub alone : s.threads ≡ 1 → SoloAt s call.server first.seen now.seen now.decided_at phase
 
 -- the same where the call ended
 pub record HasEnded (s : Settings) (first now : Pass) (call : Call) (answer : Reply) : Type 0 where
@@ -54,13 +56,14 @@ pub record HasEnded (s : Settings) (first now : Pass) (call : Call) (answer : Re
   pub decided : answer ≢ Contended → IsAnsweredAt s call.number call.op call.server answer at first.seen now.seen
   pub stepped : first.steps < now.steps
   pub at_once : now.steps ≡ first.steps + 1 → at ≡ length now.seen
+  pub alone : s.threads ≡ 1 → (answer ≢ Contended) × (at ≡ length first.seen)
 
 abbrev pub HasAddedAfter : Settings → Pass → Pass → Call → Decision → Type 0
 HasAddedAfter s first now call (Goes lost phase) = HasAdded s first now (record call { lost = lost }) phase
 HasAddedAfter s first now call (Answers answer) = HasEnded s first now call answer
 
 pub added-none : (s : Settings) (first : Pass) (call : Call) → HasAdded s first first call Start
-added-none s first call = record { more = []; seen = sym (append-nil first.seen); own = refl; mine = refl; planned = tt; place = tt; steps = omega arith; later = λ e. cc }
+added-none s first call = record { more = []; seen = sym (append-nil first.seen); own = refl; mine = refl; planned = tt; place = tt; steps = omega arith; later = λ e. cc; alone = λ one. refl }
 
 -- a thread does not lose the exchange of its own mark
 sure-at : (op : Op) (base owned : List ℕ) (call : Call) (shared : Shared) (read : Observed) (phase : Phase)
@@ -81,7 +84,7 @@ sure-at op base owned call shared read (Loosened found mark answer) knows reads 
 sure-at op base owned call shared read (Emptied answer) knows reads sure = tt
 
 module _ (s : Settings) (first now mid : Pass) (call : Call) (phase : Phase) (read : Observed) (has : HasAdded s first now call phase)
-    (settings : now.settings ≡ s) (op : Op) (base owned : List ℕ) (knows : KnowsAt op call.server base owned phase)
+    (settings : now.settings ≡ s) (within : call.number < s.threads) (op : Op) (base owned : List ℕ) (knows : KnowsAt op call.server base owned phase)
     (step : IsStep now call phase read mid) where
   abbrev takes : Takes now call phase read mid
   takes = step.takes
@@ -166,6 +169,24 @@ module _ (s : Settings) (first now mid : Pass) (call : Call) (phase : Phase) (re
       (λ (is : is_start phase ≡ false). absurd (omega (arith, e, steps-is, has.later is)))
       (cases_Bool (is_start phase))
 
+  alone-mid : s.threads ≡ 1 → SoloAfter s call.server first.seen mid.seen at decision
+  alone-mid one =
+      let core = takes.core in
+      let found = takes.is_found in
+      let its : core.settings ≡ s = found.settings ∙ settings in
+      let single : core.settings.threads ≡ 1 = ap (λ (it : Settings). it.threads) its ∙ one in
+      let P : ℕ → Type 0 = λ n. All (λ (change : Change). change.number < n) takes.between in
+      let drawn = subst P (ap (λ (it : Settings). it.threads) settings ∙ one) takes.drawn in
+      let none : takes.between ≡ [] = none-other call.number takes.between (subst (λ n. call.number < n) one within) drawn takes.others in
+      let Q : List Change → Type 0 = λ it. Replays s (now.seen ++ it) core.shared.servers in
+      let replays = subst Q none (subst (λ it. Replays it (now.seen ++ takes.between) core.shared.servers) settings takes.found) in
+      let next = solo-next s first.seen now.seen now.decided_at call core found.thread found.is found.inside single replays phase found.stands (has.alone one) in
+      let R : List Change → Type 0 = λ it.
+      SoloAfter s call.server first.seen ((now.seen ++ it) ++ changes_by call phase (is_done (seen_by core.shared call.server (action_of call.number phase))))
+      (decided_after phase now.decided_at (length (now.seen ++ it))) (next_of s call phase (seen_by core.shared call.server (action_of call.number phase))) in
+      let T : Observed → Type 0 = λ it. SoloAfter s call.server first.seen ((now.seen ++ takes.between) ++ changes_by call phase (is_done it)) at (next_of s call phase it) in
+      subst (λ it. SoloAfter s call.server first.seen it at decision) (sym seen-is) (subst T (sym takes.reads) (subst R (sym none) next))
+
   after-by : (it : Decision) → decision ≡ it → HasAddedAfter s first mid call it
   after-by (Goes lost next) is =
       let P : Decision → Type 0 = λ d. changes_in call.number (mine_after [] call d at) ++ pending (state_after call d) ≡ pending_at call phase ++ changes in
@@ -179,6 +200,9 @@ module _ (s : Settings) (first now mid : Pass) (call : Call) (phase : Phase) (re
             (subst (PlaceAfter s call.number call.op call.server first.seen mid.seen at) is place-mid);
         steps = omega (arith, has.steps, steps-is);
         later = λ e. omega (arith, has.steps, steps-is);
+        alone = λ one.
+            subst (λ n. SoloAt s call.server first.seen mid.seen n next) (sym decided-is)
+            (subst (SoloAfter s call.server first.seen mid.seen at) is (alone-mid one));
       }
   after-by (Answers answer) is =
       let P : Decision → Type 0 = λ d. changes_in call.number (mine_after [] call d at) ++ pending (state_after call d) ≡ pending_at call phase ++ changes in
@@ -191,6 +215,7 @@ module _ (s : Settings) (first now mid : Pass) (call : Call) (phase : Phase) (re
         decided = subst (PlaceAfter s call.number call.op call.server first.seen mid.seen at) is place-mid;
         stepped = omega (arith, has.steps, steps-is);
         at_once = at-once;
+        alone = λ one. subst (SoloAfter s call.server first.seen mid.seen at) is (alone-mid one);
       }
 
   pub added-next : HasAddedAfter s first mid call decision

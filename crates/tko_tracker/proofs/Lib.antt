@@ -6,4 +6,5 @@ pub mod PassLemmas
 pub mod PlaceLemmas
 pub mod RetireLemmas
 pub mod RunLemmas
+pub mod SoloLemmas
 pub mod TryLemmas

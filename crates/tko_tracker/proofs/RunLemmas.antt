@@ -123,6 +123,7 @@ ended-adds s first mid number op server call answer idle same by does on ended =
       decided = λ differs. subst (λ it. it) (λ i. IsAnsweredAt (sym same i) (by i) (does i) (on i) answer ended.at first.seen mid.seen) (ended.decided differs);
       stepped = ended.stepped;
       at_once = ended.at_once;
+      alone = λ one. ended.alone (ap (λ (it : Settings). it.threads) (sym same) ∙ one);
     }
 
 head : (one other : Pass) → one ∷ [] ≡ other ∷ [] → one ≡ other
@@ -167,7 +168,7 @@ module _ (s : Settings) (ranges : IsWithinRanges s) (number : ℕ) (op : Op) (se
       subst R owned (subst Q steps (subst P (sym takes.reads) next))
 
   added-mid : HasAddedAfter s at.first mid call (next_of s call phase read)
-  added-mid = added-next s at.first at.now mid call phase read at.added at.settings call.op at.first.owned at.now.owned at.knows.at step
+  added-mid = added-next s at.first at.now mid call phase read at.added at.settings (subst (λ n. n < s.threads) (sym at.by) at.within) call.op at.first.owned at.now.owned at.knows.at step
 
   abbrev core : CoreState
   core = step.takes.core

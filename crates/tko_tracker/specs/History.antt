@@ -58,3 +58,5 @@ pub record Adds (before : Pass) (op : Op) (server : ℕ) (answer : Reply) (after
     -- it took a step; where that was its only one, its answer was decided at the end
     pub stepped : before.steps < after.steps
     pub at_once : after.steps ≡ before.steps + 1 → at ≡ length after.seen
+    -- with one thread alone it was decided where it began, and no try was lost
+    pub alone : before.settings.threads ≡ 1 → (answer ≢ Contended) × (at ≡ length before.seen)
