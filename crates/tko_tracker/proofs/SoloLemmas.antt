@@ -19,10 +19,9 @@ use Rattle.tko_steps.specs.Invariant.{IsCore, holds, holds_at, is_loose, is_loos
 use Rattle.tko_steps.specs.Steps.{is_done}
 use Rattle.tko_steps.specs.Table.{action_of, from_start, goes, lost_try, next_of, same_server}
 use Rattle.tko_steps.proofs.CountLemmas.{bit}
-use Rattle.tko_steps.proofs.FirstLookLemmas.{Leads as FirstLeads, Leads-from_start}
 use Rattle.tko_steps.proofs.LoserLemmas.{eq-same_slots}
+use Rattle.tko_steps.proofs.StartLemmas.{from_start-is, is_plain, plain≢}
 use Rattle.tko_steps.proofs.TableLemmas.{eq-same_server}
-use Rattle.tko_steps.proofs.TrackerLemmas.{is_plain, plain≢}
 use Rattle.tko_table.specs.declared.pass.Change.{Change}
 use Rattle.tko_table.specs.History.{Replays, made_by}
 use Rattle.tko_table.specs.Passes.{changes_by, decided_after}
@@ -124,21 +123,13 @@ module _ (s : Settings) (begun seen : List Change) (decided : ℕ) (call : Call)
   length-on : seen ≡ begun → length history ≡ length begun
   length-on same = ap length (append-nil seen ∙ same)
 
-  start-after : (decision : Decision) → seen ≡ begun → FirstLeads call.op call now decision → After (length history) (history ++ []) decision
-  start-after (Answers answer) same leads = (leads.0, length-on same)
-  start-after (Goes lost Start) same leads = absurd leads.1
-  start-after (Goes lost (Read found mark answer)) same leads =
-      ((seen-on [] refl same, subst (Saw s (history ++ []) call.server) (sym leads.1.0) saw-now), leads.1.1)
-  start-after (Goes lost (AtThreshold found)) same leads =
-      (seen-on [] refl same, subst (Saw s (history ++ []) call.server) (sym leads.1.0) saw-now)
-  start-after (Goes lost (Limit found)) same leads = absurd leads.1
-  start-after (Goes lost (Reserving found taken)) same leads = absurd leads.1
-  start-after (Goes lost (Holding found)) same leads = absurd leads.1
-  start-after (Goes lost Firming) same leads = absurd leads.1
-  start-after (Goes lost Losing) same leads = absurd leads.1
-  start-after (Goes lost (Loosening found mark answer)) same leads = (seen-on [] refl same, leads.1.1)
-  start-after (Goes lost (Loosened found mark answer)) same leads = absurd leads.1
-  start-after (Goes lost (Emptied answer)) same leads = absurd leads.1
+  start-after : seen ≡ begun → After (length history) (history ++ []) (from_start s call now)
+  start-after same =
+      from_start-is s call now (After (length history) (history ++ []))
+      (λ answer is_answer is. (is_answer.contended, length-on same))
+      (λ soft fresh is. (seen-on [] refl same, saw-now))
+      (λ mark answer put can by is. ((seen-on [] refl same, saw-now), put.plain))
+      (λ mark answer put can own is. (seen-on [] refl same, put.plain))
 
   -- the look at the server is as it was
   kept : (found : ServerState) → Saw s seen call.server found → Saw s (history ++ []) call.server found
@@ -156,7 +147,7 @@ module _ (s : Settings) (begun seen : List Change) (decided : ℕ) (call : Call)
       After (decided_after phase decided (length history)) (history ++ changes_by call phase (is_done it)) (next_of s call phase it)
 
   pub solo-next : (phase : Phase) → thread_at core thread ≡ InCall call phase → SoloAt s call.server begun seen decided phase → SoloNext phase
-  solo-next Start stands knows = start-after (from_start s call now) knows (Leads-from_start s call now)
+  solo-next Start stands knows = start-after knows
   solo-next (Read found mark answer) stands knows =
       let won = stays found knows.0.1 in
       let P : Bool → Type 0 = λ test. After (length history) (history ++ changes_by call (Read found mark answer) test) (cond test (Answers answer) (lost_try s call)) in
