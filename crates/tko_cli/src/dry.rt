@@ -9,13 +9,14 @@ use crate::trail_lines::trail_lines;
 use crate::writing::write_text;
 use std::alloc::Global;
 use tko_bytes::NoMemory;
+use tko_io::{Inlet, Outlet};
 use tko_links::{IoRuntime, Script, Scripted};
 use tko_model::Plain;
 use tko_options::DryOptions;
 use tko_pools::Config;
 use tko_prober::Delays;
 use tko_route::PlainHealth;
-use tko_session::{Inlet, Kept, Outlet, Parts, Probers, Still, serve};
+use tko_session::{Kept, Parts, Probers, Still, serve};
 
 /// How long the first probe of a server waits, in milliseconds.
 const FIRST_DELAY: u32 = 10_000;

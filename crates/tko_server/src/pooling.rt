@@ -9,8 +9,9 @@ use std::thread;
 use std::thread::Threads;
 use tko_bytes::NoMemory;
 use tko_health::{Health, Seating};
+use tko_io::{Inlet, Outlet};
 use tko_links::{IoRuntime, Links};
-use tko_session::{Inlet, Moments, Outlet};
+use tko_session::Moments;
 
 /// What one worker of a pool is started with.
 #[derive(Drop)]

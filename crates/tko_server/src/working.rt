@@ -9,11 +9,10 @@ use crate::{Account, Next, Source, WorkerReport};
 use std::alloc::Global;
 use std::sync::Wait;
 use tko_health::{Health, Seating};
+use tko_io::{Inlet, Outlet};
 use tko_links::{IoRuntime, Links};
 use tko_pools::Config;
-use tko_session::{
-    Counts, Inlet, Moments, Outlet, Parts, Probers, Report, SessionFault, round, serve,
-};
+use tko_session::{Counts, Moments, Parts, Probers, Report, SessionFault, round, serve};
 
 /// What a worker works with: the seat that it takes, the links, the configuration, the probers,
 /// their clock, and its account.

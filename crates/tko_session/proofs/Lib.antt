@@ -1,7 +1,6 @@
 mod AnsweringLemmas
 mod CutLemmas
 mod EventLemmas
-mod ListLemmas
 mod NeverLemmas
 mod OutboxLemmas
 mod PartsLemmas

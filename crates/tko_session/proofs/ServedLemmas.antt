@@ -14,7 +14,8 @@ use Rattle.tko_text.proofs.ReadingLemmas.{NeedsMore-failed}
 use Rattle.tko_session.specs.declared.session.Progress.{Progress}
 use Rattle.tko_session.specs.declared.session.Progress.TheVariants.{More, NeedsInput, LineTooLong, Quit}
 use Rattle.tko_session.specs.declared.session.Report.{Report}
-use Rattle.tko_session.specs.Io.{Writes, capped}
+use Rattle.tko_io.specs.Io.{Writes, capped}
+use Rattle.tko_io.proofs.WriteLemmas.{writes_append, writes_none}
 use Rattle.tko_session.specs.Events.{Event, IdleRound, IsEvent, IsRun, NoneRun, Rounded, turns_of}
 use Rattle.tko_session.specs.TrailEvents.{TrailEvent}
 use Rattle.tko_session.specs.SessionState.{SessionState, Answered, AnsweredPart, GoesOn, InSession, IsBehind, ProgressIs, fed_state, fresh, items_of, probed_by, sent_by, text_of, cut_short, no_more}
@@ -22,36 +23,7 @@ use Rattle.tko_session.specs.Served.{CameTooLong, Delivered, DeliveredPart, Ends
 use Rattle.tko_session.proofs.EventLemmas.{idles-append, order-append}
 use Rattle.tko_session.proofs.NeverLemmas.{reading_goes_on}
 use Rattle.tko_session.proofs.TextFacts.{open_start}
-use Rattle.tko_session.proofs.TurnLemmas.{capped-more, goes_on-append, goes_on-none, in_session, in_session_of, items-append, text-append, turned_append, turned_idle, turned_none, events_in_session, events_progress, part_paid}
-
-module _ {O : Type 0} {takes : O → List ℕ → O → Type 0} where
-  -- two writes are one
-  pub writes_append : ((x y z : O) (bytes more : List ℕ) → takes x bytes y → takes y more z → takes x (bytes ++ more) z)
-      → {x y z : O} {text more : List ℕ} {a b c : ℕ} → Writes takes x text y a b → Writes takes y more z b c
-      → Writes takes x (text ++ more) z a c
-  writes_append goes_on {x} {y} {z} {text} {more} {a} {b} {c} front back = record {
-    output = goes_on x y z text more front.output back.output;
-    counted =
-        capped-more a b c (length text) (length more) front.counted back.counted
-        ∙ ap (λ n. capped (a + n)) (sym (length-append text more));
-  }
-
-  -- some more of a text was written
-  pub writes_some : ((x y z : O) (bytes more : List ℕ) → takes x bytes y → takes y more z → takes x (bytes ++ more) z)
-      → {x y z : O} {text more : List ℕ} {a b c : ℕ} → Writes takes x text y a b → takes y more z
-      → capped c ≡ capped (b + length more) → Writes takes x (text ++ more) z a c
-  writes_some goes_on front took counted = writes_append goes_on front (record { output = took; counted = counted })
-
-  -- nothing more was written
-  pub writes_failed : ((x y z : O) (bytes more : List ℕ) → takes x bytes y → takes y more z → takes x (bytes ++ more) z)
-      → {x y z : O} {text : List ℕ} {a b : ℕ} → Writes takes x text y a b → takes y [] z → Writes takes x text z a b
-  writes_failed goes_on {x} {y} {z} {text} front nothing = record {
-    output = subst (λ bytes. takes x bytes z) (append-nil text) (goes_on x y z text [] front.output nothing);
-    counted = front.counted;
-  }
-
-  pub writes_none : (x : O) (a : ℕ) → takes x [] x → Writes takes x [] x a a
-  writes_none x a nothing = record { output = nothing; counted = ap capped (sym (add-zero a)) }
+use Rattle.tko_session.proofs.TurnLemmas.{goes_on-append, goes_on-none, in_session, in_session_of, items-append, text-append, turned_append, turned_idle, turned_none, events_in_session, events_progress, part_paid}
 
 false_is_true : false ≡ true → ⊥
 false_is_true same = cc

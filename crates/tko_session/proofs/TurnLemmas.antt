@@ -28,7 +28,8 @@ use Rattle.tko_session.specs.Turns.{Turn, is_request}
 use Rattle.tko_session.specs.declared.session.Progress.{Progress}
 use Rattle.tko_session.specs.declared.session.Progress.TheVariants.{More, NeedsInput}
 use Rattle.tko_session.specs.declared.session.Progress.TheVariants as progress
-use Rattle.tko_session.specs.Io.{capped}
+use Rattle.tko_io.specs.Io.{capped}
+use Rattle.tko_io.proofs.WriteLemmas.{capped-more}
 use Rattle.tko_session.specs.SessionState.{SessionState, Turned, Answered, AnsweredPart, Replied, Continues, EndsWith, GoesOn, InSession, IsBehind, ProgressIs, BeginBelowBound, probed_by, progress_after, progress_of, reply_bound, sent_by, items_of, text_of, trails_of, requests_in, sends_to, line_too_long, quit, cut_short, no_more}
 use Rattle.tko_text.proofs.GivesLemmas.{Gives-none, Gives-one, Gives-append}
 use Rattle.tko_session.proofs.EventLemmas.{idles-append, order-append, probes-append, short-append, turns-append}
@@ -58,10 +59,6 @@ pub requests-append : (events more : List Event)
 requests-append events more =
     ap (count_by is_request) (items-append events more)
     ∙ sum_by-append (λ item. cond (is_request item) 1 0) (items_of (turns_of events)) (items_of (turns_of more))
-
--- counts that stop at the same number may be added one after another
-pub capped-more : (a b c n m : ℕ) → capped b ≡ capped (a + n) → capped c ≡ capped (b + m) → capped c ≡ capped (a + (n + m))
-capped-more a b c n m first second = omega arith
 
 -- turns that begin below the bound, and then more that do
 begin-append : (waiting : ℕ) (turns more : List Turn) → BeginBelowBound waiting turns

@@ -1,6 +1,6 @@
 -- What the clocks of the probers give.
 use Rattle.std.specs.Prelude.{◌≡◌, ℕ, ◌-◌, ◌/◌, max, List, [], ◌∷◌, Option, Some, None, unwrap_or}
-use Rattle.tko_session.specs.Io.{capped}
+use Rattle.tko_io.specs.Io.{capped}
 use Rattle.tko_session.specs.declared.moments.Still.{Still}
 
 -- moment 0, always

@@ -1,17 +1,15 @@
 //! One session over its two ends: a thin loop that moves bytes.
 ghost use Rattle.std.specs.Prelude.{◌≡◌, ◌≢◌, ◌<◌, ℕ, [], false, Err, IfOk, OnOk, OnErr, IsErrOf};
 ghost use Rattle.tko_text.specs.Reading.{Never};
-ghost use Rattle.tko_session.specs.Io.{capped};
+ghost use Rattle.tko_io.specs.Io.{capped};
 ghost use Rattle.tko_session.specs.Cuts.{IsRequestCut};
 ghost use Rattle.tko_session.specs.Events.{IsEvent, NoneMarked};
 ghost use Rattle.tko_session.specs.SessionState.{Reaches, fed_state, pause_of, probed_by, sent_by};
 ghost use Rattle.tko_session.specs.Served.{CameTooLong, Delivered, DeliveredPart, IsCalm, Served, StoppedByLine, StoppedByRead, StoppedByWrite, StoppedEarly};
 
-use crate::{
-    Inlet, Moments, Outlet, Parts, Piece, Progress, Report, Session, SessionFault, Trails,
-    piece_buffer, read_piece, write_all,
-};
+use crate::{Moments, Parts, Progress, Report, Session, SessionFault, Trails};
 use std::alloc::Global;
+use tko_io::{Inlet, Outlet, Piece, piece_buffer, read_piece, write_all};
 use tko_links::{IoRuntime, Links};
 use tko_route::Health;
 

@@ -1,7 +1,7 @@
 //! Ends over memory.
 ghost use Rattle.std.specs.Prelude.{◌≡◌, ◌<◌, ◌≤◌, ◌+◌, ◌≢◌, ◌++◌, [], Ok, Err, IfOk, length};
-ghost use Rattle.tko_session.specs.Io.{faults_in, idles_in, moved, refusals_in};
-ghost use Rattle.tko_session.specs.Tape.{first_stop};
+ghost use Rattle.tko_io.specs.Io.{faults_in, idles_in, moved, refusals_in};
+ghost use Rattle.tko_io.specs.Tape.{first_stop};
 
 use crate::stop_counts::StopCounts;
 use crate::{Inlet, Outlet, Stop};
@@ -22,7 +22,7 @@ pub struct Taped {
 
 impl Model for Taped {
     ghost use Rattle.std.specs.Prelude.{drop, length, vec_capacity, ◌<◌, ◌≤◌};
-    ghost use Rattle.tko_session.specs.Tape.{Tape};
+    ghost use Rattle.tko_io.specs.Tape.{Tape};
 
     ghost Value = { Tape };
 
@@ -42,7 +42,7 @@ impl Model for Taped {
 
 impl Taped {
     ghost use Rattle.std.specs.Prelude.{vec_capacity};
-    ghost use Rattle.tko_session.specs.Tape.{stop_of, tape_of};
+    ghost use Rattle.tko_io.specs.Tape.{stop_of, tape_of};
 
     /// Calls are numbered from 0, reads and writes alike.
     pub fn new(bytes: Vec<u8>, greatest: usize, stops: Vec<(u64, Stop)>) -> Taped
@@ -94,7 +94,7 @@ fn first_stop_of(stops: &[(u64, Stop)], call: u64) -> Option<Stop>
 impl Inlet for Taped {
     ghost use Rattle.std.specs.Prelude.{refl};
     ghost use Rattle.std.proofs.Common.{ap, sym, ◌∙◌, append_assoc};
-    ghost use Rattle.tko_session.specs.Tape.{ReadIs, stop_of};
+    ghost use Rattle.tko_io.specs.Tape.{ReadIs, stop_of};
 
     ghost gives = { λ a bytes b. a.left ≡ bytes ++ b.left };
 
@@ -136,7 +136,7 @@ impl Inlet for Taped {
 
 impl Outlet for Taped {
     ghost use Rattle.std.proofs.Common.{ap, sym, ◌∙◌, append_assoc, append-nil};
-    ghost use Rattle.tko_session.specs.Tape.{WriteIs, stop_of};
+    ghost use Rattle.tko_io.specs.Tape.{WriteIs, stop_of};
 
     ghost takes = { λ a bytes b. b.bytes ≡ a.bytes ++ bytes };
 

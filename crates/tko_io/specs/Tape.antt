@@ -1,8 +1,8 @@
 -- Bytes in memory that are read and written.
 use Rattle.std.specs.Prelude.{◌≡◌, ◌<◌, ◌==◌, ◌+◌, ℕ, min, List, find, length, Option, Some, None, Result, Ok, Err, IfOk, IfErr}
 use Rattle.std.specs.Option.{option_map}
-use Rattle.tko_session.specs.declared.io.Stop.{Stop}
-use Rattle.tko_session.specs.declared.io.Stop.TheVariants.{Idle, Again, Fault}
+use Rattle.tko_io.specs.declared.io.Stop.{Stop}
+use Rattle.tko_io.specs.declared.io.Stop.TheVariants.{Idle, Again, Fault}
 
 -- all the bytes, how many there is room for, those that are still to be read, the greatest number
 -- of bytes a call, at which calls it stops and how, how many calls there were, and how often it

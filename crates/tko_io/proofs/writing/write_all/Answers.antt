@@ -1,7 +1,7 @@
 use Rattle.std.proofs.Common.{◌∙◌, arith, length-take, length-drop}
-use Rattle.tko_session.proofs.ListLemmas.{take-next}
-use Rattle.tko_session.proofs.ServedLemmas.{writes_some, writes_failed}
-use Rattle.tko_session.proofs.writing.write_all.Goals as goal
+use Rattle.tko_io.proofs.ListLemmas.{take-next}
+use Rattle.tko_io.proofs.WriteLemmas.{writes_some, writes_failed}
+use Rattle.tko_io.proofs.writing.write_all.Goals as goal
 
 pub returns-in_default-clause-part : goal.returns-in_default-clause-part
 returns-in_default-clause-part g c = record {

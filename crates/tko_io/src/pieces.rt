@@ -1,6 +1,6 @@
 //! How a client's bytes are read.
 ghost use Rattle.std.specs.Prelude.{◌≡◌, ◌<◌, ◌≤◌, ◌+◌, ℕ, [], Some, IfOk, IfSome, OnSome, IfNone, length, take, vec_len};
-ghost use Rattle.tko_session.specs.Pieces.{IsPiece, fails_in, idle_in};
+ghost use Rattle.tko_io.specs.Pieces.{IsPiece, fails_in, idle_in};
 
 use crate::{Inlet, Stop};
 use std::alloc::{AllocError, Global};

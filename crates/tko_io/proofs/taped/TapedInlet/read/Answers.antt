@@ -1,6 +1,6 @@
 use Rattle.std.proofs.Common.{◌≡◌, length, sym, ap, ◌∙◌, arith, length-take}
-use Rattle.tko_session.proofs.ListLemmas.{left-front}
-use Rattle.tko_session.proofs.taped.TapedInlet.read.Goals as goal
+use Rattle.tko_io.proofs.ListLemmas.{left-front}
+use Rattle.tko_io.proofs.taped.TapedInlet.read.Goals as goal
 
 pub returns-clause-gives : goal.returns-clause-gives
 returns-clause-gives g c =

@@ -1,7 +1,7 @@
 -- What a read of a piece came to.
 use Rattle.std.specs.Prelude.{◌≡◌, ◌≤◌, ℕ, List, [], length, take}
-use Rattle.tko_session.specs.declared.pieces.Piece.{Piece}
-use Rattle.tko_session.specs.declared.pieces.Piece.TheVariants as piece
+use Rattle.tko_io.specs.declared.pieces.Piece.{Piece}
+use Rattle.tko_io.specs.declared.pieces.Piece.TheVariants as piece
 
 -- how many failures of the reader it is
 abbrev pub fails_in : Piece → ℕ

@@ -1,6 +1,6 @@
 //! Ends over std's readers and writers.
 ghost use Rattle.std.specs.Prelude.{◌≡◌, ◌+◌};
-ghost use Rattle.tko_session.specs.Io.{faults_in, idles_in, read_result, read_stop, refusals_in, write_result, write_stop};
+ghost use Rattle.tko_io.specs.Io.{faults_in, idles_in, read_result, read_stop, refusals_in, write_result, write_stop};
 
 use crate::stop_counts::StopCounts;
 use crate::{Inlet, Outlet, Stop};

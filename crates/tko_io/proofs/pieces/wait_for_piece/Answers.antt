@@ -1,5 +1,5 @@
 use Rattle.std.proofs.Common.{[], arith}
-use Rattle.tko_session.proofs.pieces.wait_for_piece.Goals as goal
+use Rattle.tko_io.proofs.pieces.wait_for_piece.Goals as goal
 
 pub returns-in-Bytes-clause-gives : goal.returns-in-Bytes-clause-gives
 returns-in-Bytes-clause-gives g c = g.met.I.Inlet.goes_on _ _ _ [] _ c.loop.invariant.0 c.in-Bytes.ensures.piece.bytes

@@ -1,6 +1,6 @@
 //! How often an end failed, and how often it was idle.
 ghost use Rattle.std.specs.Prelude.{◌≡◌, ◌+◌};
-ghost use Rattle.tko_session.specs.Io.{is_fault, is_idle};
+ghost use Rattle.tko_io.specs.Io.{is_fault, is_idle};
 
 use crate::Stop;
 use std::sync::Wait;

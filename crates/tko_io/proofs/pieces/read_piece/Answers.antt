@@ -1,5 +1,5 @@
 use Rattle.std.proofs.Common.{[], Ok, ap, arith}
-use Rattle.tko_session.proofs.pieces.read_piece.Goals as goal
+use Rattle.tko_io.proofs.pieces.read_piece.Goals as goal
 
 pub returns-in-Ok-clause-piece : goal.returns-in-Ok-clause-piece
 returns-in-Ok-clause-piece g c = record {

@@ -4,8 +4,8 @@ use Rattle.std.specs.IoError.{error_kind}
 use Rattle.std.specs.declared.io.Error.{Error}
 use Rattle.std.specs.declared.io.ErrorKind.{ErrorKind}
 use Rattle.std.specs.declared.io.ErrorKind.TheVariants as kind
-use Rattle.tko_session.specs.declared.io.Stop.{Stop}
-use Rattle.tko_session.specs.declared.io.Stop.TheVariants.{Idle, Again, Fault}
+use Rattle.tko_io.specs.declared.io.Stop.{Stop}
+use Rattle.tko_io.specs.declared.io.Stop.TheVariants.{Idle, Again, Fault}
 
 -- the bytes at the front that a result is about
 abbrev pub moved : Result ℕ Stop → List ℕ → List ℕ

@@ -1,6 +1,6 @@
 //! The two ends of a session: where a client's bytes come from, and where the replies go.
 ghost use Rattle.std.specs.Prelude.{◌≡◌, ◌≢◌, ◌+◌, ◌<◌, ◌≤◌, Ok, Err, IfOk, length};
-ghost use Rattle.tko_session.specs.Io.{moved, faults_in, idles_in, refusals_in};
+ghost use Rattle.tko_io.specs.Io.{moved, faults_in, idles_in, refusals_in};
 
 use tko_links::IoRuntime;
 

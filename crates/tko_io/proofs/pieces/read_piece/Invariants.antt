@@ -1,5 +1,5 @@
 use Rattle.std.proofs.Common.{◌≡◌, []}
-use Rattle.tko_session.proofs.pieces.read_piece.Given as goal
+use Rattle.tko_io.proofs.pieces.read_piece.Given as goal
 
 abbrev pub invariant-loop : goal.invariant-loop
 invariant-loop g l =

@@ -1,6 +1,6 @@
 use Rattle.std.proofs.Common.{◌≡◌, ◌≤◌, length, take}
-use Rattle.tko_session.specs.Io.{Writes}
-use Rattle.tko_session.proofs.writing.write_all.Given as goal
+use Rattle.tko_io.specs.Io.{Writes}
+use Rattle.tko_io.proofs.writing.write_all.Given as goal
 
 abbrev pub invariant-loop : goal.invariant-loop
 invariant-loop g l =

@@ -1,7 +1,7 @@
 //! How replies are written.
 ghost use Rattle.std.specs.Prelude.{◌≡◌, ◌<◌, ◌≤◌, [], IfSome, OnSome, IfNone, length, take};
 ghost use Rattle.std.specs.Bool.{OnTrue, OnFalse};
-ghost use Rattle.tko_session.specs.Io.{Writes, WritesPart};
+ghost use Rattle.tko_io.specs.Io.{Writes, WritesPart};
 
 use crate::{Outlet, Stop};
 use tko_links::IoRuntime;
