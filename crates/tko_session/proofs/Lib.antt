@@ -4,9 +4,7 @@ mod EventLemmas
 mod NeverLemmas
 mod OutboxLemmas
 mod PartsLemmas
-mod ProberLemmas
 mod ResultLemmas
-mod RoundLemmas
 mod ServedLemmas
 mod StatusLemmas
 mod TextFacts

@@ -3,10 +3,7 @@ pub mod Counting
 pub mod Cuts
 pub mod Events
 pub mod Faults
-pub mod Moments
-pub mod Probers
 pub mod Replies
-pub mod Round
 pub mod Served
 pub mod SessionState
 pub mod Status
