@@ -31,7 +31,8 @@ module _ {H L T C : Type 0} (steps : H → HealthItem → H → Type 0)
       (trail : List Attempt) (new : Parts H L T C) : Type 0 where
     pub tried : IsTrail (targets_of old.config key) trail
     pub attempts : Attempts (record { steps = steps; exchanges = exchanges; sent = sent })
-        (old.backend.health, old.backend.links) (way_of old.config request key trail) (new.backend.health, new.backend.links)
+        (old.backend.health, old.backend.links) (way_of old.config request key trail)
+        (new.backend.health, new.backend.links)
     pub sends : (server : ℕ)
         → sent new.backend.links server ≡ sent old.backend.links server + sends_in server trail
     pub probes : (server : ℕ) → probed new.backend.links server ≡ probed old.backend.links server
@@ -71,7 +72,8 @@ module _ {H L T C : Type 0} (steps : H → HealthItem → H → Type 0)
     pub text : List ℕ
     pub answers : Answers steps exchanges sent records request old routed text new
     pub sends : (server : ℕ)
-        → sent new.backend.links server ≡ sent old.backend.links server + sends_to server (trails_in routed)
+        → sent new.backend.links server
+            ≡ sent old.backend.links server + sends_to server (trails_in routed)
     pub probes : (server : ℕ) → probed new.backend.links server ≡ probed old.backend.links server
     pub appended : outbox' ≡ outbox ++ text
 

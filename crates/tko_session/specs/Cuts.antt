@@ -55,8 +55,10 @@ module _ {H L T C : Type 0} (steps : H → HealthItem → H → Type 0)
   -- memory ran out in the answer to a request that was recorded
   pub data IsAnswerCut (request : Request) (old new : Parts H L T C) : Type 0 where
     at_keys : AreKeysCut request old new → IsAnswerCut request old new
-    in_status : request ≡ StatsTko → LooksSome steps old.config.addresses old.backend.health new.backend.health
-        → new ≡ record old { backend = record old.backend { health = new.backend.health } } → IsAnswerCut request old new
+    in_status : request ≡ StatsTko
+        → LooksSome steps old.config.addresses old.backend.health new.backend.health
+        → new ≡ record old { backend = record old.backend { health = new.backend.health } }
+        → IsAnswerCut request old new
 
   -- a request was cut short: memory ran out while it was recorded, or in its answer
   pub data IsRequestCut (request : Request) (old new : Parts H L T C) : Type 0 where

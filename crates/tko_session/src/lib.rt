@@ -1,8 +1,8 @@
 //! One client's bytes: what comes in, what is asked of the servers, and what goes out.
 //!
-//! - `Parts`: what a session works on: the `Backend` of its worker, the configuration, and `Trails`,
-//!   which records each request and each trail. `Kept` keeps the trails, and `Counts` counts what
-//!   is in them.
+//! - `Parts`: what a session works on: the `Backend` of its worker, the configuration, and
+//!   `Trails`, which records each request and each trail. `Kept` keeps the trails, and `Counts`
+//!   counts what is in them.
 //! - `round`: sends the probes that are due.
 //! - `Session`: one client's session between two pieces, and `Progress`, how far it answered. It
 //!   knows no socket.
