@@ -28,8 +28,8 @@ AreReady own seated linked members = All (λ member. IsReady own seated linked m
 -- what a worker works with is what the options ask for
 pub record HasOptions {S L M : Type 0} (options : Options) (parts : WorkerParts S L M) : Type 0
   where
-  pub config : parts.config ≡ options.config
-  pub probers : parts.probers ≡ no_probers options.delays (length options.config.addresses)
+    pub config : parts.config ≡ options.config
+    pub probers : parts.probers ≡ no_probers options.delays (length options.config.addresses)
 
 -- ready at this tracker without a lock, and by links over a wire
 abbrev pub AreReadyAt : {C S W M : Type 0} → TrackerId → List (Member C Seated S (WiredState W) M)
