@@ -33,7 +33,7 @@ const THREE: Settings = Settings {
 
 /// A pool of two servers: a key has one of them.
 const CONFIG: &[u8] =
-    b"{\"pools\":{\"p\":{\"servers\":[\"s:1\",\"s:2\"]}},\"route\":{\"type\":\"FailoverRoute\",\"children\":[\"PoolRoute|p\"]}}";
+    b"{\"pools\":{\"p\":{\"servers\":[\"s:1\",\"s:2\"]}},\"route\":\"PoolRoute|p\"}";
 
 /// How the session of a worker's only client ends.
 #[derive(Clone, Copy, PartialEq, Eq)]
@@ -65,15 +65,13 @@ impl Source for Once {
     }
 }
 
-impl Once {
-    /// A client whose session ends so, or none.
-    fn new(alloc: Global, end: Option<End>) -> Result<Once, Fail> {
-        let client = match end {
-            Some(end) => Some(client(alloc, end)?),
-            None => None,
-        };
-        Ok(Once { client })
-    }
+/// A source of one client, whose session ends so, or of none.
+fn source_of(alloc: Global, end: Option<End>) -> Result<Once, Fail> {
+    let client = match end {
+        Some(end) => Some(client(alloc, end)?),
+        None => None,
+    };
+    Ok(Once { client })
 }
 
 /// Both ends of a client that sends one request. Only where memory is to run out its server is
@@ -146,7 +144,7 @@ impl<'t, N: Named> Shared<'t, N> {
             let end = ends.get(members.len()).copied().flatten();
             let log = WorkerLog::open(alloc, None, idle.number())?;
             members.push(Member {
-                source: Once::new(alloc, end)?,
+                source: source_of(alloc, end)?,
                 idle: LoggedIdle::new(idle, log),
                 parts: self.parts(alloc, end == Some(End::Memory), share)?,
             })?;
@@ -207,7 +205,7 @@ fn meet<
     Ok(work(rt, alloc, desk, members)?)
 }
 
-/// The same, and the marks of both servers at the end, if each pass came back.
+/// The same with these passes, and the marks of both servers once the tracker was closed.
 fn meet_and_close<
     R: Wait + Net<Stream = TcpStream, Listener = TcpListener> + Clock + Threads + Sync,
     N: Named + Send + Sync,
