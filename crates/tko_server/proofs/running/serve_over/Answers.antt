@@ -1,6 +1,6 @@
 use Rattle.std.proofs.Common.{◌∙◌, ap, length, sym}
 use Rattle.tko_server.proofs.MemberLemmas.{number_of_shares}
-use Rattle.tko_server.proofs.running.run_with.Goals as goal
+use Rattle.tko_server.proofs.running.serve_over.Goals as goal
 
 pub serve_all-requires-clause-shares : goal.serve_all-requires-clause-shares
 serve_all-requires-clause-shares g c κs within =
