@@ -73,7 +73,7 @@ module _ {H L T C : Type 0} (steps : H → HealthItem → H → Type 0)
     pub answers : Answers steps exchanges sent records request old routed text new
     pub sends : (server : ℕ)
         → sent new.backend.links server
-            ≡ sent old.backend.links server + sends_to server (trails_in routed)
+        ≡ sent old.backend.links server + sends_to server (trails_in routed)
     pub probes : (server : ℕ) → probed new.backend.links server ≡ probed old.backend.links server
     pub appended : outbox' ≡ outbox ++ text
 

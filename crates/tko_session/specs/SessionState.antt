@@ -147,7 +147,7 @@ pub record Replied {H L T C : Type 0} (steps : H → HealthItem → H → Type 0
   pub becomes : Becomes steps exchanges sent records before (item.Request request) routed text after
   pub sends : (server : ℕ)
       → sent after.backend.links server
-          ≡ sent before.backend.links server + sends_to server (trails_in routed)
+      ≡ sent before.backend.links server + sends_to server (trails_in routed)
   pub probes : (server : ℕ) → probed after.backend.links server ≡ probed before.backend.links server
   pub reading : new.reading ≡ old.reading
   pub outbox : new.outbox ≡ old.outbox ++ text
