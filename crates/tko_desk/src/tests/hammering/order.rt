@@ -107,9 +107,9 @@ fn add(points: &mut Vec<Point>, point: Point) -> Result<(), AllocError> {
     Ok(())
 }
 
-/// The mark after a call, if it may stand before the other thread's next call and its reply is that of
-/// the sequential tracker. A call that was answered Contended changed nothing, and lost its tries to a
-/// call beside it.
+/// The mark after a call, if it may stand before the other thread's next call and its reply is that
+/// of the sequential tracker. A call that was answered Contended changed nothing, and lost its
+/// tries to a call beside it.
 fn mark_after(
     settings: &Settings,
     mark: Mark,

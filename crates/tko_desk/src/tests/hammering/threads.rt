@@ -41,7 +41,8 @@ pub(super) struct Shared<N: Named> {
     pub(super) done: AtomicU64,
 }
 
-/// Makes the calls of one turn, writes them down, and retires. Returns how many changes it made too.
+/// Makes the calls of one turn, writes them down, and retires. Returns how many changes it made
+/// too.
 fn make_calls(
     tracker: &Tracker,
     clock: &AtomicU64,

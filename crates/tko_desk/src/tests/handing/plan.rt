@@ -72,8 +72,8 @@ fn release_all(rt: &impl Abort, plain: &mut Plain) {
     }
 }
 
-/// What the sequential tracker does: the calls, and before the one at this place, and after the last,
-/// a release of each mark.
+/// What the sequential tracker does: the calls, and before the one at this place, and after the
+/// last, a release of each mark.
 pub(super) fn plan_of(rt: &impl Abort, alloc: Global, cut: usize) -> Result<Plan, Fail> {
     let mut plain = Plain::open(alloc, SETTINGS)?;
     let mut replies = [Reply::Contended; COUNT];
