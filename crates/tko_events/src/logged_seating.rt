@@ -27,6 +27,13 @@ impl<I: Drop> LoggedIdle<I> {
     {
         LoggedIdle { inner, log }
     }
+
+    /// The seat that it wraps.
+    pub fn into_inner(self) -> I
+        ensures { result ≡ self }
+    {
+        self.inner
+    }
 }
 
 /// The seats of workers that tell the log how marks change. Contracts see the seats that it wraps.

@@ -128,7 +128,8 @@ impl Stage {
         exptime: u32,
     ) -> Result<Stage, NoMemory>
         requires health { All (λ target. target < H.servers health.old) targets.now }
-        ensures calls { IfOk result (λ stage. (form : ℕ → Request) → GoesOn H.steps health.old
+        ensures calls { IfOk result (λ stage. (form : ℕ → Request)
+            → GoesOn H.steps health.old
             (λ calls. Reached targets.now form calls stage) health.new) }
         ensures ok_request { IfOk result (λ stage.
             request.new ≡ form_at exptime (without_noreply request.old) (last_place stage)) }

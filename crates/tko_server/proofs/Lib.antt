@@ -1,2 +1,3 @@
+mod LendingLemmas
 mod MemberLemmas
 mod RunLemmas

@@ -1,6 +1,7 @@
 pub mod Accounts
 pub mod Accepting
 pub mod Allotments
+pub mod Closing
 pub mod Reports
 pub mod Rounds
 pub mod Runs

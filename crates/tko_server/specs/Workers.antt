@@ -4,7 +4,7 @@ use Rattle.tko_links.specs.Wired.{WiredState}
 use Rattle.tko_server.specs.declared.pooling.Member.{Member}
 use Rattle.tko_server.specs.declared.running.Options.{Options}
 use Rattle.tko_server.specs.declared.working.WorkerParts.{WorkerParts}
-use Rattle.tko_session.specs.Probers.{no_probers}
+use Rattle.tko_backend.specs.Probers.{no_probers}
 use Rattle.tko_tracker.specs.Seated.{IsOf, Seated, TrackerId}
 
 -- the seating, the links and the probers have the servers of the configuration
@@ -28,8 +28,8 @@ AreReady own seated linked members = All (λ member. IsReady own seated linked m
 -- what a worker works with is what the options ask for
 pub record HasOptions {S L M : Type 0} (options : Options) (parts : WorkerParts S L M) : Type 0
   where
-  pub config : parts.config ≡ options.config
-  pub probers : parts.probers ≡ no_probers options.delays (length options.config.addresses)
+    pub config : parts.config ≡ options.config
+    pub probers : parts.probers ≡ no_probers options.delays (length options.config.addresses)
 
 -- ready at this tracker without a lock, and by links over a wire
 abbrev pub AreReadyAt : {C S W M : Type 0} → TrackerId → List (Member C Seated S (WiredState W) M)

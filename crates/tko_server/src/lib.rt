@@ -16,6 +16,7 @@ mod accepting;
 mod account;
 mod allotment;
 mod clients;
+mod lending;
 mod listening;
 mod logging;
 mod members;

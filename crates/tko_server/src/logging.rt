@@ -1,6 +1,7 @@
 //! The server over TCP, and its event log beside it.
-ghost use Rattle.std.specs.Prelude.{◌≡◌, ◌↔◌, Err, Some};
+ghost use Rattle.std.specs.Prelude.{◌≡◌, ◌↔◌, Err, IfOk, Some};
 ghost use Rattle.tko_model.specs.Ranges.{first_fault};
+ghost use Rattle.tko_server.specs.Closing.{HasClosed};
 ghost use Rattle.tko_server.specs.Runs.{tracker_settings};
 
 use crate::RunFault;
@@ -68,6 +69,7 @@ pub fn run_logged<R: IoRuntime<Listener = TcpListener> + Threads + Sync + Eprint
 ) -> Result<Ended, RunFault>
     ensures settings { (fault : SettingsFault) → (result ≡ Err (RunFault.Settings fault))
         ↔ (first_fault (tracker_settings options.now) ≡ Some fault) }
+    ensures closed { IfOk result (λ ended. HasClosed (tracker_settings options.now) ended.closed) }
 {
     match logging {
         Some(logging) => run_beside(rt, alloc, listener, options, logging),
@@ -85,6 +87,7 @@ fn run_and_end<R: IoRuntime<Listener = TcpListener> + Threads + Sync>(
 ) -> Result<Ended, RunFault>
     ensures settings { (fault : SettingsFault) → (result ≡ Err (RunFault.Settings fault))
         ↔ (first_fault (tracker_settings options.now) ≡ Some fault) }
+    ensures closed { IfOk result (λ ended. HasClosed (tracker_settings options.now) ended.closed) }
 {
     let ended = run_told(rt, alloc, listener, options, Some(log));
     log.end(rt);
@@ -101,6 +104,7 @@ fn run_beside<R: IoRuntime<Listener = TcpListener> + Threads + Sync + Eprint>(
 ) -> Result<Ended, RunFault>
     ensures settings { (fault : SettingsFault) → (result ≡ Err (RunFault.Settings fault))
         ↔ (first_fault (tracker_settings options.now) ≡ Some fault) }
+    ensures closed { IfOk result (λ ended. HasClosed (tracker_settings options.now) ended.closed) }
 {
     let Logging {
         log,
@@ -114,6 +118,8 @@ fn run_beside<R: IoRuntime<Listener = TcpListener> + Threads + Sync + Eprint>(
         || -> Result<Ended, RunFault>
             ensures settings { (fault : SettingsFault) → (result ≡ Err (RunFault.Settings fault))
                 ↔ (first_fault (tracker_settings options.entry.now) ≡ Some fault) }
+            ensures closed { IfOk result (λ ended.
+                HasClosed (tracker_settings options.entry.now) ended.closed) }
         { run_and_end(rt, alloc, listener, options, &log) },
     );
     ended

@@ -1,16 +1,18 @@
 //! The server over TCP.
-ghost use Rattle.std.specs.Prelude.{◌≡◌, ◌↔◌, All, Err, IfErr, Some, length};
+ghost use Rattle.std.specs.Prelude.{◌≡◌, ◌↔◌, Err, IfErr, IfOk, Some, length};
 ghost use Rattle.tko_model.specs.Ranges.{first_fault};
-ghost use Rattle.tko_tracker.specs.Seated.{ArePasses, IsOf};
+ghost use Rattle.tko_tracker.specs.Seated.{ArePasses};
+ghost use Rattle.tko_server.specs.Closing.{HasClosed, HasFailed, IsClosed};
 ghost use Rattle.tko_server.specs.Runs.{IsAfterOpening, tracker_settings};
 ghost use Rattle.tko_server.specs.Workers.{AreReadyAt};
 
 use crate::accepting::{AcceptEnd, Entrance, accept_all};
 use crate::allotment::WAITING;
+use crate::lending::{lend_all, work};
 use crate::listening::Listening;
 use crate::members::Shared;
 use crate::room::Room;
-use crate::{Allotment, Patience, RunFault, WorkerReport, pool};
+use crate::{Allotment, Patience, RunFault, WorkerReport};
 use crossbeam_channel::bounded;
 use std::alloc::Global;
 use std::marker::Brand;
@@ -18,14 +20,14 @@ use std::net::TcpListener;
 use std::sync::{Arc, Mutex};
 use std::thread;
 use std::thread::Threads;
-use tko_desk::{Book, Share, Totals, gather};
+use tko_desk::{Book, Desk, Share, Totals, gather};
 use tko_events::{Log, LoggedSeating};
 use tko_health::SharedSeating;
 use tko_links::IoRuntime;
 use tko_model::{Settings, SettingsFault};
 use tko_pools::Config;
 use tko_prober::Delays;
-use tko_tracker::{IdlePass, Named, Tracker, open};
+use tko_tracker::{Final, IdlePass, Named, Tracker, close, open};
 
 /// What a server is started with.
 #[derive(Drop)]
@@ -44,11 +46,13 @@ pub struct Options {
 }
 
 /// What a server came to.
-#[derive(Clone, Copy, Debug, PartialEq, Eq)]
+#[derive(Drop)]
 pub struct Ended {
     pub totals: Totals,
     /// What all workers met.
     pub report: WorkerReport,
+    /// What is left of the tracker, to which all passes came back.
+    pub closed: Final,
 }
 
 impl Options {
@@ -85,6 +89,7 @@ pub fn run_to_end<R: IoRuntime<Listener = TcpListener> + Threads + Sync>(
 ) -> Result<Ended, RunFault>
     ensures settings { (fault : SettingsFault) → (result ≡ Err (RunFault.Settings fault))
         ↔ (first_fault (tracker_settings options.now) ≡ Some fault) }
+    ensures closed { IfOk result (λ ended. HasClosed (tracker_settings options.now) ended.closed) }
 {
     run_told(rt, alloc, listener, options, None)
 }
@@ -99,29 +104,80 @@ pub(crate) fn run_told<R: IoRuntime<Listener = TcpListener> + Threads + Sync>(
 ) -> Result<Ended, RunFault>
     ensures settings { (fault : SettingsFault) → (result ≡ Err (RunFault.Settings fault))
         ↔ (first_fault (tracker_settings options.now) ≡ Some fault) }
+    ensures closed { IfOk result (λ ended. HasClosed (tracker_settings options.now) ended.closed) }
 {
     let settings = Settings {
         servers: options.config.servers(),
         ..options.settings
     };
     let (tracker, passes) = open(alloc, settings)?;
-    run_with::<Brand, R>(rt, alloc, listener, options, log, &tracker, passes)
+    match run_with::<Brand, R>(rt, alloc, listener, options, log, tracker, passes) {
+        Ok(ended) => Ok(ended),
+        Err(failed) => Err(failed.fault),
+    }
 }
 
-/// The same over this tracker, which `N` names, with the passes of its threads.
-fn run_with<'o, N: Named + Send + Sync, R: IoRuntime<Listener = TcpListener> + Threads + Sync>(
+/// Why a server ended without its totals, and what was left of its tracker.
+#[derive(Drop)]
+struct Failed {
+    fault: RunFault,
+    /// None where a pass did not come back, so that the tracker could not be closed.
+    closed: Option<Final>,
+}
+
+/// The same over this tracker, which `N` names, with the passes of its threads. They lie at a desk
+/// while no worker has them. At the end the tracker is closed with those that the desk then has.
+fn run_with<N: Named + Send + Sync, R: IoRuntime<Listener = TcpListener> + Threads + Sync>(
+    rt: &R,
+    alloc: Global,
+    listener: &TcpListener,
+    options: &Options,
+    log: Option<&Log>,
+    tracker: Tracker,
+    passes: Vec<IdlePass>,
+) -> Result<Ended, Failed>
+    requires named { tracker ≡ N.tracker }
+    requires asked { N.tracker.settings ≡ tracker_settings options.now }
+    requires passes { ArePasses N.tracker passes.items }
+    ensures closed { IfOk result (λ ended. IsClosed N.tracker ended.closed) }
+    ensures failed { IfErr result (HasFailed N.tracker) }
+{
+    let desk = Desk::<N>::open(passes);
+    let served = serve_over(rt, alloc, listener, options, log, &tracker, &desk);
+    let Ok(closed) = close(tracker, desk.end()) else {
+        // (a pass is lost only where memory runs out before its worker has ended)
+        let fault = RunFault::Memory;
+        return Err(Failed {
+            fault,
+            closed: None,
+        });
+    };
+    match served {
+        Ok((totals, report)) => Ok(Ended {
+            totals,
+            report,
+            closed,
+        }),
+        Err(fault) => Err(Failed {
+            fault,
+            closed: Some(closed),
+        }),
+    }
+}
+
+/// Serves over this tracker, which `N` names, by workers with the passes of this desk. Returns the
+/// totals, and what the workers met.
+fn serve_over<'o, N: Named + Send + Sync, R: IoRuntime<Listener = TcpListener> + Threads + Sync>(
     rt: &R,
     alloc: Global,
     listener: &TcpListener,
     options: &'o Options,
     log: Option<&'o Log>,
     tracker: &'o Tracker,
-    passes: Vec<IdlePass>,
-) -> Result<Ended, RunFault>
+    desk: &Desk<N>,
+) -> Result<(Totals, WorkerReport), RunFault>
     requires named { tracker.now ≡ N.tracker }
     requires asked { N.tracker.settings ≡ tracker_settings options.now }
-    requires passes { ArePasses N.tracker passes.items }
-    requires number { length passes.items ≡ N.tracker.settings.threads }
     ensures fault { IfErr result IsAfterOpening }
 {
     let (book, mut shares) = Book::open(alloc, 0, options.settings.threads)?;
@@ -135,47 +191,43 @@ fn run_with<'o, N: Named + Send + Sync, R: IoRuntime<Listener = TcpListener> + T
         log,
         workers: options.allotment().workers,
     };
-    let report = serve_all(rt, alloc, listener, &shared, passes, &mut shares)?;
-    Ok(Ended {
-        totals: totals_of(shared.book.into_inner(), shares),
-        report,
-    })
+    let report = serve_all(rt, alloc, listener, &shared, desk, &mut shares)?;
+    Ok((totals_of(shared.book.into_inner(), shares), report))
 }
 
-/// Accepts connections and serves each by one of the workers, who take these passes and shares.
-/// Returns what they met.
+/// Accepts connections and serves each by one of the workers, who take these shares, and the passes
+/// of the desk. Returns what they met.
 fn serve_all<N: Named + Send + Sync, R: IoRuntime<Listener = TcpListener> + Threads + Sync>(
     rt: &R,
     alloc: Global,
     listener: &TcpListener,
     shared: &Shared<'_, N>,
-    passes: Vec<IdlePass>,
+    desk: &Desk<N>,
     shares: &mut [Share],
 ) -> Result<WorkerReport, RunFault>
-    requires own { All (λ idle. IsOf N.tracker idle) passes.items }
-    requires passes { length passes.items ≡ N.tracker.settings.threads }
     requires shares { length shares.old ≡ N.tracker.settings.threads }
     requires asked { N.tracker.settings ≡ tracker_settings shared.now.options.now }
     ensures fault { IfErr result IsAfterOpening }
 {
     let options = shared.options;
     let (sender, receiver) = bounded(alloc, WAITING as usize)?;
-    let members = shared.members(rt, alloc, passes, shares, &receiver)?;
-    drop(receiver);
     let room = Room::open(alloc, options.allotment().clients)?;
     let entrance = Entrance {
         room: Arc::try_clone(&room)?,
         clients: sender,
         patience: options.patience,
     };
-    let (ended, accepted) = thread::join(
+    let passes = lend_all(rt, alloc, desk, options.settings.threads)?;
+    let members = shared.members(rt, alloc, passes, shares, &receiver)?;
+    drop(receiver);
+    let (report, accepted) = thread::join(
         rt,
         ||
             requires { AreReadyAt N.tracker members.items }
         {
-            let ended = pool(rt, alloc, members);
+            let report = work(rt, alloc, desk, members);
             room.close();
-            ended
+            report
         },
         || accept_all(
             rt,
@@ -185,7 +237,7 @@ fn serve_all<N: Named + Send + Sync, R: IoRuntime<Listener = TcpListener> + Thre
             options.connections,
         ),
     );
-    let report = WorkerReport::of_all(&ended?);
+    let report = report?;
     match accepted {
         AcceptEnd::Enough | AcceptEnd::NoWorker => Ok(report),
         AcceptEnd::Broken => Err(RunFault::Accept),

@@ -8,8 +8,10 @@ use tko_model::Settings;
 use tko_pools::Config;
 use tko_prober::Delays;
 
+mod ends;
 mod gate;
 mod pools;
+mod scarce;
 mod screen;
 mod server;
 mod workers;

@@ -1,7 +1,11 @@
 pub mod AddsLemmas
 pub mod ClosingLemmas
 pub mod KnowsLemmas
+pub mod LookLemmas
 pub mod OwnedLemmas
 pub mod PassLemmas
+pub mod PlaceLemmas
 pub mod RetireLemmas
 pub mod RunLemmas
+pub mod SoloLemmas
+pub mod TryLemmas

@@ -1,5 +1,5 @@
 -- A call: the steps that it takes, one after another, from its begin to its answer.
-use Rattle.std.specs.Prelude.{◌≡◌, ℕ, Bool, true, false, if◌then◌else◌, List, [], ◌∷◌}
+use Rattle.std.specs.Prelude.{◌≡◌, ℕ, Bool, true, false, if◌then◌else◌, List, [], ◌∷◌, ◌++◌}
 use Rattle.tko_model.specs.declared.mark.Op.{Op}
 use Rattle.tko_model.specs.declared.mark.Op.TheVariants.{LookUp, SoftFailure, HardFailure, Success, Release}
 use Rattle.tko_model.specs.declared.mark.Mark.{Mark}
@@ -8,18 +8,20 @@ use Rattle.tko_model.specs.declared.mark.Reply.TheVariants as reply
 use Rattle.tko_model.specs.declared.state.ServerState.{ServerState}
 use Rattle.tko_steps.specs.declared.phase.Call.{Call}
 use Rattle.tko_steps.specs.declared.phase.Phase.{Phase}
-use Rattle.tko_steps.specs.declared.phase.Phase.TheVariants.{Start}
+use Rattle.tko_steps.specs.declared.phase.Phase.TheVariants.{Start, Limit}
 use Rattle.tko_steps.specs.declared.phase.ThreadState.TheVariants.{Idle}
 use Rattle.tko_steps.specs.declared.table.Action.TheVariants.{Exchange}
 use Rattle.tko_steps.specs.declared.table.Decision.{Decision}
 use Rattle.tko_steps.specs.declared.table.Decision.TheVariants.{Goes, Answers}
 use Rattle.tko_steps.specs.declared.table.Observed.{Observed}
 use Rattle.tko_steps.specs.declared.table.Observed.TheVariants as seen
+use Rattle.tko_steps.specs.Lost.{IsSlotOfOther, finds_no_slot}
 use Rattle.tko_steps.specs.Steps.{begun_by, is_marked_state}
-use Rattle.tko_steps.specs.Table.{action_of, next_of}
+use Rattle.tko_steps.specs.Table.{action_of, next_of, same_server}
 use Rattle.tko_table.specs.declared.pass.Pass.{Pass}
 use Rattle.tko_table.specs.Passes.{without}
 use Rattle.tko_table.specs.Steps.{Takes}
+use Rattle.tko_tracker.specs.Tries.{HasTried, IsChangedByOthers, IsTurn, Taken, own_steps}
 
 -- the replies that an operation may get
 abbrev pub can_answer : Op → Reply → Bool
@@ -78,11 +80,6 @@ owned_left answer server owned =
     then server ∷ without server owned
     else (if gives answer then without server owned else owned)
 
--- one step of a call: what it read, and what the pass knew then
-pub record Taken : Type 0 where
-  pub read : Observed
-  pub after : Pass
-
 -- the step of a call at this phase: that of the core. A thread does not lose the exchange of its
 -- own mark
 pub record IsStep (before : Pass) (call : Call) (phase : Phase) (read : Observed) (after : Pass)
@@ -93,6 +90,35 @@ pub record IsStep (before : Pass) (call : Call) (phase : Phase) (read : Observed
         action_of call.number phase ≡ Exchange found mark →
         is_marked_state found.mark ≡ true → read ≡ seen.Done true
 
+-- the same with the step itself, which is the turn of its thread; where it is a look that finds no
+-- slot left, though more marks could be settled, another thread holds one
+pub record IsTaken (before : Pass) (call : Call) (phase : Phase) (taken : Taken) : Type 0 where
+  pub step : IsStep before call phase taken.read taken.after
+  pub turn : IsTurn step.takes.core step.takes.is_found.thread taken.step
+  pub held : finds_no_slot before.settings taken.step ≡ true →
+      IsSlotOfOther step.takes.core step.takes.is_found.thread
+  -- where it is an exchange of the server's word that is lost, or a second look that finds another
+  -- word than the first, other threads changed the server since it was as expected
+  pub lost : (found : ServerState) (mark : Mark) →
+      action_of call.number phase ≡ Exchange found mark →
+      taken.read ≡ seen.Done false →
+      IsChangedByOthers
+      before.settings
+      call.number
+      call.server
+      found
+      (before.seen ++ step.takes.between)
+  pub changed : (found now : ServerState) →
+      phase ≡ Limit found →
+      taken.read ≡ seen.Server now →
+      same_server found now ≡ false →
+      IsChangedByOthers
+      before.settings
+      call.number
+      call.server
+      found
+      (before.seen ++ step.takes.between)
+
 -- a call goes on, or ends with a reply
 abbrev pub GoesOn : Call → Decision → (Call → Phase → Type 0) → (Reply → Type 0) → Type 0
 GoesOn call (Goes lost phase) more end = more (record call { lost = lost }) phase
@@ -102,7 +128,7 @@ GoesOn call (Answers answer) more end = end answer
 abbrev pub Leads : Pass → Call → Phase → List Taken → Reply → Pass → Type 0
 Leads before call phase [] answer after = ⊥
 Leads before call phase (step ∷ steps) answer after =
-    IsStep before call phase step.read step.after
+    IsTaken before call phase step
     × GoesOn
     call
     (next_of before.settings call phase step.read)
@@ -116,3 +142,4 @@ pub record Called (before : Pass) (op : Op) (server : ℕ) (answer : Reply) (aft
     pub idle : before.state ≡ Idle number
     pub steps : List Taken
     pub leads : Leads before (begun_by number op server) Start steps answer after
+    pub tried : HasTried before.settings answer (own_steps steps)
