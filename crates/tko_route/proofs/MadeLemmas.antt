@@ -9,7 +9,6 @@ use Rattle.tko_text.specs.declared.request.Request.{Request}
 use Rattle.tko_links.specs.declared.links.NoMemory.{NoMemory}
 use Rattle.tko_links.specs.declared.links.Outcome.{Outcome}
 use Rattle.tko_links.specs.Links.{part_of}
-use Rattle.tko_route.specs.declared.attempt.Attempt.{Attempt}
 use Rattle.tko_route.specs.Calls.{Upstream, Call, Came, Does, IsExchange, Told, came, look_up, sends_of}
 use Rattle.tko_route.specs.Routing.{FindsUp}
 use Rattle.tko_route.specs.Trail.{Cut, IsCut, IsCutTrail, IsRouted, IsTrail, Makes, Way, next_target, sends_in}
