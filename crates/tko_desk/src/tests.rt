@@ -1,6 +1,8 @@
 //! A ledger that is opened, added to and gathered.
 
 mod desk;
+mod hammering;
+mod handing;
 
 use crate::{Book, Kind, LedgerFull, gather};
 use std::test::Fail;

@@ -1,182 +1,123 @@
 -- Laws of a whole route: what each call of a routing, and each send between two calls, adds to it.
-use Rattle.std.proofs.Common.{◌≡◌, ℕ, ◌+◌, Bool, true, List, [], ◌∷◌, ◌++◌, length, zero-add, Some, Ok, Err, refl, sym, ap, subst, arith, ◌∙◌}
-use Rattle.std.proofs.lemmas.Grind.{common_steps}
-use Rattle.std.proofs.lemmas.List.{append_assoc, append-nil}
-use Rattle.tko_model.specs.declared.mark.Reply.{Reply}
-use Rattle.tko_model.specs.Records.{HealthItem, Lead}
+use Rattle.std.proofs.Common.{◌≡◌, ℕ, ◌+◌, List, [], ◌∷◌, ◌++◌, length, Ok, Err, refl, ap, subst, arith, ◌∙◌, map, append_assoc, inr}
+use Rattle.std.specs.Prelude.{sum_by}
+use Rattle.std.proofs.lemmas.List.Sums.{sum_by-append}
+use Rattle.tko_model.specs.declared.mark.Reply.TheVariants as reply
+use Rattle.tko_model.specs.Records.{Gains, HealthItem, Lead}
+use Rattle.tko_model.proofs.RecordLemmas.{gains_append, gains_push}
 use Rattle.tko_text.specs.declared.request.Request.{Request}
 use Rattle.tko_links.specs.declared.links.NoMemory.{NoMemory}
 use Rattle.tko_links.specs.declared.links.Outcome.{Outcome}
-use Rattle.tko_links.specs.declared.links.Outcome.TheVariants as outcome
-use Rattle.tko_links.specs.Links.{Exchanged, LinksItem, is_sent, most_sends, part_of}
+use Rattle.tko_links.specs.Links.{part_of}
 use Rattle.tko_route.specs.declared.attempt.Attempt.{Attempt}
-use Rattle.tko_route.specs.declared.attempt.Attempt.TheVariants as attempt
-use Rattle.tko_route.specs.Routing.{Concluded, Found, Passed, PassedBy, Recorded}
-use Rattle.tko_route.specs.Trail.{Attempted, Attempts, FoundUp, IsRecorded, RanShort, next_target, op_of, sends_in}
-use Rattle.tko_route.specs.Underway.{Awaited, Underway}
-use Rattle.tko_route.proofs.TrailLemmas.{attempts_pushed, ran_short}
+use Rattle.tko_route.specs.Calls.{Upstream, Call, Came, Does, IsExchange, Told, came, look_up, sends_of}
+use Rattle.tko_route.specs.Routing.{FindsUp, GoesOn}
+use Rattle.tko_route.specs.Trail.{Cut, IsCut, IsCutTrail, IsRouted, IsTrail, Makes, Way, next_target, sends_in}
+use Rattle.tko_route.proofs.TrailLemmas.{sends_by_trail}
 
--- what was sent to a server, by an attempt more
-sends_pushed : (trail : List Attempt) (it : Attempt) (s : ℕ)
-    → sends_in s (trail ++ it ∷ []) ≡ sends_in s trail + sends_in s (it ∷ [])
-sends_pushed trail it s = grind (arith, common_steps)
+module _ {H L : Type 0} (upstream : Upstream H L) where
+  lead_told : (links : L) (old : H) (items : List HealthItem) (new : H) → Lead upstream.steps old items new
+      → Lead (Does upstream) (old, links) (map Told items) (new, links)
+  lead_told links old [] new e = ap (λ (h : H). (h, links)) e
+  lead_told links old (item ∷ items) new (mid, step, rest) =
+      ((mid, links), (step, refl), lead_told links mid items new rest)
 
-sends_by_look : {H : Type 0} (steps : H → HealthItem → H → Type 0) (old : H) (it : Attempt) (new : H) (s : ℕ)
-    → PassedBy steps old it new → sends_in s (it ∷ []) ≡ 0
-sends_by_look steps old (attempt.Skipped server mark) new s step = refl
-sends_by_look steps old (attempt.Sent server came answer) new s step = absurd step
-sends_by_look steps old (attempt.Spent server) new s step = absurd step
+  -- what health was asked or told is part of what was done
+  pub gains_told : {old : H × L} {health found : H} {links : L} {calls : List Call} {items : List HealthItem}
+      → Gains (Does upstream) old calls (health, links) → Gains upstream.steps health items found
+      → Gains (Does upstream) old (calls ++ map Told items) (found, links)
+  gains_told {old} {health} {found} {links} {calls} {items} front more =
+      gains_append front (record { leads = lead_told links health items found more.leads })
 
-sends_by_reply : {H : Type 0} (steps : H → HealthItem → H → Type 0) (old : H) (server : ℕ) (came : Outcome)
-    (answer : Reply) (new : H) (s : ℕ) → IsRecorded steps old server (op_of came) (Some answer) new
-    → sends_in s (attempt.Sent server came answer ∷ []) ≡ part_of (is_sent came) server s
-sends_by_reply steps old server (outcome.Reply response) answer new s ends = zero-add (part_of true server s)
-sends_by_reply steps old server outcome.Timeout answer new s ends = zero-add (part_of true server s)
-sends_by_reply steps old server outcome.Refused answer new s ends = zero-add (part_of true server s)
-sends_by_reply steps old server outcome.Broken answer new s ends = zero-add (part_of true server s)
-sends_by_reply steps old server outcome.Spent answer new s ends = absurd ends
+  sends_by_step : (s : ℕ) (old : H × L) (call : Call) (new : H × L) → Does upstream old call new
+      → upstream.sent new.1 s ≡ upstream.sent old.1 s + sends_of s call
+  sends_by_step s old (Told item) new (step, same) =
+      let is : upstream.sent new.1 s ≡ upstream.sent old.1 s = ap (λ (l : L). upstream.sent l s) same in omega (arith, is)
+  sends_by_step s old (Came it) new (exchange, same) = exchange.sends s
 
--- how often an attempt sent to a server, by what came of it
-sends_by_outcome : {H : Type 0} (steps : H → HealthItem → H → Type 0) (old : H) (server : ℕ) (came : Outcome)
-    (it : Attempt) (new : H) (s : ℕ) → Concluded steps old server came it new
-    → sends_in s (it ∷ []) ≡ part_of (is_sent came) server s
-sends_by_outcome steps old server came (attempt.Skipped at mark) new s ends = absurd ends
-sends_by_outcome steps old server came (attempt.Spent at) new s (at_is, spent, same) =
-    let P : Outcome → Type 0 = λ c. sends_in s (attempt.Spent at ∷ []) ≡ part_of (is_sent c) server s in
-    subst P (sym spent) refl
-sends_by_outcome steps old server came (attempt.Sent at got answer) new s (at_is, got_is, ends) =
-    let P : ℕ → Outcome → Type 0 = λ n c. sends_in s (attempt.Sent n c answer ∷ []) ≡ part_of (is_sent came) server s in
-    subst (λ (n : ℕ). P n got) (sym at_is)
-    (subst (λ (c : Outcome). P server c) (sym got_is) (sends_by_reply steps old server came answer new s ends))
+  sends_by_calls : (s : ℕ) (old : H × L) (calls : List Call) (new : H × L) → Lead (Does upstream) old calls new
+      → upstream.sent new.1 s ≡ upstream.sent old.1 s + sum_by (sends_of s) calls
+  sends_by_calls s old [] new e =
+      let same : upstream.sent new.1 s ≡ upstream.sent old.1 s = ap (λ (w : H × L). upstream.sent w.1 s) e in omega (arith, same)
+  sends_by_calls s old (call ∷ calls) new (mid, step, rest) =
+      let split : sum_by (sends_of s) (call ∷ calls) ≡ 0 + sends_of s call + sum_by (sends_of s) calls =
+      sum_by-append (sends_of s) (call ∷ []) calls in
+      omega (arith, split, sends_by_step s old call mid step, sends_by_calls s mid calls new rest)
 
-module _ {H L : Type 0} (steps : H → HealthItem → H → Type 0) (exchanges : L → LinksItem → L → Type 0)
-    (sent : L → ℕ → ℕ) where
-  -- these attempts were made, and each server's count of sends rose by them
-  pub record Made (form : ℕ → Request) (old : H × L) (trail : List Attempt) (new : H × L) : Type 0 where
-    pub attempts : Attempts steps exchanges sent form old trail new
-    pub sends : (s : ℕ) → sent new.1 s ≡ sent old.1 s + sends_in s trail
+  -- a request was routed
+  pub is_routed : {old : H × L} {health found : H} {links : L} {calls : List Call} {way : Way}
+      → Gains (Does upstream) old calls (health, links)
+      → GoesOn upstream.steps health (λ more. IsTrail way.targets way.trail × Makes way.form (calls ++ more) way.trail) found
+      → IsRouted upstream old way (found, links)
+  is_routed {old} {health} {found} {links} {calls} {way} front on =
+      let gains = gains_told front on.gains in
+      record {
+        trail = on.is.0;
+        attempts = record { calls = calls ++ map Told on.items; make = on.is.1; gains = gains };
+        sends = λ s. omega (arith, sends_by_calls s old (calls ++ map Told on.items) (found, links) gains.leads, sends_by_trail s on.is.1);
+      }
 
-  -- a look-up that found a mark is an attempt, and sent nothing
-  attempted_by_look : (old : H) (it : Attempt) (new : H) (links : L) (request : Request) → PassedBy steps old it new
-      → Attempted steps exchanges sent request (old, links) it (new, links)
-  unfolding Attempted
-  attempted_by_look old (attempt.Skipped server mark) new links request step = (step, refl)
-  attempted_by_look old (attempt.Sent server came answer) new links request step = absurd step
-  attempted_by_look old (attempt.Spent server) new links request step = absurd step
+  -- marked servers were skipped, the next was sent to, and what came of it was recorded
+  pub made_sent : {old : H × L} {health found new : H} {links after : L} {calls : List Call} {form : ℕ → Request}
+      {trail all : List Attempt} {server clear : ℕ} {request : Request} {got : Outcome}
+      → Gains (Does upstream) old calls (health, links)
+      → (on : GoesOn upstream.steps health (λ more. FindsUp form (calls ++ more) trail server) found)
+      → clear ≡ server
+      → IsExchange upstream links (record { server = clear; request = request; result = Ok got }) after
+      → request ≡ form (length trail)
+      → ((calls : List Call) → FindsUp form calls trail server → GoesOn upstream.steps found
+      (λ more. Makes form (calls ++ came server (form (length trail)) (Ok got) ∷ more) all) new)
+      → (all_calls : List Call) × Makes form all_calls all × Gains (Does upstream) old all_calls (new, after)
+  made_sent {old} {health} {found} {new} {links} {after} {calls} {form} {trail} {all} {server} {clear} {request} {got} front on names exchange form_is records =
+      let before = calls ++ map Told on.items in
+      let last = records before on.is in
+      let item = came server (form (length trail)) (Ok got) in
+      let Q : ℕ → Request → Type 0 = λ n r. IsExchange upstream links (record { server = n; request = r; result = Ok got }) after in
+      let sent : Gains (Does upstream) old (before ++ item ∷ []) (found, after) =
+      gains_push (gains_told front on.gains) (subst (λ (n : ℕ). Q n (form (length trail))) names (subst (λ (r : Request). Q clear r) form_is exchange), refl) in
+      let P : List Call → Type 0 = λ list. Gains (Does upstream) old list (new, after) in (
+        before ++ item ∷ map Told last.items,
+        last.is,
+        subst P (append_assoc before (item ∷ []) (map Told last.items)) (gains_told sent last.gains),
+      )
 
-  -- a look-up that found the server up, the exchange, and the record of its outcome are an attempt
-  attempted_by_send : (server : ℕ) (request : Request) (came : Outcome) (answer : Reply) (old found new : H) (links after : L)
-      → FoundUp steps old server found
-      → Exchanged exchanges links server request (Ok came) after
-      → IsRecorded steps found server (op_of came) (Some answer) new
-      → Attempted steps exchanges sent request (old, links) (attempt.Sent server came answer) (new, after)
-  unfolding Attempted
-  attempted_by_send server request (outcome.Reply response) answer old found new links after up item record_is = (found, up, item, record_is)
-  attempted_by_send server request outcome.Timeout answer old found new links after up item record_is = (found, up, item, record_is)
-  attempted_by_send server request outcome.Refused answer old found new links after up item record_is = (found, up, item, record_is)
-  attempted_by_send server request outcome.Broken answer old found new links after up item record_is = (found, up, item, record_is)
-  attempted_by_send server request outcome.Spent answer old found new links after up item record_is = absurd record_is
-
-  -- the same, whatever came of the exchange
-  attempted_by_halves : (server : ℕ) (request : Request) (came : Outcome) (it : Attempt) (old found new : H) (links after : L)
-      → FoundUp steps old server found
-      → Exchanged exchanges links server request (Ok came) after
-      → ((came ≡ outcome.Spent) → sent links server ≡ most_sends)
-      → Concluded steps found server came it new
-      → Attempted steps exchanges sent request (old, links) it (new, after)
-  unfolding Attempted
-  attempted_by_halves server request came (attempt.Skipped at mark) old found new links after up item spent ends = absurd ends
-  attempted_by_halves server request came (attempt.Sent at got answer) old found new links after up item spent (at_is, got_is, ends) =
-      let P : ℕ → Outcome → Type 0 = λ n c. Attempted steps exchanges sent request (old, links) (attempt.Sent n c answer) (new, after) in
-      subst (λ (n : ℕ). P n got) (sym at_is)
-      (subst (λ (c : Outcome). P server c) (sym got_is)
-      (attempted_by_send server request came answer old found new links after up item ends))
-  attempted_by_halves server request came (attempt.Spent at) old found new links after up item spent (at_is, none, same) =
-      let Q : Outcome → Type 0 = λ c. Exchanged exchanges links server request (Ok c) after in
-      let unchanged : after ≡ links = subst Q none item in
-      let P : ℕ → H → Type 0 = λ n h. FoundUp steps old n h × (sent links n ≡ most_sends) × (after ≡ links) in
-      subst (λ (n : ℕ). P n new) (sym at_is) (subst (λ (h : H). P server h) (sym same) (up, spent none, unchanged))
-
-module _ {H L : Type 0} {steps : H → HealthItem → H → Type 0} {exchanges : L → LinksItem → L → Type 0}
-    {sent : L → ℕ → ℕ} where
-  -- one attempt more was made
-  made_pushed : {form : ℕ → Request} {old mid new : H × L} {trail : List Attempt} (it : Attempt)
-      → Made steps exchanges sent form old trail mid
-      → Attempted steps exchanges sent (form (length trail)) mid it new
-      → ((s : ℕ) → sent new.1 s ≡ sent mid.1 s + sends_in s (it ∷ []))
-      → Made steps exchanges sent form old (trail ++ it ∷ []) new
-  made_pushed {form} {old} {mid} {new} {trail} it made last sends = record {
-    attempts = attempts_pushed it made.attempts last refl refl;
-    sends = λ s. omega (arith, sends s, made.sends s, sends_pushed trail it s);
-  }
-
-  made_looked : {form : ℕ → Request} {old : H × L} {links : L} {trail : List Attempt} (mid : H) (it : Attempt) (new : H)
-      → Made steps exchanges sent form old trail (mid, links) → PassedBy steps mid it new
-      → Made steps exchanges sent form old (trail ++ it ∷ []) (new, links)
-  made_looked {form} {links} {trail} mid it new made step =
-      made_pushed it made (attempted_by_look steps exchanges sent mid it new links (form (length trail)) step)
-      (λ s. omega (arith, sends_by_look steps mid it new s step))
-
-  made_by_looks : {form : ℕ → Request} {old : H × L} {links : L} (trail skipped : List Attempt) (mid new : H)
-      → Made steps exchanges sent form old trail (mid, links) → Lead (PassedBy steps) mid skipped new
-      → Made steps exchanges sent form old (trail ++ skipped) (new, links)
-  made_by_looks {form} {old} {links} trail [] mid new made e =
-      let P : H → Type 0 = λ h. Made steps exchanges sent form old (trail ++ []) (h, links) in
-      let Q : List Attempt → Type 0 = λ list. Made steps exchanges sent form old list (mid, links) in
-      subst P (sym e) (subst Q (sym (append-nil trail)) made)
-  made_by_looks {form} {old} {links} trail (it ∷ skipped) mid new made (next, step, rest) =
-      let Q : List Attempt → Type 0 = λ list. Made steps exchanges sent form old list (new, links) in
-      subst Q (append_assoc trail (it ∷ []) skipped)
-      (made_by_looks (trail ++ it ∷ []) skipped next new (made_looked mid it next made step) rest)
-
-  -- marked servers were passed
-  pub made_passed : {form : ℕ → Request} {old : H × L} {links : L} {before trail : List Attempt} {mid new : H}
-      → Made steps exchanges sent form old before (mid, links) → Passed steps mid before trail new
-      → Made steps exchanges sent form old trail (new, links)
-  made_passed {form} {old} {links} {before} {mid} {new} made passed =
-      let Q : List Attempt → Type 0 = λ list. Made steps exchanges sent form old list (new, links) in
-      subst Q (sym passed.parts) (made_by_looks before passed.skipped mid new made passed.looks.leads)
-
-  -- marked servers were passed, the next was sent to, and what came of it was recorded
-  pub made_sent : {form : ℕ → Request} {old : H × L} {links after : L} {before : List Attempt} {mid found new : H}
-      {waiting : Awaited} {routing : Underway} {came : Outcome} {server : ℕ} {request : Request}
-      → Made steps exchanges sent form old before (mid, links)
-      → Found steps mid before waiting.attempts server found
-      → server ≡ waiting.server → request ≡ form (length waiting.attempts)
-      → Exchanged exchanges links server request (Ok came) after
-      → ((came ≡ outcome.Spent) → sent links server ≡ most_sends)
-      → ((s : ℕ) → sent after s ≡ sent links s + part_of (is_sent came) server s)
-      → Recorded steps found waiting came routing new
-      → Made steps exchanges sent form old routing.attempts (new, after)
-  made_sent {form} {old} {links} {after} {found} {new} {waiting} {came} {server} {request} made looked at form_is item spent sends recorded =
-      let C : ℕ → Type 0 = λ n. Concluded steps found n came recorded.last new in
-      let R : Request → Type 0 = λ r. Attempted steps exchanges sent r (looked.mid, links) recorded.last (new, after) in
-      let M : List Attempt → Type 0 = λ list. Made steps exchanges sent form old list (new, after) in
-      let ends = subst C (sym at) recorded.ends in
-      let last = attempted_by_halves steps exchanges sent server request came recorded.last looked.mid found new links after looked.up item spent ends in
-      subst M (sym recorded.parts)
-      (made_pushed recorded.last (made_passed made looked.passed) (subst R form_is last)
-      (λ s. sends s ∙ ap (λ n. sent links s + n) (sym (sends_by_outcome steps found server came recorded.last new s ends))))
-
-  -- memory ran out at the send
-  pub made_short : {form : ℕ → Request} {old : H × L} {links after : L} {before trail : List Attempt} {mid found : H}
-      {targets : List ℕ} {fault : NoMemory} {server : ℕ} {request : Request}
-      → Made steps exchanges sent form old before (mid, links)
-      → Found steps mid before trail server found
-      → server ≡ next_target targets trail → request ≡ form (length trail)
-      → Exchanged exchanges links server request (Err fault) after
-      → RanShort steps exchanges sent form targets old trail fault.sent (found, after)
-  made_short {form} {links} {after} {trail} {found} {fault} {server} {request} made looked at form_is item =
-      ran_short (made_passed made looked.passed).attempts (record { look = looked.up; item = item }) form_is at
-
-  -- the counts of sends where memory ran out
-  pub short_sends : {form : ℕ → Request} {old : H × L} {links after : L} {before trail : List Attempt} {mid found : H}
-      (targets : List ℕ) (was_sent : Bool) {server : ℕ}
-      → Made steps exchanges sent form old before (mid, links)
-      → Found steps mid before trail server found
-      → server ≡ next_target targets trail
-      → ((s : ℕ) → sent after s ≡ sent links s + part_of was_sent server s)
-      → (s : ℕ) → sent after s ≡ sent old.1 s + sends_in s trail + part_of was_sent (next_target targets trail) s
-  short_sends {old} {links} {after} {trail} targets was_sent {server} made looked at sends s =
-      let P : ℕ → Type 0 = λ n. sent after s ≡ sent old.1 s + sends_in s trail + part_of was_sent n s in
-      subst P at (sends s ∙ ap (λ n. n + part_of was_sent server s) ((made_passed made looked.passed).sends s))
+  -- memory ran out at the exchange
+  pub is_cut : {old : H × L} {health found : H} {links after : L} {calls : List Call} {cut : Cut} {server clear : ℕ}
+      {request : Request}
+      → Gains (Does upstream) old calls (health, links)
+      → (on : GoesOn upstream.steps health (λ more. FindsUp cut.way.form (calls ++ more) cut.way.trail server) found)
+      → IsCutTrail cut.way.targets cut.way.trail
+      → server ≡ next_target cut.way.targets cut.way.trail
+      → clear ≡ server
+      → IsExchange upstream links (record { server = clear; request = request; result = Err (record { sent = cut.sent }) }) after
+      → request ≡ cut.way.form (length cut.way.trail)
+      → IsCut upstream old cut (found, after)
+  is_cut {old} {health} {found} {links} {after} {calls} {cut} {server} {clear} {request} front on tried at names exchange form_is =
+      let form = cut.way.form in
+      let trail = cut.way.trail in
+      let fault : NoMemory = record { sent = cut.sent } in
+      let item = came server (form (length trail)) (Err fault) in
+      let look = look_up server (reply.Up on.is.count) in
+      let Q : ℕ → Request → Type 0 = λ n r. IsExchange upstream links (record { server = n; request = r; result = Err fault }) after in
+      let sent : Gains (Does upstream) old ((calls ++ map Told on.items) ++ item ∷ []) (found, after) =
+      gains_push (gains_told front on.gains) (subst (λ (n : ℕ). Q n (form (length trail))) names (subst (λ (r : Request). Q clear r) form_is exchange), refl) in
+      let P : List Call → Type 0 = λ list. Gains (Does upstream) old list (found, after) in
+      let grown : (calls ++ map Told on.items) ++ item ∷ [] ≡ on.is.before ++ look ∷ item ∷ [] =
+      ap (λ list. list ++ item ∷ []) on.is.is ∙ append_assoc on.is.before (look ∷ []) (item ∷ []) in
+      let gains = subst P grown sent in
+      let count : (s : ℕ) → sum_by (sends_of s) (on.is.before ++ look ∷ item ∷ [])
+      ≡ sum_by (sends_of s) on.is.before + (0 + 0 + part_of cut.sent server s) =
+      λ s. sum_by-append (sends_of s) on.is.before (look ∷ item ∷ []) in
+      let N : ℕ → Type 0 = λ n. (s : ℕ) → upstream.sent after s ≡ upstream.sent old.1 s + sends_in s trail + part_of cut.sent n s in
+      record {
+        trail = tried;
+        attempts = inr (record {
+          calls = on.is.before;
+          make = on.is.make;
+          server = server;
+          is_next = at;
+          count = on.is.count;
+          gains = gains;
+        });
+        sends = subst N at (λ s. omega (arith, count s, sends_by_calls s old (on.is.before ++ look ∷ item ∷ []) (found, after) gains.leads, sends_by_trail s on.is.make));
+      }

@@ -1,6 +1,7 @@
 -- Laws of a routing: what look-ups and outcomes add to its attempts, and to those of a whole route.
-use Rattle.std.proofs.Common.{◌≡◌, ℕ, ◌-◌, ◌<◌, List, [], ◌∷◌, ◌++◌, length, Option, Some, None, Result, Ok, Err, IfErr, refl, sym, ap, subst, arith, ◌∙◌, ◌⊎◌, inl, inr, IsSome, get_or, slice_get, append-nil, map, take}
-use Rattle.std.proofs.lemmas.List.{append_assoc}
+use Rattle.std.proofs.Common.{◌≡◌, ℕ, ◌-◌, ◌<◌, List, [], ◌∷◌, ◌++◌, length, Option, Some, None, Ok, refl, sym, ap, subst, arith, ◌∙◌, ◌⊎◌, inl, inr, IsSome, get_or, slice_get, append-nil, map, take}
+use Rattle.std.proofs.lemmas.List.{append_assoc, map-append}
+use Rattle.std.proofs.Math.Seq.{get_or-append_seam}
 use Rattle.std.proofs.lemmas.Bool.{false≢true}
 use Rattle.std.proofs.lemmas.Grind.{common_steps}
 use Rattle.std.proofs.lemmas.List.Elements.{All-append, All-cons, All-nil}
@@ -10,17 +11,17 @@ use Rattle.tko_model.specs.declared.mark.Mark.{Mark}
 use Rattle.tko_model.specs.declared.mark.Op.TheVariants.{LookUp}
 use Rattle.tko_model.specs.declared.mark.Reply.TheVariants as reply
 use Rattle.tko_model.specs.Records.{HealthItem, Called}
-use Rattle.tko_model.proofs.RecordLemmas.{gains_none, gains_push}
+use Rattle.tko_model.proofs.RecordLemmas.{gains_none, gains_one, gains_push}
+use Rattle.tko_text.specs.declared.request.Request.{Request}
+use Rattle.tko_links.specs.declared.links.Outcome.{Outcome}
+use Rattle.tko_links.specs.declared.links.Outcome.TheVariants as outcome
 use Rattle.tko_route.specs.declared.attempt.Attempt.{Attempt}
 use Rattle.tko_route.specs.declared.attempt.Attempt.TheVariants as attempt
-use Rattle.tko_route.specs.Routing.{IsAwaited, IsDone, IsUnderway, Passed}
-use Rattle.tko_route.specs.Trail.{IsAnswer, LastAnswered, NoneAnswered, answer_of, next_target, response_of, server_of}
+use Rattle.tko_route.specs.Calls.{Call, Told, came, look_up}
+use Rattle.tko_route.specs.Routing.{FindsUp, GoesOn, IsAwaited, IsTried, IsUnderway}
+use Rattle.tko_route.specs.Trail.{Ends, IsAnswer, IsAttempt, IsTrail, LastAnswered, Makes, NoneAnswered, answer_of, next_target, outcome_of, response_of, server_of}
+use Rattle.tko_route.proofs.TrailLemmas.{makes_pushed}
 use Rattle.tko_route.specs.Underway.{Awaited, Underway}
-
--- what an error means, weakened
-pub err_weaker : {T E : Type 0} {P Q : E → Type 0} → ((e : E) → P e → Q e) → (r : Result T E) → IfErr r P → IfErr r Q
-err_weaker weaker (Ok it) is = tt
-err_weaker weaker (Err e) is = weaker e is
 
 -- an answer is the last attempt's
 last_answered : (trail : List Attempt) → NoneAnswered trail ⊎ LastAnswered trail
@@ -35,6 +36,25 @@ last_answered (first ∷ trail) (inl none) answered =
     let at = subst Q same (slice_get-get_or (first ∷ trail) (length trail) first place) in
     let P : Option Attempt → Type 0 = λ it. IsSome (option_and_then response_of it) in
     absurd (none (length trail) first place (subst P at answered))
+
+last_of : (before : List Attempt) (last : Attempt)
+    → slice_get (before ++ last ∷ []) (length (before ++ last ∷ []) - 1) ≡ Some last
+last_of before last =
+    let xs = before ++ last ∷ [] in
+    let place : length before < length xs = grind (arith, common_steps) in
+    let same : length before ≡ length xs - 1 = grind (arith, common_steps) in
+    let at = slice_get-get_or xs (length before) last place in
+    let P : ℕ → Type 0 = λ n. slice_get xs n ≡ Some last in
+    subst P same (at ∙ ap Some (get_or-append_seam before last [] last))
+
+-- without an answer of the last attempt none was answered
+none_answered : (trail : List Attempt) → NoneAnswered trail ⊎ LastAnswered trail
+    → ¬ IsSome (answer_of trail) → NoneAnswered trail
+none_answered trail (inl it) none = it
+none_answered trail (inr it) none =
+    let P : Option Attempt → Type 0 = λ at. IsSome (option_and_then response_of at) in
+    let Q : List Attempt → Type 0 = λ list. IsSome (answer_of list) in
+    absurd (none (subst Q (sym it.parts) (subst P (sym (last_of it.before it.last)) it.answer)))
 
 either_answer : (it : Attempt) → (¬ IsAnswer it) ⊎ IsAnswer it
 either_answer it =
@@ -73,27 +93,109 @@ underway_again {targets} {waiting} {routing} last awaited at parts room =
       answers = subst Q (sym parts) (answers_pushed waiting.attempts last awaited.tried.unanswered);
     }
 
+-- a routing whose last attempt was answered is done
+pub is_done : {targets : List ℕ} {routing : Underway} {trail : List Attempt} → IsUnderway targets routing
+    → IsSome (answer_of routing.attempts) → trail ≡ routing.attempts → IsTrail targets trail
+is_done {targets} {routing} underway answered e =
+    let P : List Attempt → Type 0 = λ list. IsTrail targets list in
+    subst P (sym e) (record {
+      servers = underway.servers;
+      ends = inr (last_answered routing.attempts underway.answers answered);
+    })
+
+-- a routing whose last attempt was not answered goes on
+pub is_tried : {targets : List ℕ} {routing : Underway} → IsUnderway targets routing
+    → ¬ IsSome (answer_of routing.attempts) → IsTried targets routing.attempts
+is_tried {targets} {routing} underway none =
+    record { servers = underway.servers; unanswered = none_answered routing.attempts underway.answers none }
+
+-- one call more
+one_told : (calls : List Call) (items : List HealthItem) (item : HealthItem)
+    → calls ++ map Told (items ++ item ∷ []) ≡ (calls ++ map Told items) ++ Told item ∷ []
+one_told calls items item =
+    ap (λ told. calls ++ told) (map-append Told items (item ∷ [])) ∙ sym (append_assoc calls (map Told items) (Told item ∷ []))
+
 module _ {H : Type 0} {steps : H → HealthItem → H → Type 0} where
-  -- one more marked server was passed
-  pub passed_pushed : {old mid new : H} {before trail all : List Attempt} {server : ℕ} {mark : Mark}
-      → Passed steps old before trail mid
+  -- without a call
+  pub stays : (reached : List Call → Type 0) (calls : List Call) (at : H) → reached calls
+      → GoesOn steps at (λ more. reached (calls ++ more)) at
+  stays reached calls at is =
+      record { items = []; gains = gains_none at; is = subst reached (sym (append-nil calls)) is }
+
+  -- one more marked server was skipped
+  pub skipped : (form : ℕ → Request) (calls : List Call) {old mid new : H} {trail all : List Attempt} (server : ℕ) (mark : Mark)
+      → GoesOn steps old (λ more. Makes form (calls ++ more) trail) mid
       → steps mid (Called LookUp server (reply.Marked mark)) new
-      → all ≡ trail ++ attempt.Skipped server mark ∷ [] → Passed steps old before all new
-  passed_pushed {before} {server} {mark} passed step e =
-      let it = attempt.Skipped server mark in
+      → all ≡ trail ++ attempt.Skipped server mark ∷ []
+      → GoesOn steps old (λ more. Makes form (calls ++ more) all) new
+  skipped form calls server mark on step e =
+      let item = Called LookUp server (reply.Marked mark) in
       record {
-        skipped = passed.skipped ++ it ∷ [];
-        parts = e ∙ ap (λ trail. trail ++ it ∷ []) passed.parts ∙ append_assoc before passed.skipped (it ∷ []);
-        looks = gains_push passed.looks step;
+        items = on.items ++ item ∷ [];
+        gains = gains_push on.gains step;
+        is = makes_pushed (attempt.Skipped server mark) (Told item ∷ []) on.is refl (one_told calls on.items item) e;
       }
 
-  -- a routing whose last attempt was answered is done
-  pub is_done : {targets : List ℕ} {routing : Underway} {trail : List Attempt} (old : H)
-      → IsUnderway targets routing → IsSome (answer_of routing.attempts) → trail ≡ routing.attempts
-      → IsDone steps targets old routing.attempts trail old
-  is_done {targets} {routing} old underway answered e =
-      let P : List Attempt → Type 0 = λ list. IsDone steps targets old routing.attempts list old in
-      subst P (sym e) (record {
-        whole = record { servers = underway.servers; ends = inr (last_answered routing.attempts underway.answers answered) };
-        passed = record { skipped = []; parts = sym (append-nil routing.attempts); looks = gains_none old };
+  -- then a server was found up
+  pub found_up : (form : ℕ → Request) (calls : List Call) {old mid new : H} {trail : List Attempt} {clear : ℕ} (server count : ℕ)
+      → clear ≡ server → GoesOn steps old (λ more. Makes form (calls ++ more) trail) mid
+      → steps mid (Called LookUp server (reply.Up count)) new
+      → GoesOn steps old (λ more. FindsUp form (calls ++ more) trail clear) new
+  found_up form calls {old} {mid} {new} {trail} {clear} server count names on step =
+      let item = Called LookUp server (reply.Up count) in
+      let P : ℕ → Type 0 = λ n. GoesOn steps old (λ more. FindsUp form (calls ++ more) trail n) new in
+      subst P (sym names) (record {
+        items = on.items ++ item ∷ [];
+        gains = gains_push on.gains step;
+        is = record { before = calls ++ map Told on.items; make = on.is; count = count; is = one_told calls on.items item };
       })
+
+  -- the calls of an attempt that ended so, after a look-up that found the server up
+  ended : (old new : H) (it : Attempt) (server count : ℕ) (request : Request) (got : Outcome)
+      → Ends steps old it new → outcome_of it ≡ Some got → server_of it ≡ server
+      → GoesOn steps old (λ more. IsAttempt request (look_up server (reply.Up count) ∷ came server request (Ok got) ∷ more) it) new
+  ended old new (attempt.Skipped at mark) server count request got ends is at_is = absurd ends
+  ended old new (attempt.Sent at it answer) server count request got (op, known, step) is at_is =
+      let same : it ≡ got = cc in
+      let P : ℕ → Outcome → Type 0 =
+      λ n o. GoesOn steps old (λ more. IsAttempt request (look_up n (reply.Up count) ∷ came n request (Ok o) ∷ more) (attempt.Sent at it answer)) new in
+      subst (λ (n : ℕ). P n got) at_is (subst (λ (o : Outcome). P at o) same (record {
+        items = Called op at answer ∷ [];
+        gains = gains_one step;
+        is = (count, op, known, refl);
+      }))
+  ended old new (attempt.Spent at) server count request got same is at_is =
+      let none : outcome.Spent ≡ got = cc in
+      let P : ℕ → Outcome → H → Type 0 =
+      λ n o h. GoesOn steps old (λ more. IsAttempt request (look_up n (reply.Up count) ∷ came n request (Ok o) ∷ more) (attempt.Spent at)) h in
+      subst (λ (n : ℕ). P n got new) at_is (subst (λ (o : Outcome). P at o new) none (subst (λ (h : H). P at outcome.Spent h) (sym same) (record {
+        items = [];
+        gains = gains_none old;
+        is = (count, refl);
+      })))
+
+  -- what came of a send, and the call that recorded it, make the attempt
+  pub recorded : (form : ℕ → Request) (calls : List Call) {old new : H} (waiting : Awaited) {all : List Attempt}
+      (it : Attempt) (got : Outcome) → FindsUp form calls waiting.attempts waiting.server
+      → Ends steps old it new → outcome_of it ≡ Some got → server_of it ≡ waiting.server
+      → all ≡ waiting.attempts ++ it ∷ []
+      → GoesOn steps old (λ more. Makes form (calls ++ came waiting.server (form (length waiting.attempts)) (Ok got) ∷ more) all) new
+  recorded form calls {old} {new} waiting it got up ends is at e =
+      let request = form (length waiting.attempts) in
+      let on = ended old new it waiting.server up.count request got ends is at in
+      let item = came waiting.server request (Ok got) in
+      let look = look_up waiting.server (reply.Up up.count) in
+      record {
+        items = on.items;
+        gains = on.gains;
+        is = makes_pushed it (look ∷ item ∷ map Told on.items) up.make on.is
+            (ap (λ list. list ++ item ∷ map Told on.items) up.is ∙ append_assoc up.before (look ∷ []) (item ∷ map Told on.items)) e;
+      }
+
+  -- an answered routing is done without a call
+  pub done_at_once : (targets : List ℕ) (form : ℕ → Request) (calls : List Call) (at : H) {trail all : List Attempt}
+      → IsTrail targets all → all ≡ trail → Makes form calls trail
+      → GoesOn steps at (λ more. IsTrail targets all × Makes form (calls ++ more) all) at
+  done_at_once targets form calls at {trail} {all} whole e make =
+      let P : List Attempt → Type 0 = λ list. Makes form calls list in
+      stays (λ list. IsTrail targets all × Makes form list all) calls at (whole, subst P (sym e) make)

@@ -1,12 +1,22 @@
--- Laws of trails.
-use Rattle.std.proofs.Common.{◌≡◌, ℕ, suc, ◌+◌, ◌-◌, Bool, List, [], ◌∷◌, ◌++◌, length, ap, sym, subst, arith}
+-- Laws of trails, and of the calls that make them.
+use Rattle.std.proofs.Common.{◌≡◌, ℕ, suc, ◌+◌, ◌-◌, true, cond, List, [], ◌∷◌, ◌++◌, length, None, Some, refl, ap, sym, subst, arith, ◌∙◌, zero-add}
+use Rattle.std.specs.Prelude.{sum_by}
 use Rattle.std.proofs.lemmas.Grind.{common_steps}
-use Rattle.tko_model.specs.Records.{Gains, HealthItem}
+use Rattle.std.proofs.lemmas.List.Sums.{sum_by-append}
+use Rattle.tko_model.specs.Records.{Gains, Lead}
 use Rattle.tko_model.proofs.RecordLemmas.{gains_push}
+use Rattle.tko_model.specs.declared.mark.Op.{Op}
 use Rattle.tko_text.specs.declared.request.Request.{Request}
+use Rattle.tko_links.specs.declared.links.Outcome.{Outcome}
+use Rattle.tko_links.specs.declared.links.Outcome.TheVariants as outcome
+use Rattle.tko_links.specs.Links.{is_sent, part_of}
 use Rattle.tko_route.specs.declared.attempt.Attempt.{Attempt}
-use Rattle.tko_links.specs.Links.{LinksItem}
-use Rattle.tko_route.specs.Trail.{Attempted, AttemptedAt, Attempts, Placed, RanOut, RanShort, form_at, next_target, placed_from}
+use Rattle.tko_route.specs.declared.attempt.Attempt.TheVariants as attempt
+use Rattle.tko_route.specs.Calls.{Call, sends_of}
+use Rattle.tko_route.specs.Trail.{Adds, IsAttempt, Makes, Placed, form_at, is_send, op_of, placed_from, sends_in}
+
+none_is_some : {op : Op} → None ≡ Some op → ⊥
+none_is_some e = cc
 
 -- a request in the form of the place after those of a trail
 pub prepared : (exptime : ℕ) {place count : ℕ} (request : Request) {before after : Request}
@@ -33,30 +43,55 @@ pub count_pushed : (all trail : List Attempt) (it : Attempt) → all ≡ trail +
     → length trail ≡ length all - 1
 count_pushed all trail it e = grind (arith, common_steps)
 
-module _ {H L : Type 0} {steps : H → HealthItem → H → Type 0} {exchanges : L → LinksItem → L → Type 0}
-    {sent : L → ℕ → ℕ} {form : ℕ → Request} where
-  -- one more attempt after those that were made
-  pub attempts_pushed : {old mid new : H × L} {trail all : List Attempt} (it : Attempt) {request : Request}
-      → Attempts steps exchanges sent form old trail mid
-      → Attempted steps exchanges sent request mid it new
-      → request ≡ form (length trail) → all ≡ trail ++ it ∷ []
-      → Attempts steps exchanges sent form old all new
-  attempts_pushed {old} {mid} {new} {trail} it made last at e =
-      let P : Request → Type 0 = λ r. Attempted steps exchanges sent r mid it new in
-      let Q : List Placed → Type 0 = λ items. Gains (AttemptedAt steps exchanges sent form) old items new in
-      let first : 0 + length trail ≡ length trail = omega arith in
-      rw e (record {
-        gains = subst Q (sym (placed_push 0 (length trail) trail it first)) (gains_push made.gains (subst P at last));
-      })
+-- one more attempt adds its calls
+pub makes_pushed : {form : ℕ → Request} {calls all_calls : List Call} {trail all : List Attempt}
+    (it : Attempt) (more : List Call) → Makes form calls trail → IsAttempt (form (length trail)) more it
+    → all_calls ≡ calls ++ more → all ≡ trail ++ it ∷ [] → Makes form all_calls all
+makes_pushed {form} {calls} {all_calls} {trail} it more make last grown pushed =
+    let first : 0 + length trail ≡ length trail = omega arith in
+    let Q : List Placed → Type 0 = λ items. Gains (Adds form) [] items (calls ++ more) in
+    rw (grown, pushed) (record {
+      adds = subst Q (sym (placed_push 0 (length trail) trail it first)) (gains_push make.adds (more, last, refl));
+    })
 
-  -- an attempt at which memory ran out comes after those that were made
-  pub ran_short : {targets : List ℕ} {server : ℕ} {old mid new : H × L} {trail : List Attempt}
-      {was_sent : Bool} {request : Request}
-      → Attempts steps exchanges sent form old trail mid
-      → RanOut steps exchanges request mid server was_sent new
-      → request ≡ form (length trail) → server ≡ next_target targets trail
-      → RanShort steps exchanges sent form targets old trail was_sent new
-  ran_short {server} {mid} {new} {trail} {was_sent} made last form_is at =
-      let P : Request → Type 0 = λ r. RanOut steps exchanges r mid server was_sent new in
-      let Q : ℕ → Type 0 = λ n. RanOut steps exchanges (form (length trail)) mid n was_sent new in
-      record { mid = mid; made = made; last = subst Q at (subst P form_is last) }
+-- an exchange whose outcome is recorded sent its request
+sends_by_outcome : (got : Outcome) (op : Op) (server s : ℕ) → op_of got ≡ Some op
+    → part_of true server s ≡ part_of (is_sent got) server s
+sends_by_outcome (outcome.Reply response) op server s is = refl
+sends_by_outcome outcome.Timeout op server s is = refl
+sends_by_outcome outcome.Refused op server s is = refl
+sends_by_outcome outcome.Broken op server s is = refl
+sends_by_outcome outcome.Spent op server s is = absurd (none_is_some is)
+
+-- the calls of an attempt sent to a server as often as the attempt did
+sends_by_attempt : (s : ℕ) (request : Request) (calls : List Call) (it : Attempt) → IsAttempt request calls it
+    → sum_by (sends_of s) calls ≡ sends_in s (it ∷ [])
+sends_by_attempt s request calls (attempt.Skipped server mark) is = ap (sum_by (sends_of s)) is
+sends_by_attempt s request calls (attempt.Sent server got answer) (count, op, known, is) =
+    let total : sum_by (sends_of s) calls ≡ (0 + 0) + part_of (is_sent got) server s + 0 = ap (sum_by (sends_of s)) is in
+    let one : sends_in s (attempt.Sent server got answer ∷ []) ≡ part_of true server s = zero-add (part_of true server s) in
+    omega (arith, total, one, sends_by_outcome got op server s known)
+sends_by_attempt s request calls (attempt.Spent server) (count, is) = ap (sum_by (sends_of s)) is
+
+sends_by_lead : (form : ℕ → Request) (s place : ℕ) (trail : List Attempt) (before after : List Call)
+    → Lead (Adds form) before (placed_from place trail) after
+    → sum_by (sends_of s) after ≡ sum_by (sends_of s) before + sends_in s trail
+sends_by_lead form s place [] before after e =
+    let same : sum_by (sends_of s) after ≡ sum_by (sends_of s) before = ap (sum_by (sends_of s)) e in omega (arith, same)
+sends_by_lead form s place (it ∷ trail) before after (mid, (calls, is, grown), rest) =
+    let first : sum_by (sends_of s) mid ≡ sum_by (sends_of s) before + sum_by (sends_of s) calls =
+    ap (sum_by (sends_of s)) grown ∙ sum_by-append (sends_of s) before calls in
+    let split : sends_in s (it ∷ trail) ≡ sends_in s (it ∷ []) + sends_in s trail =
+    sum_by-append (λ x. cond (is_send s x) 1 0) (it ∷ []) trail in
+    omega (arith, first, split, sends_by_attempt s (form place) calls it is, sends_by_lead form s (suc place) trail mid after rest)
+
+-- the calls of a trail sent to a server as often as the trail did
+pub sends_by_trail : {form : ℕ → Request} {calls : List Call} {trail : List Attempt} (s : ℕ)
+    → Makes form calls trail → sum_by (sends_of s) calls ≡ sends_in s trail
+sends_by_trail {form} {calls} {trail} s make =
+    let all : sum_by (sends_of s) calls ≡ 0 + sends_in s trail = sends_by_lead form s 0 trail [] calls make.adds.leads in
+    omega (arith, all)
+
+-- one more, without it
+pub count_less : {many some : ℕ} → many ≡ some + 1 → some ≡ many - 1
+count_less e = omega (arith, e)

@@ -1,3 +1,4 @@
+pub mod Calls
 pub mod Routing
 pub mod Trail
 pub mod Underway

@@ -1,19 +1,20 @@
 -- The trail of a request: its attempts at one target after another. Nothing here knows a loop.
-use Rattle.std.specs.Prelude.{◌≡◌, ℕ, zero, suc, ◌<◌, ◌-◌, Bool, false, MatchBool, ◌==◌, ◌⊎◌, List, [], ◌∷◌, ◌++◌, length, map, take, All, count_by, slice_get, slice_index, Option, Some, None, IsSome}
+use Rattle.std.specs.Prelude.{◌≡◌, ℕ, zero, suc, ◌<◌, ◌+◌, ◌-◌, Bool, false, MatchOption, ◌==◌, ◌⊎◌, List, [], ◌∷◌, ◌++◌, length, map, take, All, count_by, slice_get, slice_index, Option, Some, None, IsSome, Ok, Err}
 use Rattle.std.specs.Option.{option_and_then}
 use Rattle.tko_model.specs.declared.mark.Op.{Op}
-use Rattle.tko_model.specs.declared.mark.Op.TheVariants.{LookUp, SoftFailure, HardFailure, Success}
+use Rattle.tko_model.specs.declared.mark.Op.TheVariants.{SoftFailure, HardFailure, Success}
 use Rattle.tko_model.specs.declared.mark.Reply.{Reply}
 use Rattle.tko_model.specs.declared.mark.Reply.TheVariants as reply
 use Rattle.tko_model.specs.Records.{Gains, HealthItem, Called}
 use Rattle.tko_text.specs.declared.request.Request.{Request}
 use Rattle.tko_text.specs.declared.response.Response.{Response}
-use Rattle.tko_text.specs.SentRequests.{with_replaced_expiry}
+use Rattle.tko_text.specs.SentRequests.{with_replaced_expiry, without_noreply}
 use Rattle.tko_links.specs.declared.links.Outcome.{Outcome}
 use Rattle.tko_links.specs.declared.links.Outcome.TheVariants as outcome
 use Rattle.tko_route.specs.declared.attempt.Attempt.{Attempt}
 use Rattle.tko_route.specs.declared.attempt.Attempt.TheVariants as attempt
-use Rattle.tko_links.specs.Links.{LinksItem, Sent, most_sends}
+use Rattle.tko_links.specs.Links.{part_of}
+use Rattle.tko_route.specs.Calls.{Upstream, Call, Does, Told, came, look_up}
 
 -- the table of outcomes: the operation that records each
 abbrev pub op_of : Outcome → Option Op
@@ -26,7 +27,7 @@ op_of outcome.Spent = None
 -- the server that an attempt was at
 abbrev pub server_of : Attempt → ℕ
 server_of (attempt.Skipped server mark) = server
-server_of (attempt.Sent server came answer) = server
+server_of (attempt.Sent server got answer) = server
 server_of (attempt.Spent server) = server
 
 -- what a server answered
@@ -40,8 +41,14 @@ response_in outcome.Spent = None
 -- the response that an attempt got
 abbrev pub response_of : Attempt → Option Response
 response_of (attempt.Skipped server mark) = None
-response_of (attempt.Sent server came answer) = response_in came
+response_of (attempt.Sent server got answer) = response_in got
 response_of (attempt.Spent server) = None
+
+-- what came of the exchange that an attempt was
+abbrev pub outcome_of : Attempt → Option Outcome
+outcome_of (attempt.Skipped server mark) = None
+outcome_of (attempt.Sent server got answer) = Some got
+outcome_of (attempt.Spent server) = Some outcome.Spent
 
 -- an attempt that got a response
 abbrev pub IsAnswer : Attempt → Type 0
@@ -50,7 +57,7 @@ IsAnswer it = IsSome (response_of it)
 -- whether an attempt sent to this server
 abbrev pub is_send : ℕ → Attempt → Bool
 is_send server (attempt.Skipped at mark) = false
-is_send server (attempt.Sent at came answer) = at == server
+is_send server (attempt.Sent at got answer) = at == server
 is_send server (attempt.Spent at) = false
 
 -- how often a trail sent to this server
@@ -88,32 +95,39 @@ pub record IsCutTrail (targets : List ℕ) (trail : List Attempt) : Type 0 where
 abbrev pub next_target : List ℕ → List Attempt → ℕ
 next_target targets trail = slice_index targets (length trail)
 
+-- what was recorded of a server: an operation, if there is one, and its reply
+pub record Report : Type 0 where
+  pub server : ℕ
+  pub op : Option Op
+  pub reply : Option Reply
+
 -- this operation was called and got that reply; without an operation nothing changed
-abbrev pub IsRecorded : {H : Type 0} → (H → HealthItem → H → Type 0) → H → ℕ → Option Op
-    → Option Reply → H → Type 0
-IsRecorded steps old server (Some op) (Some answer) new = steps old (Called op server answer) new
-IsRecorded steps old server (Some op) None new = ⊥
-IsRecorded steps old server None (Some answer) new = ⊥
-IsRecorded steps old server None None new = new ≡ old
+abbrev pub IsRecorded : {H : Type 0} → (H → HealthItem → H → Type 0) → H → Report → H → Type 0
+IsRecorded steps old report new =
+    MatchOption report.op ((report.reply ≡ None) × (new ≡ old))
+    (λ op. (reply : Reply) × (report.reply ≡ Some reply)
+    × steps old (Called op report.server reply) new)
 
--- a look-up found the server up
-pub record FoundUp {H : Type 0} (steps : H → HealthItem → H → Type 0) (old : H) (server : ℕ)
-    (new : H) : Type 0 where
-  pub count : ℕ
-  pub step : steps old (Called LookUp server (reply.Up count)) new
+-- an attempt ended so: what came of its exchange was recorded, by the table of outcomes
+abbrev pub Ends : {H : Type 0} → (H → HealthItem → H → Type 0) → H → Attempt → H → Type 0
+Ends steps old (attempt.Skipped server mark) new = ⊥
+Ends steps old (attempt.Sent server got answer) new =
+    (op : Op) × (op_of got ≡ Some op) × steps old (Called op server answer) new
+Ends steps old (attempt.Spent server) new = new ≡ old
 
--- one attempt, as a step of health and links: a look-up that found that mark; or one that found the
--- server up, then the exchange, then the call that records its outcome; or the count was used up
-unfoldable pub Attempted : {H L : Type 0} → (H → HealthItem → H → Type 0)
-    → (L → LinksItem → L → Type 0) → (L → ℕ → ℕ) → Request → H × L → Attempt → H × L → Type 0
-Attempted steps exchanges sent request old (attempt.Skipped server mark) new =
-    steps old.0 (Called LookUp server (reply.Marked mark)) new.0 × (new.1 ≡ old.1)
-Attempted {H} steps exchanges sent request old (attempt.Sent server came answer) new =
-    (found : H) × FoundUp steps old.0 server found
-    × exchanges old.1 (Sent server request (Some came)) new.1
-    × IsRecorded steps found server (op_of came) (Some answer) new.0
-Attempted steps exchanges sent request old (attempt.Spent server) new =
-    FoundUp steps old.0 server new.0 × (sent old.1 server ≡ most_sends) × (new.1 ≡ old.1)
+-- the calls of one attempt: a look-up that found that mark; or one that found the server up, then the
+-- exchange, then the call that the table of outcomes names; or one that found the server up, and
+-- an exchange that sent nothing, since the server's count is used up
+abbrev pub IsAttempt : Request → List Call → Attempt → Type 0
+IsAttempt request calls (attempt.Skipped server mark) =
+    calls ≡ look_up server (reply.Marked mark) ∷ []
+IsAttempt request calls (attempt.Sent server got answer) =
+    (count : ℕ) × (op : Op) × (op_of got ≡ Some op)
+    × (calls ≡ look_up server (reply.Up count) ∷ came server request (Ok got)
+    ∷ Told (Called op server answer) ∷ [])
+IsAttempt request calls (attempt.Spent server) =
+    (count : ℕ)
+    × (calls ≡ look_up server (reply.Up count) ∷ came server request (Ok outcome.Spent) ∷ [])
 
 -- the form in which a request is sent to the target at a place of the list: the first target gets
 -- the request's own expiry, each later one the replaced expiry
@@ -132,47 +146,82 @@ placed_from place [] = []
 placed_from place (it ∷ trail) =
     record { place = place; attempt = it } ∷ placed_from (suc place) trail
 
--- one attempt, with the request in the form of its place
-abbrev pub AttemptedAt : {H L : Type 0} → (H → HealthItem → H → Type 0)
-    → (L → LinksItem → L → Type 0) → (L → ℕ → ℕ) → (ℕ → Request) → H × L → Placed → H × L → Type 0
-AttemptedAt steps exchanges sent form old it new =
-    Attempted steps exchanges sent (form it.place) old it.attempt new
+-- an attempt adds its calls to those before, with the request in the form of its place
+abbrev pub Adds : (ℕ → Request) → List Call → Placed → List Call → Type 0
+Adds form before it after =
+    (calls : List Call) × IsAttempt (form it.place) calls it.attempt × (after ≡ before ++ calls)
 
--- the attempts of a trail, from the first target of the list on
-pub record Attempts {H L : Type 0} (steps : H → HealthItem → H → Type 0)
-    (exchanges : L → LinksItem → L → Type 0) (sent : L → ℕ → ℕ) (form : ℕ → Request)
-    (old : H × L) (trail : List Attempt) (new : H × L) : Type 0 where
-  pub gains : Gains (AttemptedAt steps exchanges sent form) old (placed_from 0 trail) new
+-- these calls are those of the attempts of a trail, from the first target of the list on
+pub record Makes (form : ℕ → Request) (calls : List Call) (trail : List Attempt) : Type 0 where
+  pub adds : Gains (Adds form) [] (placed_from 0 trail) calls
 
--- an attempt at which memory ran out: a look-up found the server up; then, if the request was sent,
--- that is one item without an outcome, and if it was not, the links did not change
-pub record RanOut {H L : Type 0} (steps : H → HealthItem → H → Type 0)
-    (exchanges : L → LinksItem → L → Type 0) (request : Request)
-    (old : H × L) (server : ℕ) (was_sent : Bool) (new : H × L) : Type 0 where
-  pub look : FoundUp steps old.0 server new.0
-  pub item : MatchBool was_sent (exchanges old.1 (Sent server request None) new.1) (new.1 ≡ old.1)
+-- a request that goes to these targets, in the form of each place, and its trail
+pub record Way : Type 0 where
+  pub targets : List ℕ
+  pub form : ℕ → Request
+  pub trail : List Attempt
 
--- these attempts were made, and then memory ran out at the next target
-pub record RanShort {H L : Type 0} (steps : H → HealthItem → H → Type 0)
-    (exchanges : L → LinksItem → L → Type 0) (sent : L → ℕ → ℕ) (form : ℕ → Request)
-    (targets : List ℕ) (old : H × L) (trail : List Attempt) (was_sent : Bool) (new : H × L)
+-- the way of a request over these targets, with this replaced expiry
+abbrev pub way : List ℕ → ℕ → Request → List Attempt → Way
+way targets exptime request trail = record {
+  targets = targets;
+  form = form_at exptime (without_noreply request);
+  trail = trail;
+}
+
+-- the attempts of a trail were made at the servers
+pub record Attempts {H L : Type 0} (upstream : Upstream H L) (old : H × L) (way : Way) (new : H × L)
     : Type 0 where
-  pub mid : H × L
-  pub made : Attempts steps exchanges sent form old trail mid
-  pub last :
-      RanOut steps exchanges (form (length trail)) mid (next_target targets trail) was_sent new
+  pub calls : List Call
+  pub make : Makes way.form calls way.trail
+  pub gains : Gains (Does upstream) old calls new
+
+-- a request was routed, and each server's count of sends rose by the attempts that sent to it
+pub record IsRouted {H L : Type 0} (upstream : Upstream H L) (old : H × L) (way : Way) (new : H × L)
+    : Type 0 where
+  pub trail : IsTrail way.targets way.trail
+  pub attempts : Attempts upstream old way new
+  pub sends : (server : ℕ)
+      → upstream.sent new.1 server ≡ upstream.sent old.1 server + sends_in server way.trail
+
+-- the trail of a request until memory ran out, and whether one more request was sent
+pub record Cut : Type 0 where
+  pub way : Way
+  pub sent : Bool
+
+abbrev pub cut : Way → Bool → Cut
+cut way sent = record { way = way; sent = sent }
 
 -- memory ran out before the first attempt
-pub record NothingDone {S : Type 0} (old : S) (trail : List Attempt) (was_sent : Bool) (new : S)
-    : Type 0 where
-  pub untried : trail ≡ []
-  pub unsent : was_sent ≡ false
+pub record NothingDone {S : Type 0} (old : S) (cut : Cut) (new : S) : Type 0 where
+  pub untried : cut.way.trail ≡ []
+  pub unsent : cut.sent ≡ false
   pub same : new ≡ old
 
+-- these attempts were made, a look-up found the next target up, and memory ran out at the exchange
+-- with it
+pub record RanShort {H L : Type 0} (upstream : Upstream H L) (old : H × L) (cut : Cut) (new : H × L)
+    : Type 0 where
+  pub calls : List Call
+  pub make : Makes cut.way.form calls cut.way.trail
+  pub server : ℕ
+  pub is_next : server ≡ next_target cut.way.targets cut.way.trail
+  pub count : ℕ
+  pub gains : Gains (Does upstream) old
+      (calls ++ look_up server (reply.Up count)
+      ∷ came server (cut.way.form (length cut.way.trail)) (Err (record { sent = cut.sent })) ∷ [])
+      new
+
 -- memory ran out: before the first attempt, or at the target after those of the trail
-abbrev pub CutShort : {H L : Type 0} → (H → HealthItem → H → Type 0)
-    → (L → LinksItem → L → Type 0) → (L → ℕ → ℕ) → (ℕ → Request) → List ℕ → H × L → List Attempt
-    → Bool → H × L → Type 0
-CutShort steps exchanges sent form targets old trail was_sent new =
-    NothingDone old trail was_sent new
-    ⊎ RanShort steps exchanges sent form targets old trail was_sent new
+abbrev pub CutShort : {H L : Type 0} → Upstream H L → H × L → Cut → H × L → Type 0
+CutShort upstream old cut new = NothingDone old cut new ⊎ RanShort upstream old cut new
+
+-- memory ran out in a routed request: each server's count of sends rose by the attempts that sent
+-- to it, and that of the next target by one more if a request was sent to it
+pub record IsCut {H L : Type 0} (upstream : Upstream H L) (old : H × L) (cut : Cut) (new : H × L)
+    : Type 0 where
+  pub trail : IsCutTrail cut.way.targets cut.way.trail
+  pub attempts : CutShort upstream old cut new
+  pub sends : (server : ℕ) → upstream.sent new.1 server
+      ≡ upstream.sent old.1 server + sends_in server cut.way.trail
+      + part_of cut.sent (next_target cut.way.targets cut.way.trail) server

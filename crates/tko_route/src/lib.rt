@@ -17,7 +17,7 @@ mod routing;
 pub use attempt::{Attempt, Trail};
 pub use failover::route;
 pub use routed::{RouteFault, Routed};
-pub use routing::{Routing, Step, Waiting};
+pub use routing::{Routing, Stage, Waiting};
 pub use tko_health::{Health, LockedHealth, PlainHealth};
 
 #[cfg(test)]

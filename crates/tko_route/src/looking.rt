@@ -1,7 +1,8 @@
 //! The two halves of an attempt: look-ups until a server is up, and the record of an outcome.
-ghost use Rattle.std.specs.Prelude.{◌≡◌, ◌↔◌, ◌-◌, ◌<◌, ◌≤◌, All, IfNone, IfSome, IsSome, IsTrue, length, map, take, vec_capacity};
-ghost use Rattle.tko_route.specs.Routing.{CanSend, Concluded, IsDone};
-ghost use Rattle.tko_route.specs.Trail.{IsRecorded, NoneAnswered, answer_of, form_at, op_of, server_of};
+ghost use Rattle.std.specs.Prelude.{◌≡◌, ◌↔◌, ◌-◌, ◌<◌, ◌≤◌, ◌++◌, ℕ, All, IfNone, IfSome, IsSome, IsTrue, List, length, vec_capacity, Some};
+ghost use Rattle.tko_route.specs.Calls.{Call};
+ghost use Rattle.tko_route.specs.Routing.{Finds, GoesOn, IsNext, IsTried, place_of};
+ghost use Rattle.tko_route.specs.Trail.{Ends, IsRecorded, IsTrail, Makes, answer_of, form_at, op_of, outcome_of, server_of};
 ghost use Rattle.tko_text.specs.declared.request.Request.{Request};
 
 use crate::attempt::Attempt;
@@ -39,19 +40,16 @@ pub(crate) fn look_on<R: Wait, H: Health>(
 ) -> Option<Clear>
     requires health { All (λ target. target < H.servers health.old) targets.now }
     requires room { length targets.now ≤ vec_capacity attempts.old }
-    requires tried { map server_of attempts.old.items
-        ≡ take (length attempts.old.items) targets.now }
-    requires unanswered { NoneAnswered attempts.old.items }
-    ensures some { IfSome result (λ clear. CanSend H.steps targets.now
-        health.old attempts.old.items attempts.new.items clear health.new) }
-    ensures none { IfNone result (IsDone H.steps targets.now
-        health.old attempts.old.items attempts.new.items health.new) }
-    ensures some_request { IfSome result (λ clear. (original : Request)
+    requires tried { IsTried targets.now attempts.old.items }
+    ensures some { IfSome result (IsNext targets.now attempts.new.items) }
+    ensures none { IfNone result (IsTrail targets.now attempts.new.items) }
+    ensures calls { (form : ℕ → Request) (calls : List Call) → Makes form calls attempts.old.items
+        → GoesOn H.steps health.old
+        (λ more. Finds form (calls ++ more) attempts.new.items result) health.new }
+    ensures request { (original : Request)
         → request.old ≡ form_at exptime original (length attempts.old.items - 1)
-        → request.new ≡ form_at exptime original (length attempts.new.items)) }
-    ensures none_request { IfNone result ((original : Request)
-        → request.old ≡ form_at exptime original (length attempts.old.items - 1)
-        → request.new ≡ form_at exptime original (length attempts.new.items - 1)) }
+        → request.new ≡ form_at exptime original (place_of result (length attempts.new.items)) }
+    ensures grown { length attempts.old.items ≤ length attempts.new.items }
     ensures room { vec_capacity attempts.new ≡ vec_capacity attempts.old }
     ensures servers { H.servers health.new ≡ H.servers health.old }
 {
@@ -74,7 +72,8 @@ fn record_outcome<R: Wait, H: Health>(
     outcome: &Outcome,
 ) -> Option<Reply>
     requires { server < H.servers health.old }
-    ensures recorded { IsRecorded H.steps health.old server (op_of outcome.now) result health.new }
+    ensures recorded { IsRecorded H.steps health.old
+        (record { server = server; op = op_of outcome.now; reply = result }) health.new }
     ensures servers { H.servers health.new ≡ H.servers health.old }
 {
     match outcome {
@@ -93,7 +92,8 @@ pub(crate) fn conclude<R: Wait, H: Health>(
     outcome: Outcome,
 ) -> Attempt
     requires { server < H.servers health.old }
-    ensures ends { Concluded H.steps health.old server outcome result health.new }
+    ensures ends { Ends H.steps health.old result health.new }
+    ensures outcome { outcome_of result ≡ Some outcome }
     ensures server { server_of result ≡ server }
     ensures servers { H.servers health.new ≡ H.servers health.old }
 {

@@ -1,9 +1,10 @@
 //! What came of a routed request.
 ghost use Rattle.std.specs.Option.{option_copied};
-ghost use Rattle.std.specs.Prelude.{◌≡◌};
+ghost use Rattle.std.specs.Prelude.{◌≡◌, [], false};
 ghost use Rattle.tko_route.specs.Trail.{answer_of};
 
 use crate::attempt::{Attempt, Trail};
+use std::alloc::Global;
 use tko_links::Outcome;
 use tko_text::Response;
 
@@ -37,4 +38,15 @@ impl Routed {
 pub struct RouteFault {
     pub trail: Trail,
     pub sent: bool,
+}
+
+impl RouteFault {
+    /// Memory ran out before the first attempt.
+    pub(crate) fn untried(alloc: Global) -> RouteFault
+        ensures trail { result.trail ≡ [] }
+        ensures sent { result.sent ≡ false }
+    {
+        let trail = Trail::of(Vec::new(alloc));
+        RouteFault { trail, sent: false }
+    }
 }

@@ -3,9 +3,10 @@
 //!
 //! - `Routing`: nothing is sent. `next` looks for a server that is up.
 //! - `Waiting`: a request was sent. `record` takes what came of it.
-ghost use Rattle.std.specs.Prelude.{◌≡◌, ◌-◌, ◌<◌, ℕ, [], All, IfOk, List, OnErr, length};
-ghost use Rattle.tko_route.specs.Routing.{IsAwaited, IsUnderway, Proceeds, Recorded, last_place};
-ghost use Rattle.tko_route.specs.Trail.{form_at};
+ghost use Rattle.std.specs.Prelude.{◌≡◌, ◌+◌, ◌-◌, ◌<◌, ◌≤◌, ◌∷◌, ◌++◌, ℕ, [], All, IfOk, List, OnErr, length, Ok};
+ghost use Rattle.tko_route.specs.Calls.{Call, came};
+ghost use Rattle.tko_route.specs.Routing.{FindsUp, GoesOn, IsAwaited, IsUnderway, Reached, last_place, tries};
+ghost use Rattle.tko_route.specs.Trail.{Makes, form_at};
 ghost use Rattle.tko_text.specs.SentRequests.{without_noreply};
 ghost use Rattle.tko_text.specs.declared.request.Request.{Request};
 
@@ -35,11 +36,11 @@ pub struct Waiting {
     server: usize,
 }
 
-/// What a routing does next.
+/// How far a routing came.
 #[derive(Debug, Drop)]
-pub enum Step {
+pub enum Stage {
     /// The request, as it is now, may be sent once to the server that the permission names.
-    Send(Clear, Waiting),
+    Away(Clear, Waiting),
     /// A target answered, or none is left.
     Done(Routed),
 }
@@ -90,25 +91,28 @@ impl Routing {
         targets: &[usize],
         request: &mut Request,
         exptime: u32,
-    ) -> Step
+    ) -> Stage
         requires health { All (λ target. target < H.servers health.old) targets.now }
         requires underway { IsUnderway targets.now self }
-        ensures step { Proceeds H.steps targets.now health.old self result health.new }
+        ensures calls { (form : ℕ → Request) (calls : List Call) → Makes form calls self.attempts
+            → GoesOn H.steps health.old
+            (λ more. Reached targets.now form (calls ++ more) result) health.new }
         ensures request { (original : Request)
             → request.old ≡ form_at exptime original (length self.attempts - 1)
             → request.new ≡ form_at exptime original (last_place result) }
+        ensures grown { length self.attempts ≤ tries result }
         ensures servers { H.servers health.new ≡ H.servers health.old }
     {
         let mut attempts = self.attempts;
         if is_answered(&attempts) {
-            return Step::Done(Routed::of(attempts));
+            return Stage::Done(Routed::of(attempts));
         }
         match look_on(rt, health, targets, request, exptime, &mut attempts) {
             Some(clear) => {
                 let server = clear.server();
-                Step::Send(clear, Waiting { attempts, server })
+                Stage::Away(clear, Waiting { attempts, server })
             }
-            None => Step::Done(Routed::of(attempts)),
+            None => Stage::Done(Routed::of(attempts)),
         }
     }
 }
@@ -124,7 +128,12 @@ impl Waiting {
     /// Records what came of the send.
     pub fn record<R: Wait, H: Health>(self, rt: &R, health: &mut H, outcome: Outcome) -> Routing
         requires { self.server < H.servers health.old }
-        ensures recorded { Recorded H.steps health.old self outcome result health.new }
+        ensures calls { (form : ℕ → Request) (calls : List Call)
+            → FindsUp form calls self.attempts self.server
+            → GoesOn H.steps health.old (λ more. Makes form
+            (calls ++ came self.server (form (length self.attempts)) (Ok outcome) ∷ more)
+            result.attempts) health.new }
+        ensures one { length result.attempts ≡ length self.attempts + 1 }
         ensures underway { (targets : List ℕ) → IsAwaited targets self → IsUnderway targets result }
         ensures servers { H.servers health.new ≡ H.servers health.old }
     {

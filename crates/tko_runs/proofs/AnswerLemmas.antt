@@ -31,11 +31,12 @@ use Rattle.tko_steps.specs.Core.{CoreState, Shared, after_act, after_step, after
 use Rattle.tko_steps.specs.Steps.{state_after, writes}
 use Rattle.tko_steps.specs.declared.step.Word.TheVariants as word
 use Rattle.tko_steps.specs.Invariant.{IsCore}
-use Rattle.tko_steps.specs.Table.{action_of, at_threshold, from_mark, from_up_by, goes, lost_try, next_of, on_others, on_own_hard_by, on_own_soft_by, same_server, unless_worn}
+use Rattle.tko_steps.specs.Table.{action_of, at_threshold, from_start, goes, lost_try, next_of, same_server}
 use Rattle.tko_steps.specs.Runs.{Step}
 use Rattle.tko_steps.proofs.CostLemmas.{depth}
 use Rattle.tko_steps.proofs.CoreLemmas.{IsCore-after_act, knows_at}
 use Rattle.tko_steps.proofs.RunLemmas.{Holds-run}
+use Rattle.tko_steps.proofs.StartLemmas.{from_start-is}
 
 -- a thread without a call takes no steps
 pub steps_to_answer-none : (most : ℕ) (core : CoreState) (thread : ℕ) → has_call (thread_at core thread) ≡ false
@@ -120,51 +121,13 @@ module _ (s : Settings) (call : Call) (left : call.lost < s.tries) where
   begun-goes : (phase : Phase) → 1 ≤ depth phase → IsBegun (goes call phase)
   begun-goes phase low = omega (arith, left, low)
 
-  begun-unless_worn : (found : ServerState) (following : Decision) → IsBegun following → IsBegun (unless_worn found following)
-  begun-unless_worn found following begun =
-      cond_both (leb worn found.stamp) (Answers reply.Worn) following IsBegun (λ e. begun-answers reply.Worn) (λ e. begun)
-
-  begun-from_up : (op : Op) (found : ServerState) (count : ℕ) → IsBegun (from_up_by op s call found count)
-  begun-from_up LookUp found count = begun-answers (reply.Up count)
-  begun-from_up SoftFailure found count =
-      let counts : Phase = Read found (Up (count + 1)) (reply.Counted (count + 1)) in
-      begun-unless_worn found _
-      (cond_both (ltb (count + 1) s.failures) (goes call counts) (goes call (AtThreshold found)) IsBegun
-      (λ e. begun-goes counts (omega arith))
-      (λ e. begun-goes (AtThreshold found) (omega arith)))
-  begun-from_up HardFailure found count =
-      begun-unless_worn found _ (begun-goes (Read found (Hard call.number) reply.TookHard) (omega arith))
-  begun-from_up Success found count =
-      let resets : Phase = Read found (Up 0) (reply.Reset count) in
-      cond_both (eqb count 0) (Answers reply.Clean) (unless_worn found (goes call resets)) IsBegun
-      (λ e. begun-answers reply.Clean)
-      (λ e. begun-unless_worn found _ (begun-goes resets (omega arith)))
-  begun-from_up Release found count = begun-answers (reply.NotMine found.mark)
-
-  begun-own_soft : (op : Op) (found : ServerState) → IsBegun (on_own_soft_by op call found)
-  begun-own_soft LookUp found = begun-answers (reply.Marked found.mark)
-  begun-own_soft SoftFailure found = begun-answers (reply.Already found.mark)
-  begun-own_soft HardFailure found = begun-goes (Loosening found (Hard call.number) reply.Hardened) (omega arith)
-  begun-own_soft Success found = begun-goes (Loosening found (Up 0) (reply.Unmarked found.mark)) (omega arith)
-  begun-own_soft Release found = begun-goes (Loosening found (Up 0) (reply.Released found.mark)) (omega arith)
-
-  begun-own_hard : (op : Op) (found : ServerState) → IsBegun (on_own_hard_by op call found)
-  begun-own_hard LookUp found = begun-answers (reply.Marked found.mark)
-  begun-own_hard SoftFailure found = begun-answers (reply.Already found.mark)
-  begun-own_hard HardFailure found = begun-answers (reply.Already found.mark)
-  begun-own_hard Success found = begun-goes (Read found (Up 0) (reply.Unmarked found.mark)) (omega arith)
-  begun-own_hard Release found = begun-goes (Read found (Up 0) (reply.Released found.mark)) (omega arith)
-
-  begun-from_mark : (mark : Mark) (found : ServerState) → IsBegun (from_mark mark s call found)
-  begun-from_mark (Up count) found = begun-from_up call.op found count
-  begun-from_mark (Soft owner) found =
-      cond_both (eqb owner call.number) (on_own_soft_by call.op call found) (Answers (on_others call.op found.mark)) IsBegun
-      (λ e. begun-own_soft call.op found)
-      (λ e. begun-answers (on_others call.op found.mark))
-  begun-from_mark (Hard owner) found =
-      cond_both (eqb owner call.number) (on_own_hard_by call.op call found) (Answers (on_others call.op found.mark)) IsBegun
-      (λ e. begun-own_hard call.op found)
-      (λ e. begun-answers (on_others call.op found.mark))
+  begun-from_start : (found : ServerState) → IsBegun (from_start s call found)
+  begun-from_start found =
+      from_start-is s call found IsBegun
+      (λ answer is_answer is. begun-answers answer)
+      (λ soft fresh is. begun-goes (AtThreshold found) (omega arith))
+      (λ mark answer put can by is. begun-goes (Read found mark answer) (omega arith))
+      (λ mark answer put can own is. begun-goes (Loosening found mark answer) (omega arith))
 
   nearer-at_threshold : (found : ServerState) (slots : Slots)
       → IsNearer (5 * (s.tries - call.lost) - 1) (at_threshold s call found slots)
@@ -183,8 +146,8 @@ module _ (s : Settings) (call : Call) (left : call.lost < s.tries) where
   nearer shared Start =
       let found = server_at shared.servers call.server in
       let all : 5 * (s.tries - call.lost) ≡ 5 * (s.tries - call.lost) - 0 = omega arith in
-      let P : ℕ → Type 0 = λ before. IsNearer before (from_mark found.mark s call found) in
-      subst P all (begun-from_mark found.mark found)
+      let P : ℕ → Type 0 = λ before. IsNearer before (from_start s call found) in
+      subst P all (begun-from_start found)
   nearer shared (Read found mark answer) =
       nearer-won _ (writes (Exchange found mark) (word.Server (server_at shared.servers call.server))) (Answers answer) (omega (arith, left)) (omega (arith, left))
   nearer shared (AtThreshold found) = nearer-at_threshold found shared.slots

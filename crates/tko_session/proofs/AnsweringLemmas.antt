@@ -12,17 +12,16 @@ use Rattle.tko_text.specs.declared.request.Request.TheVariants.{Get, Gets, Store
 use Rattle.tko_text.specs.declared.response.Response.{Response}
 use Rattle.tko_text.specs.declared.response.Response.TheVariants as response
 use Rattle.tko_text.specs.Responses.{response_text}
-use Rattle.tko_text.specs.SentRequests.{without_noreply}
 use Rattle.tko_links.specs.Links.{LinksItem}
 use Rattle.tko_route.specs.declared.attempt.Attempt.{Attempt}
-use Rattle.tko_route.specs.Trail.{Attempts, answer_of, form_at, sends_in}
+use Rattle.tko_route.specs.Trail.{Attempts, answer_of, sends_in}
 use Rattle.tko_session.specs.declared.parts.Parts.{Parts}
 use Rattle.tko_session.specs.Answering.{AnsweredInto, Extends, IsNext, IsTried, retrieval}
 use Rattle.tko_session.specs.Replies.{HasValues, IsReply, RoutedKey, all_values, end_line, first_other, joined, keys_in, reply_text, text_of_answer, trails_in, values_in, version_text, written}
 use Rattle.tko_session.specs.Status.{IsStatusAfter}
 use Rattle.tko_session.specs.SessionState.{sends_to}
 use Rattle.tko_session.specs.TrailEvents.{TrailEvent, Tried}
-use Rattle.tko_session.specs.Turns.{AnswersItself, IsKeyRouted, by_keys, itself, request_for, request_keys}
+use Rattle.tko_session.specs.Turns.{AnswersItself, IsKeyRouted, by_keys, itself, request_for, request_keys, way_of}
 
 -- a request of one key is routed as it is
 pub request_for_alone : (request : Request) (key : List ℕ) → request_keys request ≡ key ∷ [] → request_for request key ≡ request
@@ -232,7 +231,7 @@ module _ {H L T M : Type 0} {steps : H → HealthItem → H → Type 0} {exchang
   routed_as {old} {new} {it} asked other is routed = record {
     tried = routed.tried;
     attempts =
-        subst (λ r. Attempts steps exchanges sent (form_at old.config.failover_exptime (without_noreply r)) (old.health, old.links) it.trail (new.health, new.links))
+        subst (λ r. Attempts (record { steps = steps; exchanges = exchanges; sent = sent }) (old.health, old.links) (way_of old.config r it.key it.trail) (new.health, new.links))
         is routed.attempts;
     recorded = routed.recorded;
     config = routed.config;

@@ -98,7 +98,7 @@ module _ {H L T M : Type 0} {steps : H → HealthItem → H → Type 0} {grants 
       → ((came ≡ Ok outcome.Spent) ↔ (probed old.links server ≡ most_sends))
       → ((at : ℕ) → probed links at ≡ probed old.links at + part_of (is_counted came) server at)
       → reads old.moments later moments
-      → IsRecorded steps old.health server (op_asked (asked_after (probed_of came))) reply health
+      → IsRecorded steps old.health (record { server = server; op = op_asked (asked_after (probed_of came)); reply = reply }) health
       → probers ≡ with_slot (with_slot old.probers server Quiet) server (slot_after (sent prober) later (probed_of came))
       → short ≡ is_err came
       → IsVisited steps grants exchanges probed reads moment old server short

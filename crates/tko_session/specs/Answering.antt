@@ -3,17 +3,16 @@ use Rattle.std.specs.Prelude.{◌≡◌, ℕ, ◌+◌, Bool, true, false, List, 
 use Rattle.tko_model.specs.Records.{HealthItem}
 use Rattle.tko_text.specs.declared.request.Request.{Request}
 use Rattle.tko_text.specs.declared.request.Request.TheVariants.{Get, Gets}
-use Rattle.tko_text.specs.SentRequests.{without_noreply}
 use Rattle.tko_links.specs.Links.{LinksItem}
 use Rattle.tko_pools.specs.Configs.{targets_of}
 use Rattle.tko_route.specs.declared.attempt.Attempt.{Attempt}
-use Rattle.tko_route.specs.Trail.{Attempts, CutShort, IsTrail, form_at, sends_in}
+use Rattle.tko_route.specs.Trail.{Attempts, CutShort, IsTrail, cut, sends_in}
 use Rattle.tko_session.specs.declared.parts.Parts.{Parts}
 use Rattle.tko_session.specs.Probers.{noted}
 use Rattle.tko_session.specs.Replies.{RoutedKey, HasValues, joined, reply_text, trails_in}
 use Rattle.tko_session.specs.SessionState.{sends_to}
 use Rattle.tko_session.specs.TrailEvents.{TrailEvent}
-use Rattle.tko_session.specs.Turns.{Answers, IsKeyRouted}
+use Rattle.tko_session.specs.Turns.{Answers, IsKeyRouted, way_of}
 
 -- a request for the values of these keys, with their cas numbers or without
 abbrev pub retrieval : List (List ℕ) → Bool → Request
@@ -31,9 +30,8 @@ module _ {H L T M : Type 0} (steps : H → HealthItem → H → Type 0)
   pub record IsTried (request : Request) (key : List ℕ) (old : Parts H L T M)
       (trail : List Attempt) (new : Parts H L T M) : Type 0 where
     pub tried : IsTrail (targets_of old.config key) trail
-    pub attempts : Attempts steps exchanges sent
-        (form_at old.config.failover_exptime (without_noreply request))
-        (old.health, old.links) trail (new.health, new.links)
+    pub attempts : Attempts (record { steps = steps; exchanges = exchanges; sent = sent })
+        (old.health, old.links) (way_of old.config request key trail) (new.health, new.links)
     pub sends : (server : ℕ)
         → sent new.links server ≡ sent old.links server + sends_in server trail
     pub probes : (server : ℕ) → probed new.links server ≡ probed old.links server
@@ -50,9 +48,9 @@ module _ {H L T M : Type 0} (steps : H → HealthItem → H → Type 0)
       (new : Parts H L T M) : Type 0 where
     pub trail : List Attempt
     pub was_sent : Bool
-    pub attempts : CutShort steps exchanges sent
-        (form_at old.config.failover_exptime (without_noreply request))
-        (targets_of old.config key) (old.health, old.links) trail was_sent (new.health, new.links)
+    pub attempts : CutShort (record { steps = steps; exchanges = exchanges; sent = sent })
+        (old.health, old.links)
+        (cut (way_of old.config request key trail) was_sent) (new.health, new.links)
     pub others : new ≡ record old {
       health = new.health;
       links = new.links;

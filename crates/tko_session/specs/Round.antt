@@ -86,8 +86,9 @@ module _ {H L T M : Type 0} (steps : H → HealthItem → H → Type 0) (grants 
     pub counted : (at : ℕ)
         → probed new.links at ≡ probed old.links at + part_of (is_counted came) server at
     pub read : reads old.moments later new.moments
-    pub recorded : IsRecorded steps old.health server (op_asked (asked_after (probed_of came)))
-        reply new.health
+    pub recorded : IsRecorded steps old.health
+        (record { server = server; op = op_asked (asked_after (probed_of came)); reply = reply })
+        new.health
     pub others : new ≡ record old {
       health = new.health;
       links = new.links;

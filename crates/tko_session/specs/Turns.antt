@@ -6,10 +6,10 @@ use Rattle.tko_text.specs.declared.item.Item.TheVariants as item
 use Rattle.tko_text.specs.declared.request.Request.{Request}
 use Rattle.tko_text.specs.declared.request.Request.TheVariants.{Get, Gets, Store, Cas, Delete, Incr, Decr, Touch, Version, Quit, StatsTko}
 use Rattle.tko_text.specs.Requests.{fault_text}
-use Rattle.tko_text.specs.SentRequests.{without_noreply}
 use Rattle.tko_links.specs.Links.{LinksItem}
 use Rattle.tko_pools.specs.Configs.{Configuration, targets_of}
-use Rattle.tko_route.specs.Trail.{IsTrail, Attempts, form_at}
+use Rattle.tko_route.specs.declared.attempt.Attempt.{Attempt}
+use Rattle.tko_route.specs.Trail.{IsTrail, Attempts, Way, way}
 use Rattle.tko_session.specs.declared.parts.Parts.{Parts}
 use Rattle.tko_session.specs.Probers.{noted}
 use Rattle.tko_session.specs.Replies.{IsReply, RoutedKey, version_text, written}
@@ -46,10 +46,10 @@ request_for (Get keys) key = Get (key ∷ [])
 request_for (Gets keys) key = Gets (key ∷ [])
 request_for request key = request
 
--- the forms in which the request for a key is sent, by the places of the targets
-abbrev pub forms : Configuration → Request → List ℕ → ℕ → Request
-forms config request key =
-    form_at config.failover_exptime (without_noreply (request_for request key))
+-- where a request of this one key goes, in which forms, and the trail that it took
+abbrev pub way_of : Configuration → Request → List ℕ → List Attempt → Way
+way_of config request key trail =
+    way (targets_of config key) config.failover_exptime request trail
 
 module _ {H L T M : Type 0} (steps : H → HealthItem → H → Type 0)
     (exchanges : L → LinksItem → L → Type 0) (sent : L → ℕ → ℕ)
@@ -59,8 +59,10 @@ module _ {H L T M : Type 0} (steps : H → HealthItem → H → Type 0)
   pub record IsKeyRouted (request : Request) (old : Parts H L T M) (routed : RoutedKey)
       (new : Parts H L T M) : Type 0 where
     pub tried : IsTrail (targets_of old.config routed.key) routed.trail
-    pub attempts : Attempts steps exchanges sent (forms old.config request routed.key)
-        (old.health, old.links) routed.trail (new.health, new.links)
+    pub attempts : Attempts (record { steps = steps; exchanges = exchanges; sent = sent })
+        (old.health, old.links)
+        (way_of old.config (request_for request routed.key) routed.key routed.trail)
+        (new.health, new.links)
     pub recorded : records old.trails (Tried routed.trail) new.trails
     pub config : new.config ≡ old.config
     pub probers : new.probers ≡ noted routed.trail old.probers

@@ -153,7 +153,8 @@ fn record_asked<R: Wait, H: Health>(
     asked: AfterProbe,
 ) -> Option<Reply>
     requires { server < H.servers health.old }
-    ensures recorded { IsRecorded H.steps health.old server (op_asked asked) result health.new }
+    ensures recorded { IsRecorded H.steps health.old
+        (record { server = server; op = op_asked asked; reply = result }) health.new }
     ensures servers { H.servers health.new ≡ H.servers health.old }
 {
     match asked {

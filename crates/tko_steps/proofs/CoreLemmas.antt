@@ -19,14 +19,16 @@ use Rattle.tko_steps.specs.declared.phase.Phase.TheVariants.{Start, Read, AtThre
 use Rattle.tko_steps.specs.declared.phase.Slots.{Slots}
 use Rattle.tko_steps.specs.declared.phase.ThreadState.{ThreadState}
 use Rattle.tko_steps.specs.declared.phase.ThreadState.TheVariants.{NotEnrolled, Idle, InCall}
+use Rattle.tko_steps.specs.declared.table.Action.{Action}
+use Rattle.tko_steps.specs.declared.table.Action.TheVariants.{LookAtServer, LookAtSlots, Exchange, Reserve, Settle, Loosen, Give}
 use Rattle.tko_steps.specs.declared.table.Decision.{Decision}
 use Rattle.tko_steps.specs.declared.table.Decision.TheVariants.{Goes, Answers}
-use Rattle.tko_steps.specs.Core.{owner_of, CanAct, CoreState, IsPlace, abstract_of, after_act, after_enrol, has_number, is_enrolled, number_of, opened_core, thread_at, with_thread}
+use Rattle.tko_steps.specs.Core.{owner_of, CanAct, CoreState, IsPlace, Shared, abstract_of, after_act, after_enrol, has_number, is_enrolled, number_of, opened_core, thread_at, with_thread}
 use Rattle.tko_steps.specs.Steps.{begun_by, place_of, state_after}
 use Rattle.tko_word.specs.Words.{IsMark, stamp_end}
-use Rattle.tko_steps.specs.Invariant.{IsCore, IsFoundBy, IsOwnOrUp, IsPhase, IsThread, holds, holds_at, is_loose, is_loose_at}
+use Rattle.tko_steps.specs.Invariant.{IsCore, IsFoundBy, IsOwnOrUp, IsPhase, IsThread, IsWrite, holds, holds_at, is_loose, is_loose_at}
 use Rattle.tko_steps.specs.Table.{action_of, goes, lost_try, same_server, same_slots}
-use Rattle.tko_steps.proofs.CountLemmas.{count_by-replicate, owner-replicate, bit, count_by-set}
+use Rattle.tko_steps.proofs.CountLemmas.{bit, count_by-replicate, count_by-set, owner-replicate, unread}
 use Rattle.tko_steps.proofs.ThreadLemmas.{OneEach, OneEach-enrol, count_by-enrol, count_by-moved, count_by-set_same, has_number-from, number-lt, number-once, one-le-count_by}
 use Rattle.tko_steps.proofs.TableLemmas.{IsCalm, IsCalm-at_limit, IsCalm-at_threshold, IsCalm-from_start, IsCalm-lost_try, IsDecided, eq-same_server, same_server-true, same_slots-true}
 
@@ -60,10 +62,6 @@ IsPhase-kept s number now new (Loosened found mark answer) kept knows =
     let mine : owner_of now.mark ≡ Some number = ap (λ (server : ServerState). owner_of server.mark) knows.2 ∙ ap owner_of knows.1 in
     (knows.0, knows.1, kept mine ∙ knows.2)
 IsPhase-kept s number now new (Emptied answer) kept knows = tt
-
--- a server as it is read where none is there
-abbrev unread : ServerState
-unread = record { mark = Up 0; stamp = 0 }
 
 -- the server that was written had no mark, or that of the thread with this number
 abbrev pub IsFreeFor : ℕ → ServerState → Type 0
@@ -200,23 +198,32 @@ has_soft-le (InCall call phase ∷ threads) servers apart all =
       | inr lacks ↦ has_soft-none state threads (softs servers) lacks (has_soft-le threads servers rest_apart rest)
     ]
 
-loose_at-le : (phase : Phase) → bit (is_loose_at phase) ≤ bit (has_soft_at phase)
-loose_at-le Start = omega arith
-loose_at-le (Read found mark answer) = omega arith
-loose_at-le (AtThreshold found) = omega arith
-loose_at-le (Limit found) = omega arith
-loose_at-le (Reserving found slots) = omega arith
-loose_at-le (Holding found) = omega arith
-loose_at-le Firming = omega arith
-loose_at-le Losing = omega arith
-loose_at-le (Loosening found mark answer) = omega arith
-loose_at-le (Loosened found mark answer) = omega arith
-loose_at-le (Emptied answer) = omega arith
+-- a loose mark is one that such a test passes
+loose_at-le : (test : Phase → Bool) → test Firming ≡ true
+    → ((found : ServerState) (mark : Mark) (answer : Reply) → test (Loosened found mark answer) ≡ true)
+    → (phase : Phase) → bit (is_loose_at phase) ≤ bit (test phase)
+loose_at-le test firming loosened Start = omega arith
+loose_at-le test firming loosened (Read found mark answer) = omega arith
+loose_at-le test firming loosened (AtThreshold found) = omega arith
+loose_at-le test firming loosened (Limit found) = omega arith
+loose_at-le test firming loosened (Reserving found slots) = omega arith
+loose_at-le test firming loosened (Holding found) = omega arith
+loose_at-le test firming loosened Firming = omega (arith, ap bit firming)
+loose_at-le test firming loosened Losing = omega arith
+loose_at-le test firming loosened (Loosening found mark answer) = omega arith
+loose_at-le test firming loosened (Loosened found mark answer) = omega (arith, ap bit (loosened found mark answer))
+loose_at-le test firming loosened (Emptied answer) = omega arith
 
 loose-le : (state : ThreadState) → bit (is_loose state) ≤ bit (has_soft state)
 loose-le NotEnrolled = omega arith
 loose-le (Idle number) = omega arith
-loose-le (InCall call phase) = loose_at-le phase
+loose-le (InCall call phase) = loose_at-le has_soft_at refl (λ found mark answer. refl) phase
+
+-- a loose mark holds a slot
+pub loose-le-holds : (state : ThreadState) → bit (is_loose state) ≤ bit (holds state)
+loose-le-holds NotEnrolled = omega arith
+loose-le-holds (Idle number) = omega arith
+loose-le-holds (InCall call phase) = loose_at-le holds_at refl (λ found mark answer. refl) phase
 
 at_most_one_bit : (test : Bool) → cond test 1 0 ≤ 1
 at_most_one_bit true = omega arith
@@ -460,29 +467,19 @@ module _ (core : CoreState) (thread : ℕ) (call : Call) (is : IsCore core) (ins
       (IsThread-decided core.settings (set servers call.server now) call decision there (subst P (sym here) knows))
       held soft
 
-  act-Start : thread_at core thread ≡ InCall call Start → IsCore (after_act core thread call Start)
-  act-Start stands =
+  -- a slot is held by the thread that holds it
+  pub one-le-held : (phase : Phase) → thread_at core thread ≡ InCall call phase → holds_at phase ≡ true → 0 < core.shared.slots.held
+  one-le-held phase stands held =
+      let mine : holds (get_or core.threads thread NotEnrolled) ≡ true = ap holds stands ∙ held in
+      omega (arith, one-le-count_by holds core.threads thread NotEnrolled inside mine, is.held)
+
+  -- what its step leaves, at each phase
+  pub IsCore-after_act : (phase : Phase) → thread_at core thread ≡ InCall call phase → IsCore (after_act core thread call phase)
+  IsCore-after_act Start stands =
       let knows = knows_at Start stands in
       calm Start _ stands refl refl
       (IsCalm-from_start core.settings call (server_at (abstract_of core) call.server) is.settings knows.1 (is.fit call.server unread knows.0))
-
-  act-Limit : (found : ServerState) → thread_at core thread ≡ InCall call (Limit found) → IsCore (after_act core thread call (Limit found))
-  act-Limit found stands =
-      let knows = knows_at (Limit found) stands in
-      calm (Limit found) _ stands refl refl
-      (IsCalm-at_limit core.settings call (server_at (abstract_of core) call.server) is.settings knows.1 found)
-
-  act-AtThreshold : (found : ServerState) → thread_at core thread ≡ InCall call (AtThreshold found)
-      → IsCore (after_act core thread call (AtThreshold found))
-  act-AtThreshold found stands =
-      let knows = knows_at (AtThreshold found) stands in
-      calm (AtThreshold found) _ stands refl refl
-      (IsCalm-at_threshold core.settings call (server_at (abstract_of core) call.server) is.settings knows.1 found core.shared.slots
-      knows.2.0 knows.2.1 is.room)
-
-  act-Read : (found : ServerState) (mark : Mark) (answer : Reply) → thread_at core thread ≡ InCall call (Read found mark answer)
-      → IsCore (after_act core thread call (Read found mark answer))
-  act-Read found mark answer stands =
+  IsCore-after_act (Read found mark answer) stands =
       let phase : Phase = Read found mark answer in
       let knows = knows_at phase stands in
       let now = server_at (abstract_of core) call.server in
@@ -497,9 +494,30 @@ module _ (core : CoreState) (thread : ℕ) (call : Call) (is : IsCore core) (ins
             (omega (arith, ap bit (soft-written call.number mark knows.2.0.own), ap bit free.1)))
         | inr lost_it ↦ subst P (sym lost_it) (lost phase stands refl refl)
       ]
-
-  act-Holding : (found : ServerState) → thread_at core thread ≡ InCall call (Holding found) → IsCore (after_act core thread call (Holding found))
-  act-Holding found stands =
+  IsCore-after_act (AtThreshold found) stands =
+      let knows = knows_at (AtThreshold found) stands in
+      calm (AtThreshold found) _ stands refl refl
+      (IsCalm-at_threshold core.settings call (server_at (abstract_of core) call.server) is.settings knows.1 found core.shared.slots
+      knows.2.0 knows.2.1 is.room)
+  IsCore-after_act (Limit found) stands =
+      let knows = knows_at (Limit found) stands in
+      calm (Limit found) _ stands refl refl
+      (IsCalm-at_limit core.settings call (server_at (abstract_of core) call.server) is.settings knows.1 found)
+  IsCore-after_act (Reserving found slots) stands =
+      let phase : Phase = Reserving found slots in
+      let knows = knows_at phase stands in
+      let now = core.shared.slots in
+      let one_more : Slots = record { firm = now.firm; held = now.held + 1 } in
+      let P : Bool → Type 0 = λ won.
+      IsCore (decided_core core thread call (cond won one_more now) (cond won (goes call (Holding found)) (lost_try core.settings call))) in
+      elim (cases_Bool (same_slots now slots)) as (λ test. P (same_slots now slots)) [
+        | inl won ↦
+            let same = same_slots-true now slots won in
+            subst P (sym won) (decided phase one_more (goes call (Holding found)) stands (knows.1, knows.2.0) (omega arith) refl
+            (omega (arith, same.0, same.1, knows.2.1)))
+        | inr lost_it ↦ subst P (sym lost_it) (lost phase stands refl refl)
+      ]
+  IsCore-after_act (Holding found) stands =
       let phase : Phase = Holding found in
       let knows = knows_at phase stands in
       let now = server_at (abstract_of core) call.server in
@@ -516,62 +534,23 @@ module _ (core : CoreState) (thread : ℕ) (call : Call) (is : IsCore core) (ins
         | inr lost_it ↦
             subst P (sym lost_it) (decided phase core.shared.slots (goes call Losing) stands (knows.1, tt) refl refl is.room)
       ]
-
-  act-Reserving : (found : ServerState) (slots : Slots) → thread_at core thread ≡ InCall call (Reserving found slots)
-      → IsCore (after_act core thread call (Reserving found slots))
-  act-Reserving found slots stands =
-      let phase : Phase = Reserving found slots in
-      let knows = knows_at phase stands in
-      let now = core.shared.slots in
-      let one_more : Slots = record { firm = now.firm; held = now.held + 1 } in
-      let P : Bool → Type 0 = λ won.
-      IsCore (decided_core core thread call (cond won one_more now) (cond won (goes call (Holding found)) (lost_try core.settings call))) in
-      elim (cases_Bool (same_slots now slots)) as (λ test. P (same_slots now slots)) [
-        | inl won ↦
-            let same = same_slots-true now slots won in
-            subst P (sym won) (decided phase one_more (goes call (Holding found)) stands (knows.1, knows.2.0) (omega arith) refl
-            (omega (arith, same.0, same.1, knows.2.1)))
-        | inr lost_it ↦ subst P (sym lost_it) (lost phase stands refl refl)
-      ]
-
-  -- a slot is held by the thread that holds it
-  pub one-le-held : (phase : Phase) → thread_at core thread ≡ InCall call phase → holds_at phase ≡ true → 0 < core.shared.slots.held
-  one-le-held phase stands held =
-      let mine : holds (get_or core.threads thread NotEnrolled) ≡ true = ap holds stands ∙ held in
-      omega (arith, one-le-count_by holds core.threads thread NotEnrolled inside mine, is.held)
-
-  act-Firming : thread_at core thread ≡ InCall call Firming → IsCore (after_act core thread call Firming)
-  act-Firming stands =
+  IsCore-after_act Firming stands =
       let one = one-le-held Firming stands refl in
       decided Firming (record { firm = core.shared.slots.firm + 1; held = core.shared.slots.held - 1 }) (Answers reply.TookSoft) stands tt
       (omega arith) (omega arith) (omega (arith, is.room))
-
-  act-Losing : thread_at core thread ≡ InCall call Losing → IsCore (after_act core thread call Losing)
-  act-Losing stands =
+  IsCore-after_act Losing stands =
       let one = one-le-held Losing stands refl in
       let knows = knows_at Losing stands in
       let next = IsCalm-lost_try core.settings call (server_at (abstract_of core) call.server) knows.1 in
       decided Losing (record { firm = core.shared.slots.firm; held = core.shared.slots.held - 1 }) (lost_try core.settings call) stands
       next.decided (omega (arith, ap bit next.holds)) (omega (arith, ap bit next.loose)) (omega (arith, is.room))
-
-  act-Emptied : (answer : Reply) → thread_at core thread ≡ InCall call (Emptied answer) → IsCore (after_act core thread call (Emptied answer))
-  act-Emptied answer stands =
-      let one = one-le-held (Emptied answer) stands refl in
-      decided (Emptied answer) (record { firm = core.shared.slots.firm; held = core.shared.slots.held - 1 }) (Answers answer) stands tt
-      (omega arith) (omega arith) (omega (arith, is.room))
-
-  act-Loosening : (found : ServerState) (mark : Mark) (answer : Reply) → thread_at core thread ≡ InCall call (Loosening found mark answer)
-      → IsCore (after_act core thread call (Loosening found mark answer))
-  act-Loosening found mark answer stands =
+  IsCore-after_act (Loosening found mark answer) stands =
       let phase : Phase = Loosening found mark answer in
       let knows = knows_at phase stands in
       let one = one-le-firm core thread call found mark answer is inside stands in
       decided phase (record { firm = core.shared.slots.firm - 1; held = core.shared.slots.held + 1 }) (goes call (Loosened found mark answer)) stands
       (knows.1, knows.2) (omega arith) (omega arith) (omega (arith, is.room))
-
-  act-Loosened : (found : ServerState) (mark : Mark) (answer : Reply) → thread_at core thread ≡ InCall call (Loosened found mark answer)
-      → IsCore (after_act core thread call (Loosened found mark answer))
-  act-Loosened found mark answer stands =
+  IsCore-after_act (Loosened found mark answer) stands =
       let phase : Phase = Loosened found mark answer in
       let knows = knows_at phase stands in
       let now = server_at (abstract_of core) call.server in
@@ -589,19 +568,10 @@ module _ (core : CoreState) (thread : ℕ) (call : Call) (is : IsCore core) (ins
       (λ other owned. let both : Some call.number ≡ Some other = sym (ap owner_of here) ∙ owned in let e : call.number ≡ other = cc in sym e)
       (owners-written call.number mark knows.2.0.own) knows.2.0.fit (knows.1, tt) refl
       (omega (arith, ap bit (soft-written call.number mark knows.2.0.own), ap (λ it. bit (is_soft it)) here)))
-
-  pub IsCore-after_act : (phase : Phase) → thread_at core thread ≡ InCall call phase → IsCore (after_act core thread call phase)
-  IsCore-after_act Start stands = act-Start stands
-  IsCore-after_act (Read found mark answer) stands = act-Read found mark answer stands
-  IsCore-after_act (AtThreshold found) stands = act-AtThreshold found stands
-  IsCore-after_act (Limit found) stands = act-Limit found stands
-  IsCore-after_act (Reserving found slots) stands = act-Reserving found slots stands
-  IsCore-after_act (Holding found) stands = act-Holding found stands
-  IsCore-after_act Firming stands = act-Firming stands
-  IsCore-after_act Losing stands = act-Losing stands
-  IsCore-after_act (Loosening found mark answer) stands = act-Loosening found mark answer stands
-  IsCore-after_act (Loosened found mark answer) stands = act-Loosened found mark answer stands
-  IsCore-after_act (Emptied answer) stands = act-Emptied answer stands
+  IsCore-after_act (Emptied answer) stands =
+      let one = one-le-held (Emptied answer) stands refl in
+      decided (Emptied answer) (record { firm = core.shared.slots.firm; held = core.shared.slots.held - 1 }) (Answers answer) stands tt
+      (omega arith) (omega arith) (omega (arith, is.room))
 
 -- ---- begins, enrolments, and the core as it opens
 
@@ -663,6 +633,16 @@ stamp-fits s (Up count) stamp fit = omega (arith, fit.1)
 stamp-fits s (Soft owner) stamp fit = omega arith
 stamp-fits s (Hard owner) stamp fit = omega arith
 
+-- the word of each step on a server that is there
+place-there : (shared : Shared) (server : ℕ) (action : Action) → server < length shared.servers → IsPlace shared (place_of server action)
+place-there shared server LookAtServer there = there
+place-there shared server LookAtSlots there = tt
+place-there shared server (Exchange found mark) there = there
+place-there shared server (Reserve slots) there = tt
+place-there shared server Settle there = tt
+place-there shared server Loosen there = tt
+place-there shared server Give there = tt
+
 mark-fits : (s : Settings) (number : ℕ) (mark : Mark) (stamp : ℕ) → IsWithinRanges s → number < 64 → IsFit s mark stamp
     → IsOwnOrUp number mark → IsMark mark
 mark-fits s number (Up count) stamp ranges low fit own = omega (arith, fit.0, ranges.failures.1)
@@ -678,16 +658,19 @@ module _ (core : CoreState) (thread : ℕ) (call : Call) (is : IsCore core) (ins
   few-slots : core.shared.slots.firm + core.shared.slots.held ≤ 256
   few-slots = omega (arith, is.room, is.settings.limit)
 
+  -- a write that the thread may make
+  can-write : (phase : Phase) → thread_at core thread ≡ InCall call phase → (found : ServerState) (mark : Mark)
+      → IsWrite core.settings call.number found mark → CanAct core.shared call.server (Exchange found mark)
+  can-write phase stands found mark write = (
+    (knows_at core thread call is inside phase stands).0,
+    mark-fits core.settings call.number mark (found.stamp + 1) is.settings (number-fits phase stands) write.fit write.own,
+    stamp-fits core.settings mark (found.stamp + 1) write.fit,
+  )
+
   pub CanAct-at : (phase : Phase) → thread_at core thread ≡ InCall call phase → CanAct core.shared call.server (action_of call.number phase)
   CanAct-at Start stands = (knows_at core thread call is inside Start stands).0
   CanAct-at (Read found mark answer) stands =
-      let phase : Phase = Read found mark answer in
-      let knows = knows_at core thread call is inside phase stands in
-      let write = knows.2.0 in (
-        knows.0,
-        mark-fits core.settings call.number mark (found.stamp + 1) is.settings (number-fits phase stands) write.fit write.own,
-        stamp-fits core.settings mark (found.stamp + 1) write.fit,
-      )
+      can-write (Read found mark answer) stands found mark (knows_at core thread call is inside (Read found mark answer) stands).2.0
   CanAct-at (AtThreshold found) stands = tt
   CanAct-at (Limit found) stands = (knows_at core thread call is inside (Limit found) stands).0
   CanAct-at (Reserving found slots) stands = omega (arith, few-slots)
@@ -700,13 +683,7 @@ module _ (core : CoreState) (thread : ℕ) (call : Call) (is : IsCore core) (ins
   CanAct-at (Loosening found mark answer) stands =
       (one-le-firm core thread call found mark answer is inside stands, omega (arith, few-slots))
   CanAct-at (Loosened found mark answer) stands =
-      let phase : Phase = Loosened found mark answer in
-      let knows = knows_at core thread call is inside phase stands in
-      let write = knows.2.0 in (
-        knows.0,
-        mark-fits core.settings call.number mark (found.stamp + 1) is.settings (number-fits phase stands) write.fit write.own,
-        stamp-fits core.settings mark (found.stamp + 1) write.fit,
-      )
+      can-write (Loosened found mark answer) stands found mark (knows_at core thread call is inside (Loosened found mark answer) stands).2.0
   CanAct-at (Emptied answer) stands = one-le-held core thread call is inside (Emptied answer) stands refl
 
   pub lost-lt : (phase : Phase) → thread_at core thread ≡ InCall call phase → call.lost < core.settings.tries
@@ -714,14 +691,4 @@ module _ (core : CoreState) (thread : ℕ) (call : Call) (is : IsCore core) (ins
 
   pub IsPlace-at : (phase : Phase) → thread_at core thread ≡ InCall call phase
       → IsPlace core.shared (place_of call.server (action_of call.number phase))
-  IsPlace-at Start stands = (knows_at core thread call is inside Start stands).0
-  IsPlace-at (Read found mark answer) stands = (knows_at core thread call is inside (Read found mark answer) stands).0
-  IsPlace-at (AtThreshold found) stands = tt
-  IsPlace-at (Limit found) stands = (knows_at core thread call is inside (Limit found) stands).0
-  IsPlace-at (Reserving found slots) stands = tt
-  IsPlace-at (Holding found) stands = (knows_at core thread call is inside (Holding found) stands).0
-  IsPlace-at Firming stands = tt
-  IsPlace-at Losing stands = tt
-  IsPlace-at (Loosening found mark answer) stands = tt
-  IsPlace-at (Loosened found mark answer) stands = (knows_at core thread call is inside (Loosened found mark answer) stands).0
-  IsPlace-at (Emptied answer) stands = tt
+  IsPlace-at phase stands = place-there core.shared call.server (action_of call.number phase) (knows_at core thread call is inside phase stands).0

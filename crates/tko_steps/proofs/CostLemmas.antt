@@ -21,16 +21,16 @@ use Rattle.tko_steps.specs.Cost.{IsShort, most_steps}
 use Rattle.tko_steps.specs.Invariant.{IsFoundBy, IsThread}
 use Rattle.tko_steps.specs.Steps.{answer_of, begun_by, decided_by, place_of}
 use Rattle.tko_steps.specs.Runs.{InEveryRun, OwnStep, World, calls_of}
-use Rattle.tko_steps.specs.Table.{action_of, from_start, goes, lost_try, same_server, same_slots}
+use Rattle.tko_steps.specs.Table.{action_of, goes, lost_try, same_server, same_slots}
 use Rattle.tko_steps.proofs.CoreLemmas.{knows_at}
 use Rattle.tko_steps.proofs.EveryCallLemmas.{InFamily-run}
 use Rattle.tko_steps.proofs.FamilyLemmas.{Follows, act_own}
-use Rattle.tko_steps.proofs.FirstLookLemmas.{CanLoosen, CanRead, Leads, LeadsTo, Leads-from_start, leads-to}
+use Rattle.tko_steps.proofs.StartLemmas.{CanLoosen, CanRead, from_start-is}
 use Rattle.tko_steps.proofs.TableLemmas.{eq-same_server}
 use Rattle.tko_steps.proofs.WiringLemmas.{stepped_from}
 
 -- how many steps a lost try takes
-abbrev per_try : Op → ℕ
+abbrev pub per_try : Op → ℕ
 per_try LookUp = 0
 per_try SoftFailure = 5
 per_try HardFailure = 2
@@ -169,25 +169,14 @@ module _ (s : Settings) (shared : Shared) (call : CallState) (taken : ℕ) where
       (loses-soft call.op taken call.lost (depth phase) soft deep knows.few)
       (ends-soft s call.op taken call.lost (depth phase) soft deep knows.few knows.left)
 
-  start-next : (decision : Decision) → KnowsCost s call taken Start → Leads call.op call now decision → Next decision
-  start-next (Goes lost phase) knows (same, leads) = to-phase phase leads
-    where
-      first : (phase : Phase) → depth phase ≡ 1 → Fits call.op call.number phase → KnowsCost s (record call { lost = lost }) (suc taken) phase
-      first phase one fits =
-          let P : ℕ → Type 0 = λ n. KnowsCost s (record call { lost = n }) (suc taken) phase in
-          subst P (sym same) (goes-on Start phase knows one fits)
-
-      to-phase : (phase : Phase) → LeadsTo call.op call now phase → Next (Goes lost phase)
-      to-phase = leads-to call.op call now (λ it. Next (Goes lost it))
-          (λ found mark answer leads. let P : ServerState → Type 0 = λ it. CanRead call.op call.number it.mark in
-          first (Read found mark answer) refl (subst P (sym leads.0) leads.2))
-          (λ found leads. first (AtThreshold found) refl leads.1)
-          (λ found mark answer leads. first (Loosening found mark answer) refl leads.2)
-  start-next (Answers answer) knows leads = ends-any s call.op taken call.lost knows.few knows.left
-
   pub cost-act : (phase : Phase) → IsThread s shared.servers (InCall call phase) → KnowsCost s call taken phase
       → Next (decided_by s call phase (word_at shared (place_of call.server (action_of call.number phase))))
-  cost-act Start here knows = start-next (from_start s call now) knows (Leads-from_start s call now)
+  cost-act Start here knows =
+      from_start-is s call now Next
+      (λ answer is_answer is. ends-any s call.op taken call.lost knows.few knows.left)
+      (λ soft fresh is. goes-on Start (AtThreshold now) knows refl soft)
+      (λ mark answer put can by is. goes-on Start (Read now mark answer) knows refl can)
+      (λ mark answer put can own is. goes-on Start (Loosening now mark answer) knows refl can)
   cost-act (Read found mark answer) here knows =
       let phase : Phase = Read found mark answer in
       let by = here.2.1 in

@@ -2,7 +2,12 @@
 use Rattle.std.proofs.Common.{◌≡◌, ℕ, zero, suc, ◌+◌, ◌<◌, ◌≤◌, Bool, false, cond, List, length, get_or, set, count_by, replicate, refl, ap, arith}
 use Rattle.std.proofs.lemmas.List.Sums.{get_or-le-sum_by, sum_by-cons, sum_by-set}
 use Rattle.tko_model.specs.declared.mark.Mark.TheVariants.{Up}
+use Rattle.tko_model.specs.declared.state.ServerState.{ServerState}
 use Rattle.tko_steps.specs.Core.{IsOwner}
+
+-- a server as it is read where none is there
+abbrev pub unread : ServerState
+unread = record { mark = Up 0; stamp = 0 }
 
 -- one where a test passes
 abbrev pub bit : Bool → ℕ

@@ -1,11 +1,10 @@
 -- The law of every call of a run: what each phase knows is kept by each turn.
-use Rattle.std.proofs.Common.{◌≡◌, ℕ, ◌+◌, ◌<◌, ◌≤◌, Bool, true, false, cond, eqb, List, ◌∷◌, length, set, All, inl, inr, ⊎_elim, refl, sym, ap, ◌∙◌, subst, arith, get_or-set_same, get_or-set_other}
+use Rattle.std.proofs.Common.{◌≡◌, ℕ, ◌+◌, ◌<◌, ◌≤◌, Bool, true, false, cond, eqb, List, length, set, All, inl, inr, ⊎_elim, refl, sym, ap, ◌∙◌, subst, arith, get_or-set_same, get_or-set_other}
 use Rattle.std.proofs.lemmas.Bool.{cases_Bool, cases_eq, cond_both, eqb-true, lt-ltb}
 use Rattle.std.proofs.lemmas.List.Elements.{All-nil}
 use Rattle.std.proofs.lemmas.List.Sums.{sum_by-le-sum_by}
 use Rattle.tko_model.specs.declared.mark.Mark.{Mark}
-use Rattle.tko_model.specs.declared.mark.Mark.TheVariants.{Up, Soft}
-use Rattle.tko_model.specs.declared.mark.Reply.{Reply}
+use Rattle.tko_model.specs.declared.mark.Mark.TheVariants.{Soft}
 use Rattle.tko_model.specs.declared.mark.Reply.TheVariants.{Full, TookSoft}
 use Rattle.tko_model.specs.declared.settings.Settings.{Settings}
 use Rattle.tko_model.specs.declared.state.ServerState.{ServerState}
@@ -13,25 +12,25 @@ use Rattle.tko_model.specs.Tracker.{becomes, has_room, server_at, softs, stays}
 use Rattle.tko_steps.specs.declared.phase.Call.{Call as CallState}
 use Rattle.tko_steps.specs.declared.phase.Phase.{Phase}
 use Rattle.tko_steps.specs.declared.phase.Phase.TheVariants.{Start, Read, AtThreshold, Limit, Reserving, Holding, Firming, Losing, Loosening, Loosened, Emptied}
-use Rattle.tko_steps.specs.declared.phase.Slots.{Slots}
 use Rattle.tko_steps.specs.declared.phase.ThreadState.{ThreadState}
 use Rattle.tko_steps.specs.declared.phase.ThreadState.TheVariants.{NotEnrolled, Idle, InCall}
+use Rattle.tko_steps.specs.declared.table.Action.{Action}
+use Rattle.tko_steps.specs.declared.table.Action.TheVariants.{LookAtServer, LookAtSlots, Exchange, Reserve, Settle, Loosen, Give}
 use Rattle.tko_steps.specs.declared.table.Decision.{Decision}
 use Rattle.tko_steps.specs.declared.table.Decision.TheVariants.{Goes, Answers}
 use Rattle.tko_model.specs.Ranges.{IsWithinRanges}
 use Rattle.tko_steps.specs.Runs.{Turn, Call, InEveryRun, OwnStep, StepTaken, World, and_step, calls_of, happens, run, start}
-use Rattle.tko_steps.specs.Core.{CoreState, abstract_of, after_act, follows, thread_at}
+use Rattle.tko_steps.specs.Core.{CoreState, abstract_of, after_act, follows, servers_after, thread_at}
 use Rattle.tko_steps.specs.Invariant.{IsCore, holds, is_loose}
 use Rattle.tko_steps.specs.Legal.{IsQuiet}
-use Rattle.tko_steps.specs.Table.{goes, lost_try, same_server, same_slots}
-use Rattle.tko_steps.proofs.CountLemmas.{bit}
-use Rattle.tko_steps.proofs.CoreLemmas.{knows_at, written}
+use Rattle.tko_steps.specs.Table.{action_of, goes, lost_try, same_server, same_slots}
+use Rattle.tko_steps.proofs.CountLemmas.{bit, unread}
+use Rattle.tko_steps.proofs.CoreLemmas.{knows_at, loose-le-holds, written}
 use Rattle.tko_steps.proofs.LegalLemmas.{IsNotNewer, IsSoundCall, Knows, Knows-kept, Told, done-before, done-write, open_call, sound-answered, sound-open, still_quiet, told-full, told-limit, told-lost, told-start, with_decision}
 use Rattle.tko_steps.proofs.OwnLemmas.{act_step, exchange_step}
 use Rattle.tko_steps.proofs.AlongLemmas.{AtAct, AtBegin, AtEnrol, along-turn, along-turns}
 use Rattle.tko_steps.proofs.FamilyLemmas.{Acts, Follows, InFamily, InFamily-start, InFamily-turn, IsEnough, KeptAtBegin, KeptAtStep, Opens, act_own}
-use Rattle.tko_steps.proofs.RunLemmas.{Holds, Holds-start, Holds-turn, loose-le-holds}
-use Rattle.tko_steps.proofs.StartLemmas.{Says-from_start}
+use Rattle.tko_steps.proofs.RunLemmas.{Holds, Holds-start, Holds-turn}
 use Rattle.tko_steps.proofs.TableLemmas.{eq-same_server, same_server-true}
 use Rattle.tko_steps.proofs.ThreadLemmas.{count_by-moved}
 use Rattle.tko_steps.proofs.WiringLemmas.{stepped_from}
@@ -55,24 +54,33 @@ softs-lt core thread state is inside stands held firm =
 
 -- ---- the words move on
 
-unread : ServerState
-unread = record { mark = Up 0; stamp = 0 }
-
 exchange-on : (servers : List ServerState) (server : ℕ) (found : ServerState) (mark : Mark) (won : Bool) → server < length servers
     → (won ≡ true → server_at servers server ≡ found)
     → (at : ℕ) → IsNotNewer (server_at servers at) (server_at (cond won (set servers server (written found mark)) servers) at)
 exchange-on servers server found mark false inside same at = inl refl
 exchange-on servers server found mark true inside same at =
-    let none : ServerState = record { mark = Up 0; stamp = 0 } in
     let new = written found mark in
     let P : ServerState → Type 0 = λ it. IsNotNewer (server_at servers at) it in
     ⊎_elim
     (λ (here : at ≡ server).
-    let now : server_at (set servers server new) at ≡ new = rw here (get_or-set_same servers server new none inside) in
+    let now : server_at (set servers server new) at ≡ new = rw here (get_or-set_same servers server new unread inside) in
     let was : (server_at servers at).stamp ≡ found.stamp = ap (λ i. (server_at servers i).stamp) here ∙ ap (λ (it : ServerState). it.stamp) (same refl) in
     subst P (sym now) (inr (omega (arith, was))))
-    (λ (apart : at ≡ server → ⊥). subst P (sym (get_or-set_other servers server at new none apart)) (inl refl))
+    (λ (apart : at ≡ server → ⊥). subst P (sym (get_or-set_other servers server at new unread apart)) (inl refl))
     (cases_eq at server)
+
+-- a step leaves each server's word, or one with a newer stamp
+step-on : (servers : List ServerState) (server : ℕ) (action : Action) → server < length servers
+    → (at : ℕ) → IsNotNewer (server_at servers at) (server_at (servers_after servers server action) at)
+step-on servers server LookAtServer inside at = inl refl
+step-on servers server LookAtSlots inside at = inl refl
+step-on servers server (Exchange found mark) inside at =
+    let now = server_at servers server in
+    exchange-on servers server found mark (same_server now found) inside (same_server-true now found) at
+step-on servers server (Reserve slots) inside at = inl refl
+step-on servers server Settle inside at = inl refl
+step-on servers server Loosen inside at = inl refl
+step-on servers server Give inside at = inl refl
 
 module _ (core : CoreState) (thread : ℕ) (call : CallState) (is : IsCore core) (inside : thread < length core.threads) where
   abbrev servers : List ServerState
@@ -80,26 +88,6 @@ module _ (core : CoreState) (thread : ℕ) (call : CallState) (is : IsCore core)
 
   abbrev now : ServerState
   now = server_at servers call.server
-
-  act-on : (phase : Phase) → thread_at core thread ≡ InCall call phase → (at : ℕ)
-      → IsNotNewer (server_at servers at) (server_at (abstract_of (after_act core thread call phase)) at)
-  act-on Start stands at = inl refl
-  act-on (Read found mark answer) stands at =
-      exchange-on servers call.server found mark (same_server now found) (knows_at core thread call is inside (Read found mark answer) stands).0
-      (λ won. same_server-true now found won) at
-  act-on (AtThreshold found) stands at = inl refl
-  act-on (Limit found) stands at = inl refl
-  act-on (Reserving found slots) stands at = inl refl
-  act-on (Holding found) stands at =
-      exchange-on servers call.server found (Soft call.number) (same_server now found) (knows_at core thread call is inside (Holding found) stands).0
-      (λ won. same_server-true now found won) at
-  act-on Firming stands at = inl refl
-  act-on Losing stands at = inl refl
-  act-on (Loosening found mark answer) stands at = inl refl
-  act-on (Loosened found mark answer) stands at =
-      exchange-on servers call.server found mark (same_server now found) (knows_at core thread call is inside (Loosened found mark answer) stands).0
-      (λ won. same_server-true now found won) at
-  act-on (Emptied answer) stands at = inl refl
 
   -- ---- what the step of each phase leaves its call
 
@@ -116,25 +104,10 @@ module _ (core : CoreState) (thread : ℕ) (call : CallState) (is : IsCore core)
         Told core.settings thread call steps number (exchange_step core thread call found mark decide won)
         (server_at (cond won (set servers call.server (written found mark)) servers) call.server) (decide won)
 
-    told-AtThreshold : (found : ServerState) → Knows core.settings thread call steps now (AtThreshold found) → ToldBy (AtThreshold found)
-    told-AtThreshold found knows =
-        let s = core.settings in
-        let base = act_step core thread call (AtThreshold found) in
-        let slots = core.shared.slots in
-        let P : Decision → Type 0 = Told s thread call steps number base now in
-        let goes_on : Decision = goes call (Reserving found slots) in
-        cond_both (eqb slots.firm s.limit) (goes call (Limit found)) (cond (eqb (slots.firm + slots.held) s.limit) (lost_try s call) goes_on) P
-        (λ full.
-        told-limit s thread call steps number base found call.lost refl knows.0 knows.1 knows.2
-        (let firm = eqb-true slots.firm s.limit full in let le = softs-le core is in omega (arith, firm, le, is.firm)))
-        (λ room.
-        cond_both (eqb (slots.firm + slots.held) s.limit) (lost_try s call) goes_on P
-        (λ held. told-lost s thread call steps number base now refl knows.0)
-        (λ left. (still_quiet s thread call steps number base goes_on refl knows.0, knows.1)))
-
-    told-Read : (found : ServerState) (mark : Mark) (answer : Reply) → Knows core.settings thread call steps now (Read found mark answer)
-        → ToldBy (Read found mark answer)
-    told-Read found mark answer knows =
+    told-act : (phase : Phase) → thread_at core thread ≡ InCall call phase → Knows core.settings thread call steps now phase → ToldBy phase
+    told-act Start stands knows =
+        told-start core.settings thread call steps number (act_step core thread call Start) refl knows (softs-le core is)
+    told-act (Read found mark answer) stands knows =
         let s = core.settings in
         let decide = λ (won : Bool). cond won (Answers answer) (lost_try s call) in
         let P : Bool → Type 0 = ToldExchange found mark decide in
@@ -149,10 +122,33 @@ module _ (core : CoreState) (thread : ℕ) (call : CallState) (is : IsCore core)
           | inr lost ↦
               subst P (sym lost) (told-lost s thread call steps number (exchange_step core thread call found mark decide false) now refl knows.0)
         ]
-
-    told-Holding : (found : ServerState) → thread_at core thread ≡ InCall call (Holding found)
-        → Knows core.settings thread call steps now (Holding found) → ToldBy (Holding found)
-    told-Holding found stands knows =
+    told-act (AtThreshold found) stands knows =
+        let s = core.settings in
+        let base = act_step core thread call (AtThreshold found) in
+        let slots = core.shared.slots in
+        let P : Decision → Type 0 = Told s thread call steps number base now in
+        let goes_on : Decision = goes call (Reserving found slots) in
+        cond_both (eqb slots.firm s.limit) (goes call (Limit found)) (cond (eqb (slots.firm + slots.held) s.limit) (lost_try s call) goes_on) P
+        (λ full.
+        told-limit s thread call steps number base found call.lost refl knows.0 knows.1 knows.2
+        (let firm = eqb-true slots.firm s.limit full in let le = softs-le core is in omega (arith, firm, le, is.firm)))
+        (λ room.
+        cond_both (eqb (slots.firm + slots.held) s.limit) (lost_try s call) goes_on P
+        (λ held. told-lost s thread call steps number base now refl knows.0)
+        (λ left. (still_quiet s thread call steps number base goes_on refl knows.0, knows.1)))
+    told-act (Limit found) stands knows =
+        let s = core.settings in
+        let base = act_step core thread call (Limit found) in
+        cond_both (same_server found now) (Answers Full) (lost_try s call) (Told s thread call steps number base now)
+        (λ same. told-full s thread call steps number base found now refl knows.0 knows.1 knows.2 (same_server-true found now same))
+        (λ other. told-lost s thread call steps number base now refl knows.0)
+    told-act (Reserving found slots) stands knows =
+        let s = core.settings in
+        let base = act_step core thread call (Reserving found slots) in
+        cond_both (same_slots core.shared.slots slots) (goes call (Holding found)) (lost_try s call) (Told s thread call steps number base now)
+        (λ won. (still_quiet s thread call steps number base (goes call (Holding found)) refl knows.0, knows.1))
+        (λ lost. told-lost s thread call steps number base now refl knows.0)
+    told-act (Holding found) stands knows =
         let s = core.settings in
         let decide = λ (won : Bool). cond won (goes call Firming) (goes call Losing) in
         let P : Bool → Type 0 = ToldExchange found (Soft call.number) decide in
@@ -170,44 +166,6 @@ module _ (core : CoreState) (thread : ℕ) (call : CallState) (is : IsCore core)
               subst P (sym lost)
               (still_quiet s thread call steps number (exchange_step core thread call found (Soft call.number) decide false) (goes call Losing) refl knows.0)
         ]
-
-    told-Loosened : (found : ServerState) (mark : Mark) (answer : Reply) → now ≡ found
-        → Knows core.settings thread call steps now (Loosened found mark answer) → ToldBy (Loosened found mark answer)
-    told-Loosened found mark answer same knows =
-        let s = core.settings in
-        let decide = λ (won : Bool). goes call (Emptied answer) in
-        let P : Bool → Type 0 = ToldExchange found mark decide in
-        let base = exchange_step core thread call found mark decide true in
-        subst P (sym (eq-same_server now found same))
-        (done-write s thread call steps number base (goes call (Emptied answer)) found mark answer knows.0
-        (knows.1 (has_room s (softs servers))) same refl (softs-le core is))
-
-    told-Limit : (found : ServerState) → Knows core.settings thread call steps now (Limit found) → ToldBy (Limit found)
-    told-Limit found knows =
-        let s = core.settings in
-        let base = act_step core thread call (Limit found) in
-        cond_both (same_server found now) (Answers Full) (lost_try s call) (Told s thread call steps number base now)
-        (λ same. told-full s thread call steps number base found now refl knows.0 knows.1 knows.2 (same_server-true found now same))
-        (λ other. told-lost s thread call steps number base now refl knows.0)
-
-    told-Reserving : (found : ServerState) (slots : Slots) → Knows core.settings thread call steps now (Reserving found slots)
-        → ToldBy (Reserving found slots)
-    told-Reserving found slots knows =
-        let s = core.settings in
-        let base = act_step core thread call (Reserving found slots) in
-        cond_both (same_slots core.shared.slots slots) (goes call (Holding found)) (lost_try s call) (Told s thread call steps number base now)
-        (λ won. (still_quiet s thread call steps number base (goes call (Holding found)) refl knows.0, knows.1))
-        (λ lost. told-lost s thread call steps number base now refl knows.0)
-
-    told-act : (phase : Phase) → thread_at core thread ≡ InCall call phase → Knows core.settings thread call steps now phase → ToldBy phase
-    told-act Start stands knows =
-        told-start core.settings thread call steps number (act_step core thread call Start) (follows core call Start) refl knows (softs-le core is)
-        (Says-from_start core.settings call now)
-    told-act (Read found mark answer) stands knows = told-Read found mark answer knows
-    told-act (AtThreshold found) stands knows = told-AtThreshold found knows
-    told-act (Limit found) stands knows = told-Limit found knows
-    told-act (Reserving found slots) stands knows = told-Reserving found slots knows
-    told-act (Holding found) stands knows = told-Holding found stands knows
     told-act Firming stands knows =
         let own = with_decision number (act_step core thread call Firming) (Answers TookSoft) in
         let opened = open_call thread call steps in
@@ -218,28 +176,19 @@ module _ (core : CoreState) (thread : ℕ) (call : CallState) (is : IsCore core)
         let phase : Phase = Loosening found mark answer in
         (still_quiet core.settings thread call steps number (act_step core thread call phase) (goes call (Loosened found mark answer)) refl knows.0, knows.1)
     told-act (Loosened found mark answer) stands knows =
-        told-Loosened found mark answer (knows_at core thread call is inside (Loosened found mark answer) stands).2.2 knows
+        let s = core.settings in
+        let decide = λ (won : Bool). goes call (Emptied answer) in
+        let P : Bool → Type 0 = ToldExchange found mark decide in
+        let base = exchange_step core thread call found mark decide true in
+        subst P (sym (eq-same_server now found (knows_at core thread call is inside (Loosened found mark answer) stands).2.2))
+        (done-write s thread call steps number base (goes call (Emptied answer)) found mark answer knows.0
+        (knows.1 (has_room s (softs servers))) (knows_at core thread call is inside (Loosened found mark answer) stands).2.2 refl (softs-le core is))
     told-act (Emptied answer) stands knows =
         let own = with_decision number (act_step core thread call (Emptied answer)) (Answers answer) in
         let opened = open_call thread call steps in
         sound-answered core.settings (and_step opened own) answer refl (done-before core.settings opened own answer knows refl)
 
 -- ---- calls and threads
-
--- lost tries are no matter of what a phase knows
-Knows-lost : (s : Settings) (thread : ℕ) (call : CallState) (steps : List OwnStep) (it : ServerState) (lost : ℕ) (phase : Phase)
-    → Knows s thread call steps it phase → Knows s thread (record call { lost = lost }) steps it phase
-Knows-lost s thread call steps it lost Start knows = knows
-Knows-lost s thread call steps it lost (Read found mark answer) knows = knows
-Knows-lost s thread call steps it lost (AtThreshold found) knows = knows
-Knows-lost s thread call steps it lost (Limit found) knows = knows
-Knows-lost s thread call steps it lost (Reserving found slots) knows = knows
-Knows-lost s thread call steps it lost (Holding found) knows = knows
-Knows-lost s thread call steps it lost Firming knows = knows
-Knows-lost s thread call steps it lost Losing knows = knows
-Knows-lost s thread call steps it lost (Loosening found mark answer) knows = knows
-Knows-lost s thread call steps it lost (Loosened found mark answer) knows = knows
-Knows-lost s thread call steps it lost (Emptied answer) knows = knows
 
 -- what is known of a call in this world
 abbrev pub KnowsCall : Settings → World → ℕ → CallState → List OwnStep → Phase → Type 0
@@ -249,9 +198,7 @@ KnowsCall s w thread call steps phase = Knows s thread call steps (server_at (ab
 follows-told : (s : Settings) (new : World) (thread : ℕ) (call : CallState) (steps : List OwnStep) (at : ℕ) (base : StepTaken) (decision : Decision)
     → Told s thread call steps at base (server_at (abstract_of new.core) call.server) decision
     → Follows s (KnowsCall s) (IsSoundCall s) new thread call steps (with_decision at base decision) decision
-follows-told s new thread call steps at base (Goes lost phase) told =
-    let own = with_decision at base (Goes lost phase) in
-    Knows-lost s thread call (own ∷ steps) (server_at (abstract_of new.core) call.server) lost phase told
+follows-told s new thread call steps at base (Goes lost phase) told = told
 follows-told s new thread call steps at base (Answers answer) told = told
 
 call-acts : (s : Settings) → Acts s (KnowsCall s) (IsSoundCall s) (Holds s)
@@ -272,7 +219,7 @@ call-kept s w thread other (Idle number) call steps phase holds inside at here a
 call-kept s w thread other (InCall by to) call steps phase holds inside at here apart knows =
     let new = after_act w.core other by to in
     Knows-kept s thread call steps (server_at (abstract_of w.core) call.server) (server_at (abstract_of new) call.server) phase
-    (act-on w.core other by holds.core inside to at call.server) knows
+    (step-on (abstract_of w.core) by.server (action_of by.number to) (knows_at w.core other by holds.core inside to at).0 call.server) knows
 
 -- what holds of the calls in each run
 abbrev pub HoldsCalls : Settings → World → Type 0

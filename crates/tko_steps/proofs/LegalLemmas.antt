@@ -15,12 +15,11 @@ use Rattle.tko_steps.specs.declared.phase.Phase.{Phase}
 use Rattle.tko_steps.specs.declared.phase.Phase.TheVariants.{Start, Read, AtThreshold, Limit, Reserving, Holding, Firming, Losing, Loosening, Loosened, Emptied}
 use Rattle.tko_steps.specs.declared.table.Decision.{Decision}
 use Rattle.tko_steps.specs.declared.table.Decision.TheVariants.{Goes, Answers}
-use Rattle.tko_steps.specs.Steps.{answer_of}
+use Rattle.tko_steps.specs.Steps.{answer_of, begun_by}
 use Rattle.tko_steps.specs.Legal.{ChangesAtMostOnce, IsFullAtLimit, IsLegal, IsLegalAt, IsQuiet, TakesEffect}
 use Rattle.tko_steps.specs.Runs.{Call, OwnStep, StepTaken, and_step}
-use Rattle.tko_steps.specs.Table.{lost_try}
-use Rattle.tko_steps.proofs.StartLemmas.{Decides, Marks, Says, SaysAt}
-use Rattle.tko_steps.proofs.TrackerLemmas.{transition-sound}
+use Rattle.tko_steps.specs.Table.{from_start, goes, lost_try}
+use Rattle.tko_steps.proofs.StartLemmas.{Decides, Marks, from_start-is, transition-sound}
 
 -- ---- steps of which at most one changes something
 
@@ -183,23 +182,27 @@ pub record SawLimit (s : Settings) (server : ℕ) (found now : ServerState) (ste
   pub after_found : IsNotNewer found (server_at own.step.before server)
   pub before_now : IsNotNewer (server_at own.step.before server) now
 
-abbrev pub Knows : Settings → ℕ → CallState → List OwnStep → ServerState → Phase → Type 0
-Knows s thread call steps now Start = All IsQuiet steps
-Knows s thread call steps now (Read found mark answer) =
+abbrev KnowsAt : Settings → ℕ → CallState → List OwnStep → ServerState → Phase → Type 0
+KnowsAt s thread call steps now Start = All IsQuiet steps
+KnowsAt s thread call steps now (Read found mark answer) =
     All IsQuiet steps × Decides s call.number call.op found (becomes mark answer)
-Knows s thread call steps now (AtThreshold found) =
+KnowsAt s thread call steps now (AtThreshold found) =
     All IsQuiet steps × Marks s call.number call.op found × IsNotNewer found now
-Knows s thread call steps now (Limit found) =
+KnowsAt s thread call steps now (Limit found) =
     All IsQuiet steps × Marks s call.number call.op found × SawLimit s call.server found now steps
-Knows s thread call steps now (Reserving found slots) = All IsQuiet steps × Marks s call.number call.op found
-Knows s thread call steps now (Holding found) = All IsQuiet steps × Marks s call.number call.op found
-Knows s thread call steps now Firming = IsDone s (open_call thread call steps) TookSoft
-Knows s thread call steps now Losing = All IsQuiet steps
-Knows s thread call steps now (Loosening found mark answer) =
+KnowsAt s thread call steps now (Reserving found slots) = All IsQuiet steps × Marks s call.number call.op found
+KnowsAt s thread call steps now (Holding found) = All IsQuiet steps × Marks s call.number call.op found
+KnowsAt s thread call steps now Firming = IsDone s (open_call thread call steps) TookSoft
+KnowsAt s thread call steps now Losing = All IsQuiet steps
+KnowsAt s thread call steps now (Loosening found mark answer) =
     All IsQuiet steps × Decides s call.number call.op found (becomes mark answer)
-Knows s thread call steps now (Loosened found mark answer) =
+KnowsAt s thread call steps now (Loosened found mark answer) =
     All IsQuiet steps × Decides s call.number call.op found (becomes mark answer)
-Knows s thread call steps now (Emptied answer) = IsDone s (open_call thread call steps) answer
+KnowsAt s thread call steps now (Emptied answer) = IsDone s (open_call thread call steps) answer
+
+-- lost tries are no matter of it
+abbrev pub Knows : Settings → ℕ → CallState → List OwnStep → ServerState → Phase → Type 0
+Knows s thread call steps now phase = KnowsAt s thread (begun_by call.number call.op call.server) steps now phase
 
 -- an open call at any phase is sound
 pub sound-open : (s : Settings) (thread : ℕ) (call : CallState) (steps : List OwnStep) (now : ServerState) (phase : Phase)
@@ -314,24 +317,15 @@ module _ (s : Settings) (thread : ℕ) (call : CallState) (steps : List OwnStep)
       (done-here s opened last answer quiet (effect-stays s opened last.step answer (decides (has_room s (softs base.before))) same) limit)
 
   -- the look that begins a try
-  told-phase : (now : ServerState) (lost : ℕ) (phase : Phase) → base.after ≡ base.before → All IsQuiet steps
-      → SaysAt s call.number call.op now phase → told now (Goes lost phase)
-  told-phase now lost Start same quiet says = absurd says
-  told-phase now lost (Read found mark answer) same quiet says = (still_quiet (Goes lost (Read found mark answer)) same quiet, says.1)
-  told-phase now lost (AtThreshold found) same quiet says = (still_quiet (Goes lost (AtThreshold found)) same quiet, says.1, inl says.0)
-  told-phase now lost (Limit found) same quiet says = absurd says
-  told-phase now lost (Reserving found slots) same quiet says = absurd says
-  told-phase now lost (Holding found) same quiet says = absurd says
-  told-phase now lost Firming same quiet says = absurd says
-  told-phase now lost Losing same quiet says = absurd says
-  told-phase now lost (Loosening found mark answer) same quiet says = (still_quiet (Goes lost (Loosening found mark answer)) same quiet, says.1)
-  told-phase now lost (Loosened found mark answer) same quiet says = absurd says
-  told-phase now lost (Emptied answer) same quiet says = absurd says
-
-  pub told-start : (decision : Decision) → base.after ≡ base.before → All IsQuiet steps → softs base.before ≤ s.limit
-      → Says s call.number call.op (server_at base.before call.server) decision → told (server_at base.before call.server) decision
-  told-start (Goes lost phase) same quiet limit says = told-phase (server_at base.before call.server) lost phase same quiet says
-  told-start (Answers answer) same quiet limit says = told-stays (server_at base.before call.server) answer same quiet limit says
+  pub told-start : base.after ≡ base.before → All IsQuiet steps → softs base.before ≤ s.limit
+      → (let now = server_at base.before call.server in told now (from_start s call now))
+  told-start same quiet limit =
+      let now = server_at base.before call.server in
+      from_start-is s call now (told now)
+      (λ answer is_answer is. told-stays now answer same quiet limit is)
+      (λ soft fresh is. (still_quiet (goes call (AtThreshold now)) same quiet, is, inl refl))
+      (λ mark answer put can by is. (still_quiet (goes call (Read now mark answer)) same quiet, is))
+      (λ mark answer put can own is. (still_quiet (goes call (Loosening now mark answer)) same quiet, is))
 
   -- the second look, which finds the word that the first look found
   pub told-full : (found now : ServerState) → base.after ≡ base.before → All IsQuiet steps → Marks s call.number call.op found

@@ -7,7 +7,6 @@ pub mod CostLemmas
 pub mod CountLemmas
 pub mod EveryCallLemmas
 pub mod FamilyLemmas
-pub mod FirstLookLemmas
 pub mod JoinedLemmas
 pub mod KindLemmas
 pub mod LegalLemmas
@@ -25,7 +24,6 @@ pub mod StartLemmas
 pub mod StepLemmas
 pub mod TableLemmas
 pub mod ThreadLemmas
-pub mod TrackerLemmas
 pub mod TryLemmas
 pub mod WiringLemmas
 pub mod WordsLemmas

@@ -25,10 +25,9 @@ use Rattle.tko_steps.specs.Lost.{ExpectsWhatItSaw, HasLostEachTry, IsChangedSinc
 use Rattle.tko_steps.specs.Runs.{Call, Moment, OwnStep, StepTaken, Took, World}
 use Rattle.tko_steps.specs.Table.{goes, lost_try, same_server, same_slots}
 use Rattle.tko_steps.proofs.FamilyLemmas.{Follows, act_own}
-use Rattle.tko_steps.proofs.FirstLookLemmas.{Leads, LeadsTo, Leads-from_start, leads-to}
+use Rattle.tko_steps.proofs.StartLemmas.{from_start-is, is_plain, plain≢}
 use Rattle.tko_steps.proofs.TryLemmas.{exchange-holds, exchange-is_exchange, exchange-no_give, exchange-not_look, last_look-elsewhere, last_look-here, last_look-lost, loses_try-change, lost_tries-given, lost_tries-held, lost_tries-kept, lost_tries-lost, owes_slot-held}
 use Rattle.tko_steps.proofs.WiringLemmas.{stepped_from}
-use Rattle.tko_steps.proofs.TrackerLemmas.{is_plain, plain≢}
 
 -- ---- what a call knows of its tries
 
@@ -161,30 +160,6 @@ module _ (w : World) (thread : ℕ) (call : CallState) (steps : List OwnStep) (i
         since = since;
       }
 
-  -- the first look of a try
-  start-next : (decision : Decision) → HasNotLooked s call.server call.lost steps → ExpectsWhatItSaw s steps
-      → (own Start).step.answer ≡ answer_of decision → Leads call.op call now decision → Next Start decision
-  start-next (Goes lost phase) knows expects is_answer (same, leads) = to-phase phase leads
-    where
-      loses_not : loses Start ≡ false
-      loses_not = ap (λ it. loses_try s (own Start).step it) knows.looked
-
-      looked : (found : ServerState) → found ≡ now → HasLooked s (after Start) thread call.server lost (own Start ∷ steps) false found
-      looked found is_now =
-          record {
-            count = lost_tries-kept s (own Start) steps loses_not refl ∙ knows.count ∙ sym same;
-            holds = knows.holds;
-            looked = last_look-here s (own Start) steps at_server loses_not here ∙ ap (λ it. Some (word.Server it)) (sym is_now);
-            since = inl (sym is_now);
-          }
-
-      to-phase : (phase : Phase) → LeadsTo call.op call now phase → Next Start (Goes lost phase)
-      to-phase = leads-to call.op call now (λ it. Next Start (Goes lost it))
-          (λ found mark answer leads. ((refl, expects), (looked found leads.0, leads.1)))
-          (λ found leads. ((refl, expects), looked found leads.0))
-          (λ found mark answer leads. ((refl, expects), (looked found leads.0, leads.1)))
-  start-next (Answers answer) knows expects is_answer leads = answers Start answer is_answer leads.0 (refl, expects)
-
   -- an exchange of the server's word expects what the last look found
   expects-exchange : (phase : Phase) (found : ServerState) (mark : Mark) (held : Bool) → HasLooked s w thread call.server call.lost steps held found
       → (own phase).step.kind ≡ kind_of_exchange found.mark mark → (own phase).step.place ≡ at_server
@@ -206,9 +181,23 @@ module _ (w : World) (thread : ℕ) (call : CallState) (steps : List OwnStep) (i
       (ap (λ at. is_some (last_look s at steps)) on ∙ ap is_some has.looked)
       ∙ ap not is_won
 
-  act-Read : (found : ServerState) (mark : Mark) (answer : Reply) → KnowsTries s w thread call steps (Read found mark answer)
-      → Next (Read found mark answer) (follows w.core call (Read found mark answer))
-  act-Read found mark answer (expects, (has, plain)) =
+  pub tries-act : (phase : Phase) → thread_at w.core thread ≡ InCall call phase → KnowsTries s w thread call steps phase
+      → Next phase (follows w.core call phase)
+  tries-act Start stands (expects, knows) =
+      let loses_not : loses Start ≡ false = ap (λ it. loses_try s (own Start).step it) knows.looked in
+      let looked : HasLooked s (after Start) thread call.server call.lost (own Start ∷ steps) false now = record {
+        count = lost_tries-kept s (own Start) steps loses_not refl ∙ knows.count;
+        holds = knows.holds;
+        looked = last_look-here s (own Start) steps at_server loses_not here;
+        since = inl refl;
+      } in
+      from_start-is s call now (λ decision. (own Start).step.answer ≡ answer_of decision → Next Start decision)
+      (λ answer is_answer is told. answers Start answer told is_answer.contended (refl, expects))
+      (λ soft fresh is told. ((refl, expects), looked))
+      (λ mark answer put can by is told. ((refl, expects), (looked, put.plain)))
+      (λ mark answer put can mine is told. ((refl, expects), (looked, put.plain)))
+      refl
+  tries-act (Read found mark answer) stands (expects, (has, plain)) =
       let phase : Phase = Read found mark answer in
       let expected = expects-exchange phase found mark false has refl refl refl refl expects in
       cond_both (same_server now found) (Answers answer) (lost_try s call) (Next phase)
@@ -217,29 +206,7 @@ module _ (w : World) (thread : ℕ) (call : CallState) (steps : List OwnStep) (i
       (λ lost.
       loses-now phase found (cond-false _ _ _ lost) has (exchange-loses phase found mark false false has refl refl lost)
       (exchange-no_give found.mark mark) (exchange-holds found.mark mark (own phase).step.won (holds_slot steps) ∙ has.holds) expected)
-
-  act-Holding : (found : ServerState) → KnowsTries s w thread call steps (Holding found)
-      → Next (Holding found) (follows w.core call (Holding found))
-  act-Holding found (expects, has) =
-      let phase : Phase = Holding found in
-      let mark : Mark = Soft call.number in
-      let expected = expects-exchange phase found mark true has refl refl refl refl expects in
-      cond_both (same_server now found) (goes call Firming) (goes call Losing) (Next phase)
-      (λ won. (expected, tt))
-      (λ lost.
-      let loses = exchange-loses phase found mark false true has refl refl lost in
-      let no_give = exchange-no_give found.mark mark in (
-        expected,
-        record {
-          count = lost_tries-held s (own phase) steps loses no_give has.holds ∙ has.count;
-          owes = owes_slot-held s (own phase) steps loses no_give has.holds;
-          looked = last_look-lost s (own phase) steps at_server loses;
-        },
-      ))
-
-  act-AtThreshold : (found : ServerState) → KnowsTries s w thread call steps (AtThreshold found)
-      → Next (AtThreshold found) (follows w.core call (AtThreshold found))
-  act-AtThreshold found (expects, has) =
+  tries-act (AtThreshold found) stands (expects, has) =
       let phase : Phase = AtThreshold found in
       let rest = cond (eqb (slots.firm + slots.held) s.limit) (lost_try s call) (goes call (Reserving found slots)) in
       let since = since-push thread at_server (own phase).step w.past refl has.since in
@@ -262,10 +229,7 @@ module _ (w : World) (thread : ℕ) (call : CallState) (steps : List OwnStep) (i
           record { looked = last_look-here s (own phase) steps place.Soft goes_on refl; since = inl refl },
         ),
       )))
-
-  act-Limit : (found : ServerState) → KnowsTries s w thread call steps (Limit found)
-      → Next (Limit found) (follows w.core call (Limit found))
-  act-Limit found (expects, has) =
+  tries-act (Limit found) stands (expects, has) =
       let phase : Phase = Limit found in
       let looks : loses phase ≡ loses_try s (own phase).step (Some (word.Server found)) = ap (λ it. loses_try s (own phase).step it) has.looked in
       cond_both (same_server found now) (Answers Full) (lost_try s call) (Next phase)
@@ -273,10 +237,7 @@ module _ (w : World) (thread : ℕ) (call : CallState) (steps : List OwnStep) (i
       answers phase Full (ap (λ b. answer_of (cond b (Answers Full) (lost_try s call))) same) (λ e. cc) (refl, expects))
       (λ other.
       loses-now phase found (cond-false _ _ _ other) has (looks ∙ ap (λ b. not b || false) other) refl has.holds (refl, expects))
-
-  act-Reserving : (found : ServerState) (before : Slots) → KnowsTries s w thread call steps (Reserving found before)
-      → Next (Reserving found before) (follows w.core call (Reserving found before))
-  act-Reserving found before (expects, (has, counted)) =
+  tries-act (Reserving found before) stands (expects, (has, counted)) =
       let phase : Phase = Reserving found before in
       let seen : was_seen (last_look s place.Soft steps) (word.Soft slots) ≡ same_slots slots before =
       ap (λ it. was_seen it (word.Soft slots)) counted.looked in
@@ -288,16 +249,22 @@ module _ (w : World) (thread : ℕ) (call : CallState) (steps : List OwnStep) (i
       (λ lost.
       loses-now phase found (cond-false _ _ _ lost) has (loses_not_won ∙ ap not lost) refl
       (ap (λ b. b || holds_slot steps) lost ∙ has.holds) (sym seen, expects))
-
-  pub tries-act : (phase : Phase) → thread_at w.core thread ≡ InCall call phase → KnowsTries s w thread call steps phase
-      → Next phase (follows w.core call phase)
-  tries-act Start stands (expects, knows) =
-      start-next (follows w.core call Start) knows expects refl (Leads-from_start s call now)
-  tries-act (Read found mark answer) stands knows = act-Read found mark answer knows
-  tries-act (AtThreshold found) stands knows = act-AtThreshold found knows
-  tries-act (Limit found) stands knows = act-Limit found knows
-  tries-act (Reserving found before) stands knows = act-Reserving found before knows
-  tries-act (Holding found) stands knows = act-Holding found knows
+  tries-act (Holding found) stands (expects, has) =
+      let phase : Phase = Holding found in
+      let mark : Mark = Soft call.number in
+      let expected = expects-exchange phase found mark true has refl refl refl refl expects in
+      cond_both (same_server now found) (goes call Firming) (goes call Losing) (Next phase)
+      (λ won. (expected, tt))
+      (λ lost.
+      let loses = exchange-loses phase found mark false true has refl refl lost in
+      let no_give = exchange-no_give found.mark mark in (
+        expected,
+        record {
+          count = lost_tries-held s (own phase) steps loses no_give has.holds ∙ has.count;
+          owes = owes_slot-held s (own phase) steps loses no_give has.holds;
+          looked = last_look-lost s (own phase) steps at_server loses;
+        },
+      ))
   tries-act Firming stands (expects, knows) = answers Firming TookSoft refl (λ e. cc) (refl, expects)
   tries-act Losing stands (expects, knows) =
       lost-try Losing refl

@@ -2,7 +2,6 @@
 use Rattle.std.proofs.Common.{◌≡◌, ◌≢◌, ℕ, ◌+◌, ◌-◌, ◌<◌, ◌⊎◌, Bool, true, false, cond, List, ◌∷◌, length, set, inl, inr, ⊎_elim, refl, sym, ap, ◌∙◌, subst, arith, get_or-set_other}
 use Rattle.std.proofs.lemmas.Bool.{and_right, cases_eq, ne_eqb}
 use Rattle.tko_model.specs.declared.mark.Mark.{Mark}
-use Rattle.tko_model.specs.declared.mark.Mark.TheVariants.{Up, Soft}
 use Rattle.tko_model.specs.declared.settings.Settings.{Settings}
 use Rattle.tko_model.specs.declared.state.ServerState.{ServerState}
 use Rattle.tko_model.specs.Tracker.{server_at}
@@ -16,28 +15,27 @@ use Rattle.tko_steps.specs.declared.step.Place.{Place}
 use Rattle.tko_steps.specs.declared.step.Place.TheVariants as place
 use Rattle.tko_steps.specs.declared.step.Word.{Word}
 use Rattle.tko_steps.specs.declared.step.Word.TheVariants as word
-use Rattle.tko_steps.specs.declared.table.Decision.{Decision}
-use Rattle.tko_steps.specs.declared.table.Decision.TheVariants.{Answers}
+use Rattle.tko_steps.specs.declared.table.Action.{Action}
+use Rattle.tko_steps.specs.declared.table.Action.TheVariants.{LookAtServer, LookAtSlots, Exchange, Reserve, Settle, Loosen, Give}
 use Rattle.tko_model.specs.Ranges.{IsWithinRanges}
 use Rattle.tko_steps.specs.Runs.{Turn, Moment, OwnStep, StepTaken, Took, World, run}
-use Rattle.tko_steps.specs.Core.{abstract_of, after_act, follows, thread_at}
+use Rattle.tko_steps.specs.Core.{CanAct, Shared, abstract_of, follows, servers_after, thread_at, word_at}
+use Rattle.tko_steps.specs.Steps.{place_of, slots_after, word_after}
 use Rattle.tko_steps.specs.Invariant.{IsCore}
-use Rattle.tko_steps.specs.Lost.{IsChangedSince, is_look_of}
-use Rattle.tko_steps.specs.Table.{goes, lost_try, same_server, same_slots}
-use Rattle.tko_steps.proofs.CoreLemmas.{knows_at, one-le-held, written}
+use Rattle.tko_steps.specs.Lost.{IsChangedSince}
+use Rattle.tko_steps.specs.Table.{action_of, same_server, same_slots}
+use Rattle.tko_steps.proofs.CountLemmas.{unread}
+use Rattle.tko_steps.proofs.CoreLemmas.{CanAct-at, written}
 use Rattle.tko_steps.proofs.EveryCallLemmas.{HoldsBoth}
 use Rattle.tko_steps.proofs.EveryCallLemmas.{InFamily-run}
 use Rattle.tko_steps.proofs.FamilyLemmas.{Follows, InFamily, act_own}
 use Rattle.tko_steps.proofs.LegalLemmas.{open_call}
-use Rattle.tko_steps.proofs.LostLemmas.{HasLooked, IsTried, KnowsTries, Tries, since-push, tries-act}
-use Rattle.tko_steps.proofs.OwnLemmas.{act_step, enrol_step, exchange_step}
+use Rattle.tko_steps.proofs.LostLemmas.{HasLooked, IsTried, KnowsTries, Tries, tries-act}
+use Rattle.tko_steps.proofs.OwnLemmas.{act_step, enrol_step}
 use Rattle.tko_steps.proofs.TableLemmas.{same_server-true}
 use Rattle.tko_steps.proofs.WiringLemmas.{begun, stepped_from}
 
 -- ---- what another thread's step changes
-
-abbrev unread : ServerState
-unread = record { mark = Up 0; stamp = 0 }
 
 -- the stamp, and the counts, of a word
 abbrev stamp_in : Word → ℕ
@@ -56,122 +54,67 @@ held_of other = 0
 abbrev IsSince : {A : Type 0} → A → A → ℕ → Place → List Moment → Type 0
 IsSince now found thread at past = (now ≡ found) ⊎ IsChangedSince thread at past
 
-module _ (w : World) (thread other : ℕ) (apart : thread ≡ other → ⊥) where
-  not_my_look : (at : Place) (step : StepTaken) → step.thread ≡ other → is_look_of thread at step ≡ false
-  not_my_look at step by =
-      and_right _ _ (and_right _ _ (ne_eqb step.thread thread (λ e. apart (sym e ∙ by))))
+-- a word that a step on a server leaves as it is, or changes as the word that the step is on
+module _ (shared : Shared) (server : ℕ) where
+  abbrev Moves : {A : Type 0} → A → A → Place → Action → Type 0
+  Moves new now at action =
+      let on = place_of server action in
+      (new ≡ now) ⊎ ((on ≡ at) × (word_after action (word_at shared on) ≢ word_at shared on))
 
-  -- a step of the other thread that changed this word
-  changed-by : {A : Type 0} (at : Place) (step : StepTaken) → step.thread ≡ other → step.place ≡ at → step.left ≢ step.found
-      → A ⊎ IsChangedSince thread at (Took step ∷ w.past)
-  changed-by at step by on differs =
-      inr (inl (record { other = λ e. apart (sym e ∙ by); place = on; changed = differs }))
+  abbrev here : ServerState
+  here = server_at shared.servers server
 
-  kept-by : {A : Type 0} (at : Place) (step : StepTaken) → step.thread ≡ other → A ⊎ IsChangedSince thread at w.past
-      → A ⊎ IsChangedSince thread at (Took step ∷ w.past)
-  kept-by at step by since = since-push thread at step w.past (not_my_look at step by) since
+  exchange-moves : (found : ServerState) (mark : Mark) (won : Bool) (at : ℕ) → (won ≡ true → here ≡ found)
+      → (server_at (cond won (set shared.servers server (written found mark)) shared.servers) at ≡ server_at shared.servers at)
+      ⊎ ((place.Server server ≡ place.Server at) × (word.Server (cond won (written found mark) here) ≢ word.Server here))
+  exchange-moves found mark false at was = inl refl
+  exchange-moves found mark true at was =
+      ⊎_elim
+      (λ (same : at ≡ server).
+      inr (
+        ap place.Server (sym same),
+        λ e.
+            let stamps : found.stamp + 1 ≡ here.stamp = ap stamp_in e in
+            let two : here.stamp ≡ found.stamp = ap (λ (it : ServerState). it.stamp) (was refl) in
+            omega (arith, stamps, two),
+      ))
+      (λ (elsewhere : at ≡ server → ⊥). inl (get_or-set_other shared.servers server at (written found mark) unread elsewhere))
+      (cases_eq at server)
 
-  module _ (call : CallState) (is : IsCore w.core) (inside : other < length w.core.threads) where
-    abbrev servers : List ServerState
-    servers = abstract_of w.core
+  server-moves : (action : Action) (at : ℕ)
+      → Moves (server_at (servers_after shared.servers server action) at) (server_at shared.servers at) (place.Server at) action
+  server-moves LookAtServer at = inl refl
+  server-moves LookAtSlots at = inl refl
+  server-moves (Exchange found mark) at = exchange-moves found mark (same_server here found) at (same_server-true here found)
+  server-moves (Reserve slots) at = inl refl
+  server-moves Settle at = inl refl
+  server-moves Loosen at = inl refl
+  server-moves Give at = inl refl
 
-    abbrev exchanged : ServerState → Mark → Bool → List ServerState
-    exchanged found mark won = cond won (set servers call.server (written found mark)) servers
+  reserve-moves : (won : Bool)
+      → (let new : Slots = cond won (record { firm = shared.slots.firm; held = shared.slots.held + 1 }) shared.slots in
+      (new ≡ shared.slots) ⊎ ((place.Soft ≡ place.Soft) × (word.Soft new ≢ word.Soft shared.slots)))
+  reserve-moves true = inr (refl, λ e. let more : shared.slots.held + 1 ≡ shared.slots.held = ap held_of e in omega (arith, more))
+  reserve-moves false = inl refl
 
-    -- an exchange of the other thread
-    since-exchange : (found : ServerState) (mark : Mark) (decide : Bool → Decision) (won : Bool) (server : ℕ) (seen : ServerState)
-        → call.server < length servers → (won ≡ true → server_at servers call.server ≡ found)
-        → IsSince (server_at servers server) seen thread (place.Server server) w.past
-        → IsSince (server_at (exchanged found mark won) server) seen thread (place.Server server)
-        (Took (exchange_step w.core other call found mark decide won) ∷ w.past)
-    since-exchange found mark decide false server seen on_server was since =
-        kept-by (place.Server server) (exchange_step w.core other call found mark decide false) refl since
-    since-exchange found mark decide true server seen on_server was (inr changed) =
-        kept-by (place.Server server) (exchange_step w.core other call found mark decide true) refl (inr changed)
-    since-exchange found mark decide true server seen on_server was (inl same) =
-        let step = exchange_step w.core other call found mark decide true in
-        let new = written found mark in
-        ⊎_elim
-        (λ (here : server ≡ call.server).
-        changed-by (place.Server server) step refl (ap place.Server (sym here))
-        (λ e.
-        let stamps : found.stamp + 1 ≡ (server_at servers call.server).stamp = ap stamp_in e in
-        let two : (server_at servers call.server).stamp ≡ found.stamp = ap (λ (it : ServerState). it.stamp) (was refl) in
-        omega (arith, stamps, two)))
-        (λ (elsewhere : server ≡ call.server → ⊥).
-        kept-by (place.Server server) step refl (inl (get_or-set_other servers call.server server new unread elsewhere ∙ same)))
-        (cases_eq server call.server)
+  soft-moves : (action : Action) → CanAct shared server action → Moves (slots_after action shared.slots) shared.slots place.Soft action
+  soft-moves LookAtServer can = inl refl
+  soft-moves LookAtSlots can = inl refl
+  soft-moves (Exchange found mark) can = inl refl
+  soft-moves (Reserve slots) can = reserve-moves (same_slots shared.slots slots)
+  soft-moves Settle can = inr (refl, λ e. let more : shared.slots.firm + 1 ≡ shared.slots.firm = ap firm_of e in omega (arith, more))
+  soft-moves Loosen can = inr (refl, λ e. let more : shared.slots.held + 1 ≡ shared.slots.held = ap held_of e in omega (arith, more))
+  soft-moves Give can = inr (refl, λ e. let fewer : shared.slots.held - 1 ≡ shared.slots.held = ap held_of e in omega (arith, fewer, can))
 
-    -- a server's word, after the other thread's step at this phase
-    since-server : (phase : Phase) → thread_at w.core other ≡ InCall call phase → (server : ℕ) (seen : ServerState)
-        → IsSince (server_at servers server) seen thread (place.Server server) w.past
-        → IsSince (server_at (abstract_of (after_act w.core other call phase)) server) seen thread (place.Server server)
-        (Took (act_step w.core other call phase) ∷ w.past)
-    since-server Start stands server seen since = kept-by (place.Server server) (act_step w.core other call Start) refl since
-    since-server (Read found mark answer) stands server seen since =
-        let now = server_at servers call.server in
-        since-exchange found mark (λ won. cond won (Answers answer) (lost_try w.core.settings call)) (same_server now found) server seen
-        (knows_at w.core other call is inside (Read found mark answer) stands).0 (same_server-true now found) since
-    since-server (AtThreshold found) stands server seen since = kept-by (place.Server server) (act_step w.core other call (AtThreshold found)) refl since
-    since-server (Limit found) stands server seen since = kept-by (place.Server server) (act_step w.core other call (Limit found)) refl since
-    since-server (Reserving found slots) stands server seen since =
-        kept-by (place.Server server) (act_step w.core other call (Reserving found slots)) refl since
-    since-server (Holding found) stands server seen since =
-        let now = server_at servers call.server in
-        since-exchange found (Soft call.number) (λ won. cond won (goes call Firming) (goes call Losing)) (same_server now found) server seen
-        (knows_at w.core other call is inside (Holding found) stands).0 (same_server-true now found) since
-    since-server Firming stands server seen since = kept-by (place.Server server) (act_step w.core other call Firming) refl since
-    since-server Losing stands server seen since = kept-by (place.Server server) (act_step w.core other call Losing) refl since
-    since-server (Loosening found mark answer) stands server seen since =
-        kept-by (place.Server server) (act_step w.core other call (Loosening found mark answer)) refl since
-    since-server (Loosened found mark answer) stands server seen since =
-        let now = server_at servers call.server in
-        since-exchange found mark (λ won. goes call (Emptied answer)) (same_server now found) server seen
-        (knows_at w.core other call is inside (Loosened found mark answer) stands).0 (same_server-true now found) since
-    since-server (Emptied answer) stands server seen since =
-        kept-by (place.Server server) (act_step w.core other call (Emptied answer)) refl since
-
-    abbrev slots : Slots
-    slots = w.core.shared.slots
-
-    since-reserve : (found : ServerState) (before seen : Slots) (won : Bool) → same_slots slots before ≡ won
-        → (let new : Slots = cond won (record { firm = slots.firm; held = slots.held + 1 }) slots in
-        let step = act_step w.core other call (Reserving found before) in
-        step.left ≡ word.Soft new
-        → IsSince slots seen thread place.Soft w.past → IsSince new seen thread place.Soft (Took step ∷ w.past))
-    since-reserve found before seen true won left since =
-        let step = act_step w.core other call (Reserving found before) in
-        changed-by place.Soft step refl refl (λ e. let more : slots.held + 1 ≡ slots.held = ap held_of (sym left ∙ e) in omega (arith, more))
-    since-reserve found before seen false won left since =
-        kept-by place.Soft (act_step w.core other call (Reserving found before)) refl since
-
-    -- the soft word, after the other thread's step at this phase
-    since-soft : (phase : Phase) → thread_at w.core other ≡ InCall call phase → (seen : Slots)
-        → IsSince slots seen thread place.Soft w.past
-        → IsSince (after_act w.core other call phase).shared.slots seen thread place.Soft (Took (act_step w.core other call phase) ∷ w.past)
-    since-soft Start stands seen since = kept-by place.Soft (act_step w.core other call Start) refl since
-    since-soft (Read found mark answer) stands seen since = kept-by place.Soft (act_step w.core other call (Read found mark answer)) refl since
-    since-soft (AtThreshold found) stands seen since = kept-by place.Soft (act_step w.core other call (AtThreshold found)) refl since
-    since-soft (Limit found) stands seen since = kept-by place.Soft (act_step w.core other call (Limit found)) refl since
-    since-soft (Reserving found before) stands seen since =
-        since-reserve found before seen (same_slots slots before) refl refl since
-    since-soft (Holding found) stands seen since = kept-by place.Soft (act_step w.core other call (Holding found)) refl since
-    since-soft Firming stands seen since =
-        changed-by place.Soft (act_step w.core other call Firming) refl refl
-        (λ e. let more : slots.firm + 1 ≡ slots.firm = ap firm_of e in omega (arith, more))
-    since-soft Losing stands seen since =
-        let one = one-le-held w.core other call is inside Losing stands refl in
-        changed-by place.Soft (act_step w.core other call Losing) refl refl
-        (λ e. let fewer : slots.held - 1 ≡ slots.held = ap held_of e in omega (arith, fewer, one))
-    since-soft (Loosening found mark answer) stands seen since =
-        changed-by place.Soft (act_step w.core other call (Loosening found mark answer)) refl refl
-        (λ e. let more : slots.held + 1 ≡ slots.held = ap held_of e in omega (arith, more))
-    since-soft (Loosened found mark answer) stands seen since =
-        kept-by place.Soft (act_step w.core other call (Loosened found mark answer)) refl since
-    since-soft (Emptied answer) stands seen since =
-        let one = one-le-held w.core other call is inside (Emptied answer) stands refl in
-        changed-by place.Soft (act_step w.core other call (Emptied answer)) refl refl
-        (λ e. let fewer : slots.held - 1 ≡ slots.held = ap held_of e in omega (arith, fewer, one))
+-- what was known of a word since the last look at it, after a step of another thread
+since-moved : {A : Type 0} (thread other : ℕ) (new now seen : A) (at : Place) (step : StepTaken) (past : List Moment) → (thread ≡ other → ⊥)
+    → step.thread ≡ other → ((new ≡ now) ⊎ ((step.place ≡ at) × (step.left ≢ step.found)))
+    → IsSince now seen thread at past → IsSince new seen thread at (Took step ∷ past)
+since-moved thread other new now seen at step past apart by (inl same) (inl was) = inl (same ∙ was)
+since-moved thread other new now seen at step past apart by (inl same) (inr changed) =
+    inr (inr (and_right _ _ (and_right _ _ (ne_eqb step.thread thread (λ e. apart (sym e ∙ by)))), changed))
+since-moved thread other new now seen at step past apart by (inr (on, differs)) since =
+    inr (inl (record { other = λ e. apart (sym e ∙ by); place = on; changed = differs }))
 
 -- ---- what a call knows stays
 
@@ -206,14 +149,19 @@ KeepsSince-stepped : (w : World) (thread other : ℕ) (state : ThreadState) → 
     → thread_at w.core other ≡ state → (thread ≡ other → ⊥) → KeepsSince w (stepped_from w other state) thread
 KeepsSince-stepped w thread other NotEnrolled is inside stands apart =
     let step = enrol_step w.core other in (
-      λ server seen since. kept-by w thread other apart (place.Server server) step refl since,
-      λ seen since. kept-by w thread other apart place.Soft step refl since,
+      λ server seen since. since-moved thread other _ _ seen (place.Server server) step w.past apart refl (inl refl) since,
+      λ seen since. since-moved thread other _ _ seen place.Soft step w.past apart refl (inl refl) since,
     )
 KeepsSince-stepped w thread other (Idle number) is inside stands apart = (λ server seen since. since, λ seen since. since)
-KeepsSince-stepped w thread other (InCall call phase) is inside stands apart = (
-  since-server w thread other apart call is inside phase stands,
-  since-soft w thread other apart call is inside phase stands,
-)
+KeepsSince-stepped w thread other (InCall call phase) is inside stands apart =
+    let step = act_step w.core other call phase in
+    let action = action_of call.number phase in (
+      λ server seen since.
+          since-moved thread other _ _ seen (place.Server server) step w.past apart refl (server-moves w.core.shared call.server action server) since,
+      λ seen since.
+          since-moved thread other _ _ seen place.Soft step w.past apart refl
+          (soft-moves w.core.shared call.server action (CanAct-at w.core other call is inside phase stands)) since,
+    )
 
 tried-open : (s : Settings) (w : World) (thread : ℕ) (call : CallState) (steps : List OwnStep) (phase : Phase)
     → KnowsTries s w thread call steps phase → IsTried s (open_call thread call steps)

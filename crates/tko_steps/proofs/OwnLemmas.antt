@@ -101,7 +101,7 @@ and-here true both x y e = rw e refl
 and-here false both x y e = refl
 
 -- a step of the thread at this place leaves what another thread owns
-owns-apart : (past : List Moment) (step : StepTaken) (other server : ℕ) → (other ≡ step.thread → ⊥)
+pub owns-apart : (past : List Moment) (step : StepTaken) (other server : ℕ) → (other ≡ step.thread → ⊥)
     → owns (Took step ∷ past) other server ≡ owns past other server
 owns-apart past step other server apart =
     cond-false (is_server server step.place && eqb step.thread other) (owns_after step.kind step.won step.left (owns past other server)) (owns past other server)

@@ -18,8 +18,10 @@ use Rattle.tko_steps.specs.Core.{owner_of, IsOwnedBy, Shared, names, shared_afte
 use Rattle.tko_steps.specs.Invariant.{IsThread}
 use Rattle.tko_steps.specs.Steps.{kind_of_exchange, owned_after, owns_after, place_of}
 use Rattle.tko_steps.specs.Table.{action_of, same_server}
+use Rattle.tko_steps.proofs.CountLemmas.{unread}
 use Rattle.tko_steps.proofs.CoreLemmas.{IsFreeFor, free-found, free-fresh, owners-written, written}
 use Rattle.tko_steps.proofs.TableLemmas.{same_server-true}
+use Rattle.tko_steps.proofs.TryLemmas.{by_exchange}
 
 -- a mark that names this number or none doesn't name another
 names-other : (mark : Mark) (number : ℕ) (found : Option ℕ) → ((other : ℕ) → owner_of mark ≡ Some other → other ≡ number)
@@ -67,20 +69,13 @@ owns_after-names (Hard a) (Hard b) stamp number owned = sym (eq-eqb b number (ow
 
 -- a lost exchange leaves what is owned
 pub owns_after-lost : (old new : Mark) (left : Word) (owned : Bool) → owns_after (kind_of_exchange old new) false left owned ≡ owned
-owns_after-lost (Up a) (Up b) left owned = refl
-owns_after-lost (Up a) (Soft b) left owned = refl
-owns_after-lost (Up a) (Hard b) left owned = refl
-owns_after-lost (Soft a) new left owned = refl
-owns_after-lost (Hard a) new left owned = refl
+owns_after-lost old new left owned = by_exchange (λ it. owns_after it false left owned ≡ owned) refl refl refl old new
 
 -- ---- one thread, whatever it owned before
 
 pub cond_same : {X : Type 0} (test : Bool) (x y : X) → y ≡ x → cond test y x ≡ x
 cond_same true x y e = e
 cond_same false x y e = refl
-
-abbrev unread : ServerState
-unread = record { mark = Up 0; stamp = 0 }
 
 -- a change of a server that names this number or none, to such a mark, is none of a thread with another number
 others-write : (servers : List ServerState) (server number : ℕ) (new : ServerState) (other : Option ℕ) (owned : ℕ → Bool)

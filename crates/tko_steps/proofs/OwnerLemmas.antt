@@ -1,6 +1,6 @@
 -- The responsible thread's calls: a call that finds its thread's own mark loses no try, and its server is not worn for it.
 use Rattle.std.proofs.Common.{◌≡◌, ◌≢◌, ℕ, ◌+◌, ◌<◌, true, false, cond, ◌&&◌, eqb, List, [], ◌∷◌, length, All, Option, Some, None, refl, sym, ap, ◌∙◌}
-use Rattle.std.proofs.lemmas.Bool.{and_right, cond-false, cond_both, ne_eqb}
+use Rattle.std.proofs.lemmas.Bool.{cond_both}
 use Rattle.std.proofs.lemmas.List.Elements.{All-nil, All-cons, All-weaker}
 use Rattle.tko_model.specs.declared.mark.Mark.{Mark}
 use Rattle.tko_model.specs.declared.mark.Mark.TheVariants.{Up, Soft, Hard}
@@ -21,19 +21,18 @@ use Rattle.tko_steps.specs.Core.{IsOwner, owner_of, abstract_of, follows, names,
 use Rattle.tko_steps.specs.Steps.{answer_of, kind_of_exchange}
 use Rattle.tko_steps.specs.Invariant.{IsCore, IsFoundBy}
 use Rattle.tko_steps.specs.Legal.{IsOwnersAnswer}
-use Rattle.tko_steps.specs.Runs.{InEveryRun, Moment, OwnStep, StepTaken, Took, World, calls_of, owns}
+use Rattle.tko_steps.specs.Runs.{InEveryRun, Moment, OwnStep, Took, World, calls_of, owns}
 use Rattle.tko_steps.specs.Steps.{is_server, owns_after}
 use Rattle.tko_steps.specs.Table.{goes, lost_try, same_server, same_slots}
 use Rattle.tko_steps.proofs.CoreLemmas.{knows_at}
 use Rattle.tko_steps.proofs.EveryCallLemmas.{InFamily-run}
 use Rattle.tko_steps.proofs.FamilyLemmas.{Follows, act_own}
-use Rattle.tko_steps.proofs.FirstLookLemmas.{Leads, LeadsTo, Leads-from_start, leads-to}
+use Rattle.tko_steps.proofs.StartLemmas.{from_start-is, is_plain, plain≢}
 use Rattle.tko_steps.proofs.LegalLemmas.{open_call}
-use Rattle.tko_steps.proofs.OwnLemmas.{AreOwned, act_step, enrol_step}
+use Rattle.tko_steps.proofs.OwnLemmas.{AreOwned, act_step, enrol_step, owns-apart}
 use Rattle.tko_steps.proofs.OwnedLemmas.{cond_same, owns_after-lost, true-names}
 use Rattle.tko_steps.proofs.TableLemmas.{eq-same_server}
 use Rattle.tko_steps.proofs.WiringLemmas.{begun, stepped_from}
-use Rattle.tko_steps.proofs.TrackerLemmas.{is_plain, plain≢}
 
 -- a step before which the server's mark did not name this number
 abbrev pub IsNotOwners : ℕ → ℕ → OwnStep → Type 0
@@ -158,48 +157,33 @@ module _ (w : World) (thread : ℕ) (call : CallState) (steps : List OwnStep) (i
       let not_mine : owns w.past thread call.server ≡ false = owns-here Start stands ∙ names-unmarked now.mark (Some call.number) unmarked in
       unowned-step Start stands (record { none = none; owned = not_mine }) (owns-look Start refl)
 
-  start-next : (decision : Decision) → thread_at w.core thread ≡ InCall call Start → All (IsNotOwners call.number call.server) steps
-      → (own Start).step.answer ≡ answer_of decision → Leads call.op call now decision → Next Start decision
-  start-next (Goes lost phase) stands none is_answer (same, leads) = to-phase phase leads
-    where
-      to-phase : (phase : Phase) → LeadsTo call.op call now phase → Next Start (Goes lost phase)
-      to-phase = leads-to call.op call now (λ it. Next Start (Goes lost it))
-          (λ found mark answer leads. (leads.1, λ unmarked. unowned-first stands none (ap (λ (it : ServerState). owner_of it.mark) (sym leads.0) ∙ unmarked)))
-          (λ found leads. unowned-first stands none leads.2)
-          (λ found mark answer leads. leads.1)
-  start-next (Answers answer) stands none is_answer leads =
-      All-cons
-      (λ (it : OwnStep). IsOwner it.step.before call.number call.server →
-      ((own Start).step.answer ≢ Some Worn) × ((own Start).step.answer ≢ Some Contended))
-      (own Start) steps
+  pub owner-act : (phase : Phase) → thread_at w.core thread ≡ InCall call phase → KnowsOwner w thread call steps phase
+      → Next phase (follows w.core call phase)
+  owner-act Start stands none =
+      let A : OwnStep → Type 0 = λ it. IsOwner it.step.before call.number call.server →
+      ((own Start).step.answer ≢ Some Worn) × ((own Start).step.answer ≢ Some Contended) in
+      from_start-is s call now (λ decision. (own Start).step.answer ≡ answer_of decision → Next Start decision)
+      (λ answer is_answer is told.
+      All-cons A (own Start) steps
       (λ owner. (
         λ e.
             let same : answer ≡ Worn = cc in
-            let unmarked : owner_of now.mark ≡ None = leads.1 same in
-            let both : None ≡ Some call.number = sym unmarked ∙ owner in
+            let both : None ≡ Some call.number = sym (is_answer.worn same) ∙ owner in
             cc,
-        λ e. let same : answer ≡ Contended = cc in absurd (leads.0 same),
+        λ e. let same : answer ≡ Contended = cc in absurd (is_answer.contended same),
       ))
-      (All-weaker (IsNotOwners call.number call.server)
-      (λ (it : OwnStep). IsOwner it.step.before call.number call.server →
-      ((own Start).step.answer ≢ Some Worn) × ((own Start).step.answer ≢ Some Contended))
-      (λ it apart owner. absurd (apart owner)) steps none)
-
-  act-Read : (found : ServerState) (mark : Mark) (answer : Reply) → thread_at w.core thread ≡ InCall call (Read found mark answer)
-      → KnowsOwner w thread call steps (Read found mark answer)
-      → Next (Read found mark answer) (follows w.core call (Read found mark answer))
-  act-Read found mark answer stands (plain, unowned) =
+      (All-weaker (IsNotOwners call.number call.server) A (λ it apart owner. absurd (apart owner)) steps none))
+      (λ soft fresh is told. unowned-first stands none fresh.0)
+      (λ mark answer put can by is told. (put.plain, λ unmarked. unowned-first stands none unmarked))
+      (λ mark answer put can mine is told. put.plain)
+      refl
+  owner-act (Read found mark answer) stands (plain, unowned) =
       let phase : Phase = Read found mark answer in
       let knows = knows_at w.core thread call is inside phase stands in
       cond_both (same_server now found) (Answers answer) (lost_try s call) (Next phase)
       (λ won. answers-plain phase answer (ap (λ b. answer_of (cond b (Answers answer) (lost_try s call))) won) plain)
       (λ lost. lost-unowned phase
       (none-step phase stands (unowned (found-unmarked call.number now found found.mark refl knows.2.1 lost))))
-
-  pub owner-act : (phase : Phase) → thread_at w.core thread ≡ InCall call phase → KnowsOwner w thread call steps phase
-      → Next phase (follows w.core call phase)
-  owner-act Start stands knows = start-next (follows w.core call Start) stands knows refl (Leads-from_start s call now)
-  owner-act (Read found mark answer) stands knows = act-Read found mark answer stands knows
   owner-act (AtThreshold found) stands knows =
       let phase : Phase = AtThreshold found in
       let slots = w.core.shared.slots in
@@ -250,16 +234,11 @@ module _ (w new : World) (thread : ℕ) (call : CallState) (steps : List OwnStep
   owner-kept (Loosened found mark answer) knows = knows
   owner-kept (Emptied answer) knows = knows
 
-owns-other : (past : List Moment) (step : StepTaken) (thread server : ℕ) → (thread ≡ step.thread → ⊥)
-    → owns (Took step ∷ past) thread server ≡ owns past thread server
-owns-other past step thread server apart =
-    cond-false _ _ _ (and_right _ _ (ne_eqb step.thread thread (λ e. apart (sym e))))
-
 owns-stepped : (w : World) (thread other : ℕ) (state : ThreadState) (server : ℕ) → (thread ≡ other → ⊥)
     → owns (stepped_from w other state).past thread server ≡ owns w.past thread server
-owns-stepped w thread other NotEnrolled server apart = owns-other w.past (enrol_step w.core other) thread server apart
+owns-stepped w thread other NotEnrolled server apart = owns-apart w.past (enrol_step w.core other) thread server apart
 owns-stepped w thread other (Idle number) server apart = refl
-owns-stepped w thread other (InCall call phase) server apart = owns-other w.past (act_step w.core other call phase) thread server apart
+owns-stepped w thread other (InCall call phase) server apart = owns-apart w.past (act_step w.core other call phase) thread server apart
 
 owner-open : (w : World) (thread : ℕ) (call : CallState) (steps : List OwnStep) (phase : Phase)
     → KnowsOwner w thread call steps phase → IsOwnersAnswer (open_call thread call steps)

@@ -1,21 +1,20 @@
 -- The law of every run: what holds of the world is kept by each turn.
-use Rattle.std.proofs.Common.{◌≡◌, ℕ, ◌<◌, ◌≤◌, length, get_or, Some, None, refl, sym, ap, ◌∙◌, arith}
+use Rattle.std.proofs.Common.{◌≡◌, ℕ, ◌<◌, length, get_or, Some, None, refl, sym, ap, ◌∙◌, arith}
 use Rattle.std.proofs.lemmas.List.Sums.{sum_by-le-sum_by}
 use Rattle.tko_model.specs.declared.mark.Op.{Op}
 use Rattle.tko_model.specs.declared.settings.Settings.{Settings}
 use Rattle.tko_model.specs.Ranges.{IsWithinRanges}
 use Rattle.tko_model.specs.Tracker.{server_at}
-use Rattle.tko_steps.specs.declared.phase.Phase.{Phase}
-use Rattle.tko_steps.specs.declared.phase.Phase.TheVariants.{Start, Read, AtThreshold, Limit, Reserving, Holding, Firming, Losing, Loosening, Loosened, Emptied}
+use Rattle.tko_steps.specs.declared.phase.Phase.TheVariants.{Start}
 use Rattle.tko_steps.specs.declared.phase.ThreadState.{ThreadState}
 use Rattle.tko_steps.specs.declared.phase.ThreadState.TheVariants.{NotEnrolled, Idle, InCall}
 use Rattle.tko_steps.specs.Runs.{Turn, InEveryRun, World, happens, start}
 use Rattle.tko_steps.specs.Core.{CoreState, abstract_of, names, number_of, opened_core, thread_at}
 use Rattle.tko_steps.specs.Steps.{begun_by}
-use Rattle.tko_steps.specs.Invariant.{IsCore, holds, holds_at, is_loose, is_loose_at}
+use Rattle.tko_steps.specs.Invariant.{IsCore, holds, is_loose}
 use Rattle.tko_steps.specs.Safe.{CountsSlots, HasOneResponsible, OwnsItsMarks}
 use Rattle.tko_steps.proofs.CountLemmas.{get_or-replicate_same, bit}
-use Rattle.tko_steps.proofs.CoreLemmas.{IsCore-after_act, IsCore-after_begin, IsCore-after_enrol, IsCore-opened_core}
+use Rattle.tko_steps.proofs.CoreLemmas.{loose-le-holds, IsCore-after_act, IsCore-after_begin, IsCore-after_enrol, IsCore-opened_core}
 use Rattle.tko_steps.proofs.OwnLemmas.{AreOwned, AreOwned-act, AreOwned-begun, AreOwned-enrolled}
 use Rattle.tko_steps.proofs.OwnedLemmas.{names-none, names-true, true-names}
 use Rattle.tko_steps.proofs.ThreadLemmas.{number-inside, number-once}
@@ -68,25 +67,6 @@ Holds-turn s w turn holds =
 
 pub Holds-run : InEveryRun Holds
 Holds-run s ranges turns = along-turns Holds Holds-turn s (start s) turns (Holds-start s ranges)
-
--- a loose mark holds a slot
-loose_at-le-holds : (phase : Phase) → bit (is_loose_at phase) ≤ bit (holds_at phase)
-loose_at-le-holds Start = omega arith
-loose_at-le-holds (Read found mark answer) = omega arith
-loose_at-le-holds (AtThreshold found) = omega arith
-loose_at-le-holds (Limit found) = omega arith
-loose_at-le-holds (Reserving found slots) = omega arith
-loose_at-le-holds (Holding found) = omega arith
-loose_at-le-holds Firming = omega arith
-loose_at-le-holds Losing = omega arith
-loose_at-le-holds (Loosening found mark answer) = omega arith
-loose_at-le-holds (Loosened found mark answer) = omega arith
-loose_at-le-holds (Emptied answer) = omega arith
-
-pub loose-le-holds : (state : ThreadState) → bit (is_loose state) ≤ bit (holds state)
-loose-le-holds NotEnrolled = omega arith
-loose-le-holds (Idle number) = omega arith
-loose-le-holds (InCall call phase) = loose_at-le-holds phase
 
 pub CountsSlots-core : (core : CoreState) → IsCore core → CountsSlots core
 CountsSlots-core core is =

@@ -2,8 +2,6 @@
 use Rattle.std.proofs.Common.{◌≡◌, ◌≢◌, ℕ, ◌+◌, ◌<◌, ◌≤◌, true, false, cond, eqb, List, ◌∷◌, length, get_or, set, All, Some, None, inl, inr, ⊎_elim, refl, sym, ap, ◌∙◌, subst, arith, get_or-set_same, get_or-set_other}
 use Rattle.std.proofs.lemmas.Bool.{cases_eq, cond_both, eqb-false, eqb-true}
 use Rattle.std.proofs.lemmas.List.Elements.{All-nil, All-cons, All-head, All-tail}
-use Rattle.tko_model.specs.declared.mark.Mark.{Mark}
-use Rattle.tko_model.specs.declared.mark.Mark.TheVariants.{Up, Soft, Hard}
 use Rattle.tko_model.specs.declared.mark.Op.{Op}
 use Rattle.tko_model.specs.declared.mark.Reply.TheVariants.{Contended, Full}
 use Rattle.tko_model.specs.declared.settings.Settings.{Settings}
@@ -15,12 +13,14 @@ use Rattle.tko_steps.specs.declared.phase.Phase.TheVariants.{Start, Read, AtThre
 use Rattle.tko_steps.specs.declared.phase.Slots.{Slots}
 use Rattle.tko_steps.specs.declared.phase.ThreadState.{ThreadState}
 use Rattle.tko_steps.specs.declared.phase.ThreadState.TheVariants.{NotEnrolled, Idle, InCall}
+use Rattle.tko_steps.specs.declared.table.Action.{Action}
+use Rattle.tko_steps.specs.declared.table.Action.TheVariants.{LookAtServer, LookAtSlots, Exchange, Reserve, Settle, Loosen, Give}
 use Rattle.tko_steps.specs.declared.table.Decision.{Decision}
 use Rattle.tko_steps.specs.declared.table.Decision.TheVariants.{Goes, Answers}
 use Rattle.tko_steps.specs.Runs.{InEveryRun, Call, Moment, OwnStep, Took, World, and_step, began, begun_call, calls_of, own_step, run, start, with_step}
 use Rattle.tko_steps.specs.Alone.{InEveryRunAlone, IsIdleUnlessOf, IsStepOf, Replays}
 use Rattle.tko_steps.specs.Core.{CoreState, abstract_of, after_act, follows, is_call_step, thread_at}
-use Rattle.tko_steps.specs.Steps.{answer_of, begun_by, kind_of, kind_of_exchange, state_after}
+use Rattle.tko_steps.specs.Steps.{answer_of, begun_by, kind_of, state_after}
 use Rattle.tko_steps.specs.Invariant.{IsCore, holds, holds_at}
 use Rattle.tko_steps.specs.Legal.{tracker_in}
 use Rattle.tko_steps.specs.Table.{action_of, goes, lost_try, same_server, same_slots}
@@ -28,13 +28,13 @@ use Rattle.tko_steps.proofs.CountLemmas.{get_or-replicate_same}
 use Rattle.tko_steps.proofs.AloneLemmas.{IsNotContended, Plays, Plays-with_step, Replays-plays}
 use Rattle.tko_steps.proofs.CallLemmas.{All-with_step, latest, with_step-none}
 use Rattle.tko_steps.proofs.EveryCallLemmas.{HoldsBoth, HoldsBoth-run, along}
-use Rattle.tko_steps.proofs.FirstLookLemmas.{Leads, LeadsTo, Leads-from_start, leads-to}
+use Rattle.tko_steps.proofs.StartLemmas.{from_start-is, is_plain, plain≢}
 use Rattle.tko_steps.proofs.LegalLemmas.{IsSoundCall, open_call}
 use Rattle.tko_steps.proofs.LoserLemmas.{eq-same_slots, passes-count_by}
 use Rattle.tko_steps.proofs.OwnLemmas.{act_step, enrol_step}
 use Rattle.tko_steps.proofs.TableLemmas.{eq-same_server}
+use Rattle.tko_steps.proofs.TryLemmas.{by_exchange}
 use Rattle.tko_steps.proofs.WiringLemmas.{begun, stepped_from}
-use Rattle.tko_steps.proofs.TrackerLemmas.{is_plain, plain≢}
 
 -- ---- what the thread saw still is there
 
@@ -104,18 +104,13 @@ module _ (core : CoreState) (thread : ℕ) (call : CallState) (is : IsCore core)
       cc)
       (cases_eq found.at thread)
 
-  start-next : (decision : Decision) → Leads call.op call now decision → Next Start decision
-  start-next (Goes lost phase) (same, leads) = to-phase phase leads
-    where
-      to-phase : (phase : Phase) → LeadsTo call.op call now phase → SteadyAt now slots phase
-      to-phase = leads-to call.op call now (λ it. SteadyAt now slots it)
-          (λ found mark answer leads. (sym leads.0, leads.1))
-          (λ found leads. sym leads.0)
-          (λ found mark answer leads. leads.1)
-  start-next (Answers answer) leads = leads.0
-
   steady-act : (phase : Phase) → thread_at core thread ≡ InCall call phase → SteadyAt now slots phase → Next phase (follows core call phase)
-  steady-act Start stands knows = start-next (follows core call Start) (Leads-from_start s call now)
+  steady-act Start stands knows =
+      from_start-is s call now (Next Start)
+      (λ answer is_answer is. is_answer.contended)
+      (λ soft fresh is. refl)
+      (λ mark answer put can by is. (refl, put.plain))
+      (λ mark answer put can own is. put.plain)
   steady-act (Read found mark answer) stands knows =
       let phase : Phase = Read found mark answer in
       cond_both (same_server now found) (Answers answer) (lost_try s call) (Next phase)
@@ -153,25 +148,14 @@ module _ (core : CoreState) (thread : ℕ) (call : CallState) (is : IsCore core)
   steady-act (Loosened found mark answer) stands knows = knows
   steady-act (Emptied answer) stands knows = plain≢ answer Contended knows refl
 
-exchange-is_call_step : (old new : Mark) → is_call_step (kind_of_exchange old new) ≡ true
-exchange-is_call_step (Up a) (Up b) = refl
-exchange-is_call_step (Up a) (Soft b) = refl
-exchange-is_call_step (Up a) (Hard b) = refl
-exchange-is_call_step (Soft a) new = refl
-exchange-is_call_step (Hard a) new = refl
-
-act-is_call_step : (number : ℕ) (phase : Phase) → is_call_step (kind_of (action_of number phase)) ≡ true
-act-is_call_step number Start = refl
-act-is_call_step number (Read found mark answer) = exchange-is_call_step found.mark mark
-act-is_call_step number (AtThreshold found) = refl
-act-is_call_step number (Limit found) = refl
-act-is_call_step number (Reserving found slots) = refl
-act-is_call_step number (Holding found) = exchange-is_call_step found.mark (Soft number)
-act-is_call_step number Firming = refl
-act-is_call_step number Losing = refl
-act-is_call_step number (Loosening found mark answer) = refl
-act-is_call_step number (Loosened found mark answer) = exchange-is_call_step found.mark mark
-act-is_call_step number (Emptied answer) = refl
+act-is_call_step : (action : Action) → is_call_step (kind_of action) ≡ true
+act-is_call_step LookAtServer = refl
+act-is_call_step LookAtSlots = refl
+act-is_call_step (Exchange found mark) = by_exchange (λ it. is_call_step it ≡ true) refl refl refl found.mark mark
+act-is_call_step (Reserve before) = refl
+act-is_call_step Settle = refl
+act-is_call_step Loosen = refl
+act-is_call_step Give = refl
 
 -- ---- the world
 
@@ -308,7 +292,7 @@ alone-act : (thread : ℕ) (s : Settings) (w : World) (own : ℕ) (call : CallSt
     → thread_at w.core own ≡ InCall call phase → Alone thread s w → Alone thread s (stepped_from w own (InCall call phase))
 alone-act thread s w own call phase both inside stands alone all =
     let moment : Moment = Took (act_step w.core own call phase) in
-    let same : own ≡ thread = All-head (IsStepOf thread) moment w.past all (act-is_call_step call.number phase) in
+    let same : own ≡ thread = All-head (IsStepOf thread) moment w.past all (act-is_call_step (action_of call.number phase)) in
     let P : ℕ → Type 0 = λ it. HoldsAlone s it (stepped_from w own (InCall call phase)) in
     let Q : ℕ → Type 0 = λ it. HoldsAlone s it w in
     let holds = alone (All-tail (IsStepOf thread) moment w.past all) in

@@ -1,23 +1,209 @@
--- What the first look of a try decides is what the sequential tracker does on the server that it found.
-use Rattle.std.proofs.Common.{◌≡◌, ℕ, ◌+◌, Bool, cond, ltb, leb, eqb, refl, sym, ap, ◌∙◌}
-use Rattle.std.proofs.lemmas.Bool.{cond-false, cond-true, cond_both, eqb-true}
+-- What an operation may do to a server, whatever room there is for one more soft mark: one walk over the sequential tracker's table.
+-- So what its replies may be, and what the first look of a try leads to.
+use Rattle.std.proofs.Common.{◌≡◌, ◌≢◌, ℕ, ◌+◌, ◌<◌, ◌≤◌, Bool, true, false, cond, ltb, leb, eqb, None, refl, sym, ap, ◌∙◌, subst, arith}
+use Rattle.std.proofs.lemmas.Bool.{cond-false, cond-true, cond_both, eqb-true, leb-false, ltb-false, ltb-true}
 use Rattle.tko_model.specs.declared.mark.Mark.{Mark}
 use Rattle.tko_model.specs.declared.mark.Mark.TheVariants.{Up, Soft, Hard}
 use Rattle.tko_model.specs.declared.mark.Op.{Op}
 use Rattle.tko_model.specs.declared.mark.Op.TheVariants.{LookUp, SoftFailure, HardFailure, Success, Release}
+use Rattle.tko_model.specs.declared.mark.Reply.{Reply}
 use Rattle.tko_model.specs.declared.mark.Reply.TheVariants as reply
 use Rattle.tko_model.specs.declared.settings.Settings.{Settings}
 use Rattle.tko_model.specs.declared.state.ServerState.{ServerState}
 use Rattle.tko_model.specs.declared.transition.Transition.{Transition}
-use Rattle.tko_model.specs.Ranges.{worn}
-use Rattle.tko_model.specs.Tracker.{becomes, stays, transition}
-use Rattle.tko_model.specs.Tracker.{on_others as others_transition, on_own_hard as own_hard_transition, on_own_soft as own_soft_transition}
+use Rattle.tko_model.specs.Looks.{look_reply}
+use Rattle.tko_model.specs.Ranges.{IsWithinRanges, worn}
+use Rattle.tko_model.specs.Tracker.{IsFit, becomes, has_room, is_soft, on_others, on_own_hard, on_own_soft, on_unmarked, stays, transition}
 use Rattle.tko_steps.specs.declared.phase.Call.{Call}
-use Rattle.tko_steps.specs.declared.phase.Phase.{Phase}
 use Rattle.tko_steps.specs.declared.phase.Phase.TheVariants.{Read, AtThreshold, Loosening}
 use Rattle.tko_steps.specs.declared.table.Decision.{Decision}
-use Rattle.tko_steps.specs.declared.table.Decision.TheVariants.{Goes, Answers}
-use Rattle.tko_steps.specs.Table.{from_mark, from_start, from_up_by, goes, on_others, on_own_hard_by, on_own_soft_by, unless_worn}
+use Rattle.tko_steps.specs.declared.table.Decision.TheVariants.{Answers}
+use Rattle.tko_steps.specs.Core.{owner_of}
+use Rattle.tko_steps.specs.Invariant.{IsFoundBy, IsFresh, IsWrite}
+use Rattle.tko_steps.specs.Table.{from_start, goes, puts, sets_out}
+
+-- ---- replies
+
+-- a reply that says neither full, worn nor contended
+abbrev pub is_plain : Reply → Bool
+is_plain reply.Full = false
+is_plain reply.Worn = false
+is_plain reply.Contended = false
+is_plain _ = true
+
+pub plain≢ : (answer other : Reply) → is_plain answer ≡ true → is_plain other ≡ false → answer ≢ other
+plain≢ answer other plain not_plain same = let e = ap is_plain same in cc
+
+-- a reply to an operation that changes nothing on a server with this mark
+pub record IsAnswer (mark : Mark) (answer : Reply) : Type 0 where
+  pub contended : answer ≢ reply.Contended
+  pub full : answer ≢ reply.Full
+  pub worn : answer ≡ reply.Worn → owner_of mark ≡ None
+
+-- ---- the rows of the table
+
+-- an operation that may exchange a word with this mark
+abbrev pub CanRead : Op → ℕ → Mark → Type 0
+CanRead LookUp number mark = ⊥
+CanRead Release number mark = mark ≡ Hard number
+CanRead op number mark = Unit {0}
+
+-- an operation that may loosen the thread's own soft mark
+abbrev pub CanLoosen : Op → Type 0
+CanLoosen LookUp = ⊥
+CanLoosen SoftFailure = ⊥
+CanLoosen op = Unit {0}
+
+-- the operation puts this mark, which is not soft, in the place of what it found
+pub record IsPut (s : Settings) (number : ℕ) (found : ServerState) (mark : Mark) (answer : Reply) : Type 0 where
+  pub plain : is_plain answer ≡ true
+  pub soft : is_soft mark ≡ false
+  pub write : IsWithinRanges s → IsFit s found.mark found.stamp → IsWrite s number found mark
+
+-- what an operation does to a server that it finds like this, by whether there is room for one more soft mark
+pub data Row (s : Settings) (number : ℕ) (op : Op) (found : ServerState) (given : Bool → Transition) : Type 0 where
+  Stays : (answer : Reply) → IsAnswer found.mark answer → ((room : Bool) → given room ≡ stays answer) → Row s number op found given
+  Takes : op ≡ SoftFailure → IsFresh found
+      → ((room : Bool) → given room ≡ cond room (becomes (Soft number) reply.TookSoft) (stays reply.Full)) → Row s number op found given
+  Reads : (mark : Mark) (answer : Reply) → IsPut s number found mark answer → CanRead op number found.mark → IsFoundBy number found found found.mark
+      → ((room : Bool) → given room ≡ becomes mark answer) → Row s number op found given
+  Loosens : (mark : Mark) (answer : Reply) → IsPut s number found mark answer → CanLoosen op → found.mark ≡ Soft number
+      → ((room : Bool) → given room ≡ becomes mark answer) → Row s number op found given
+
+module _ (s : Settings) (number : ℕ) where
+  plain-row : (op : Op) (found : ServerState) (answer : Reply) → is_plain answer ≡ true → Row s number op found (λ room. stays answer)
+  plain-row op found answer plain =
+      Stays answer
+      (record {
+        contended = plain≢ answer reply.Contended plain refl;
+        full = plain≢ answer reply.Full plain refl;
+        worn = λ e. absurd (plain≢ answer reply.Worn plain refl e);
+      })
+      (λ room. refl)
+
+  either : (op : Op) (found : ServerState) (test : Bool) (one other : Bool → Transition) → (test ≡ true → Row s number op found one)
+      → (test ≡ false → Row s number op found other) → Row s number op found (λ room. cond test (one room) (other room))
+  either op found true one other passes fails = passes refl
+  either op found false one other passes fails = fails refl
+
+  -- an unmarked server that may be worn
+  unless_worn-row : (op : Op) (count stamp : ℕ) (other : Bool → Transition)
+      → (stamp < worn → Row s number op (record { mark = Up count; stamp = stamp }) other)
+      → Row s number op (record { mark = Up count; stamp = stamp }) (λ room. cond (leb worn stamp) (stays reply.Worn) (other room))
+  unless_worn-row op count stamp other fresh =
+      either op _ (leb worn stamp) (λ room. stays reply.Worn) other
+      (λ old. Stays reply.Worn (record { contended = λ e. cc; full = λ e. cc; worn = λ e. refl }) (λ room. refl))
+      (λ e. fresh (leb-false worn stamp e))
+
+  row-up : (op : Op) (count stamp : ℕ)
+      → Row s number op (record { mark = Up count; stamp = stamp }) (λ room. on_unmarked s room number op count stamp)
+  row-up LookUp count stamp = plain-row LookUp _ (reply.Up count) refl
+  row-up SoftFailure count stamp =
+      let marks : Bool → Transition = λ room. cond room (becomes (Soft number) reply.TookSoft) (stays reply.Full) in
+      let counts : Bool → Transition = λ room. becomes (Up (count + 1)) (reply.Counted (count + 1)) in
+      unless_worn-row SoftFailure count stamp (λ room. cond (ltb (count + 1) s.failures) (counts room) (marks room)) (λ fresh.
+      either SoftFailure _ (ltb (count + 1) s.failures) counts marks
+      (λ low. Reads (Up (count + 1)) (reply.Counted (count + 1))
+      (record { plain = refl; soft = refl; write = λ ranges fit. record { fit = (ltb-true (count + 1) s.failures low, omega arith); own = tt } })
+      tt fresh (λ room. refl))
+      (λ last. Takes refl (refl, fresh) (λ room. refl)))
+  row-up HardFailure count stamp =
+      unless_worn-row HardFailure count stamp (λ room. becomes (Hard number) reply.TookHard) (λ fresh.
+      Reads (Hard number) reply.TookHard
+      (record { plain = refl; soft = refl; write = λ ranges fit. record { fit = omega arith; own = refl } }) tt fresh (λ room. refl))
+  row-up Success count stamp =
+      let resets : Bool → Transition = λ room. becomes (Up 0) (reply.Reset count) in
+      either Success _ (eqb count 0) (λ room. stays reply.Clean) (λ room. cond (leb worn stamp) (stays reply.Worn) (resets room))
+      (λ none. plain-row Success _ reply.Clean refl)
+      (λ some. unless_worn-row Success count stamp resets (λ fresh.
+      Reads (Up 0) (reply.Reset count)
+      (record { plain = refl; soft = refl; write = λ ranges fit. record { fit = (ranges.failures.0, omega arith); own = tt } }) tt fresh (λ room. refl)))
+  row-up Release count stamp = plain-row Release _ (reply.NotMine (Up count)) refl
+
+  -- the thread's own mark is taken away
+  clears : (found : ServerState) (answer : Reply) → is_plain answer ≡ true → (IsFit s found.mark found.stamp → found.stamp ≤ worn + 1)
+      → IsPut s number found (Up 0) answer
+  clears found answer plain low =
+      record {
+        plain = plain;
+        soft = refl;
+        write = λ ranges fit. let below = low fit in record { fit = (ranges.failures.0, omega (arith, below)); own = tt };
+      }
+
+  row-own_soft : (op : Op) (stamp : ℕ) → Row s number op (record { mark = Soft number; stamp = stamp }) (λ room. on_own_soft number op)
+  row-own_soft LookUp stamp = plain-row LookUp _ (look_reply (Soft number)) refl
+  row-own_soft SoftFailure stamp = plain-row SoftFailure _ (reply.Already (Soft number)) refl
+  row-own_soft HardFailure stamp =
+      Loosens (Hard number) reply.Hardened
+      (record { plain = refl; soft = refl; write = λ ranges fit. record { fit = omega (arith, fit); own = refl } }) tt refl (λ room. refl)
+  row-own_soft Success stamp =
+      Loosens (Up 0) (reply.Unmarked (Soft number)) (clears _ _ refl (λ fit. omega (arith, fit))) tt refl (λ room. refl)
+  row-own_soft Release stamp =
+      Loosens (Up 0) (reply.Released (Soft number)) (clears _ _ refl (λ fit. omega (arith, fit))) tt refl (λ room. refl)
+
+  row-own_hard : (op : Op) (stamp : ℕ) → Row s number op (record { mark = Hard number; stamp = stamp }) (λ room. on_own_hard number op)
+  row-own_hard LookUp stamp = plain-row LookUp _ (look_reply (Hard number)) refl
+  row-own_hard SoftFailure stamp = plain-row SoftFailure _ (reply.Already (Hard number)) refl
+  row-own_hard HardFailure stamp = plain-row HardFailure _ (reply.Already (Hard number)) refl
+  row-own_hard Success stamp =
+      Reads (Up 0) (reply.Unmarked (Hard number)) (clears _ _ refl (λ fit. fit)) tt (refl, refl) (λ room. refl)
+  row-own_hard Release stamp =
+      Reads (Up 0) (reply.Released (Hard number)) (clears _ _ refl (λ fit. fit)) refl (refl, refl) (λ room. refl)
+
+  row-others : (op : Op) (found : ServerState) (mark : Mark) → is_plain (look_reply mark) ≡ true → Row s number op found (λ room. on_others op mark)
+  row-others LookUp found mark plain = plain-row LookUp found (look_reply mark) plain
+  row-others SoftFailure found mark plain = plain-row SoftFailure found (reply.Already mark) refl
+  row-others HardFailure found mark plain = plain-row HardFailure found (reply.Already mark) refl
+  row-others Success found mark plain = plain-row Success found (reply.Already mark) refl
+  row-others Release found mark plain = plain-row Release found (reply.NotMine mark) refl
+
+  pub row : (op : Op) (mark : Mark) (stamp : ℕ)
+      → Row s number op (record { mark = mark; stamp = stamp }) (λ room. transition s room number op mark stamp)
+  row op (Up count) stamp = row-up op count stamp
+  row op (Soft owner) stamp =
+      either op _ (eqb owner number) (λ room. on_own_soft number op) (λ room. on_others op (Soft owner))
+      (λ mine.
+      let P : ℕ → Type 0 = λ it. Row s number op (record { mark = Soft it; stamp = stamp }) (λ room. on_own_soft number op) in
+      subst P (sym (eqb-true owner number mine)) (row-own_soft op stamp))
+      (λ theirs. row-others op _ (Soft owner) refl)
+  row op (Hard owner) stamp =
+      either op _ (eqb owner number) (λ room. on_own_hard number op) (λ room. on_others op (Hard owner))
+      (λ mine.
+      let P : ℕ → Type 0 = λ it. Row s number op (record { mark = Hard it; stamp = stamp }) (λ room. on_own_hard number op) in
+      subst P (sym (eqb-true owner number mine)) (row-own_hard op stamp))
+      (λ theirs. row-others op _ (Hard owner) refl)
+
+-- ---- replies of the tracker
+
+-- a transition where there are so many soft marks: no reply is Contended, and Full only where no room is left
+pub record IsSound (s : Settings) (softs : ℕ) (given : Transition) : Type 0 where
+  pub contended : given.reply ≢ reply.Contended
+  pub full : given.reply ≡ reply.Full → s.limit ≤ softs
+
+pub transition-sound : (s : Settings) (softs number : ℕ) (op : Op) (mark : Mark) (stamp : ℕ)
+    → IsSound s softs (transition s (has_room s softs) number op mark stamp)
+transition-sound s softs number op mark stamp = sound (row s number op mark stamp)
+  where
+    P : Transition → Type 0
+    P = IsSound s softs
+
+    puts-sound : (new : Mark) (answer : Reply) → is_plain answer ≡ true → P (becomes new answer)
+    puts-sound new answer plain =
+        record { contended = plain≢ answer reply.Contended plain refl; full = λ e. absurd (plain≢ answer reply.Full plain refl e) }
+
+    sound : Row s number op (record { mark = mark; stamp = stamp }) (λ room. transition s room number op mark stamp)
+        → P (transition s (has_room s softs) number op mark stamp)
+    sound (Stays answer plain is) =
+        subst P (sym (is (has_room s softs))) (record { contended = plain.contended; full = λ e. absurd (plain.full e) })
+    sound (Takes soft fresh is) =
+        subst P (sym (is (has_room s softs)))
+        (cond_both (ltb softs s.limit) (becomes (Soft number) reply.TookSoft) (stays reply.Full) P
+        (λ room. puts-sound (Soft number) reply.TookSoft refl)
+        (λ above. record { contended = λ e. cc; full = λ e. ltb-false softs s.limit above }))
+    sound (Reads new answer put can by is) = subst P (sym (is (has_room s softs))) (puts-sound new answer put.plain)
+    sound (Loosens new answer put can own is) = subst P (sym (is (has_room s softs))) (puts-sound new answer put.plain)
+
+-- ---- the first look of a try
 
 -- on what it found, the operation answers and changes this, whatever room there is
 abbrev pub Decides : Settings → ℕ → Op → ServerState → Transition → Type 0
@@ -28,99 +214,34 @@ abbrev pub Marks : Settings → ℕ → Op → ServerState → Type 0
 Marks s number op found =
     (room : Bool) → transition s room number op found.mark found.stamp ≡ cond room (becomes (Soft number) reply.TookSoft) (stays reply.Full)
 
--- what a phase that follows the first look says of the operation
-abbrev pub SaysAt : Settings → ℕ → Op → ServerState → Phase → Type 0
-SaysAt s number op now (Read found mark answer) = (found ≡ now) × Decides s number op found (becomes mark answer)
-SaysAt s number op now (Loosening found mark answer) = (found ≡ now) × Decides s number op found (becomes mark answer)
-SaysAt s number op now (AtThreshold found) = (found ≡ now) × Marks s number op found
-SaysAt s number op now phase = ⊥
+unmarked-soft : (number : ℕ) (now found : ServerState) (mark : Mark) → IsFoundBy number now found mark → is_soft mark ≡ false
+unmarked-soft number now found (Up count) by = refl
+unmarked-soft number now found (Soft owner) by = absurd by
+unmarked-soft number now found (Hard owner) by = refl
 
-abbrev pub Says : Settings → ℕ → Op → ServerState → Decision → Type 0
-Says s number op now (Goes lost phase) = SaysAt s number op now phase
-Says s number op now (Answers answer) = Decides s number op now (stays answer)
+-- what holds of each thing that the look may lead to
+pub from_start-is : (s : Settings) (call : Call) (found : ServerState) (P : Decision → Type 0)
+    → ((answer : Reply) → IsAnswer found.mark answer → Decides s call.number call.op found (stays answer) → P (Answers answer))
+    → (call.op ≡ SoftFailure → IsFresh found → Marks s call.number call.op found → P (goes call (AtThreshold found)))
+    → ((mark : Mark) (answer : Reply) → IsPut s call.number found mark answer → CanRead call.op call.number found.mark
+    → IsFoundBy call.number found found found.mark → Decides s call.number call.op found (becomes mark answer)
+    → P (goes call (Read found mark answer)))
+    → ((mark : Mark) (answer : Reply) → IsPut s call.number found mark answer → CanLoosen call.op → found.mark ≡ Soft call.number
+    → Decides s call.number call.op found (becomes mark answer) → P (goes call (Loosening found mark answer)))
+    → P (from_start s call found)
+from_start-is s call found P answers marks reads loosens = by_row (row s call.number call.op found.mark found.stamp)
+  where
+    Q : Transition → Type 0
+    Q given = P (sets_out call found given.reply given.change)
 
-others-Soft : (op : Op) (owner : ℕ) → others_transition op (Soft owner) ≡ stays (on_others op (Soft owner))
-others-Soft LookUp owner = refl
-others-Soft SoftFailure owner = refl
-others-Soft HardFailure owner = refl
-others-Soft Success owner = refl
-others-Soft Release owner = refl
-
-others-Hard : (op : Op) (owner : ℕ) → others_transition op (Hard owner) ≡ stays (on_others op (Hard owner))
-others-Hard LookUp owner = refl
-others-Hard SoftFailure owner = refl
-others-Hard HardFailure owner = refl
-others-Hard Success owner = refl
-others-Hard Release owner = refl
-
-module _ (s : Settings) (call : Call) (now : ServerState) where
-  -- the transition on a server with this mark
-  abbrev on : Bool → Op → Mark → Transition
-  on room op mark = transition s room call.number op mark now.stamp
-
-  -- on an unmarked server
-  says-up : (op : Op) (count : ℕ) → now.mark ≡ Up count → Says s call.number op now (from_up_by op s call now count)
-  says-up LookUp count is = λ room. ap (on room LookUp) is
-  says-up SoftFailure count is =
-      let P : Decision → Type 0 = Says s call.number SoftFailure now in
-      cond_both (leb worn now.stamp) (Answers reply.Worn)
-      (cond (ltb (count + 1) s.failures) (goes call (Read now (Up (count + 1)) (reply.Counted (count + 1)))) (goes call (AtThreshold now))) P
-      (λ old. λ room. ap (on room SoftFailure) is ∙ cond-true _ _ _ old)
-      (λ fresh.
-      cond_both (ltb (count + 1) s.failures) (goes call (Read now (Up (count + 1)) (reply.Counted (count + 1)))) (goes call (AtThreshold now)) P
-      (λ low. (refl, λ room. ap (on room SoftFailure) is ∙ cond-false _ _ _ fresh ∙ cond-true _ _ _ low))
-      (λ last. (refl, λ room. ap (on room SoftFailure) is ∙ cond-false _ _ _ fresh ∙ cond-false _ _ _ last)))
-  says-up HardFailure count is =
-      cond_both (leb worn now.stamp) (Answers reply.Worn) (goes call (Read now (Hard call.number) reply.TookHard)) (Says s call.number HardFailure now)
-      (λ old. λ room. ap (on room HardFailure) is ∙ cond-true _ _ _ old)
-      (λ fresh. (refl, λ room. ap (on room HardFailure) is ∙ cond-false _ _ _ fresh))
-  says-up Success count is =
-      let P : Decision → Type 0 = Says s call.number Success now in
-      cond_both (eqb count 0) (Answers reply.Clean) (unless_worn now (goes call (Read now (Up 0) (reply.Reset count)))) P
-      (λ clean. λ room. ap (on room Success) is ∙ cond-true _ _ _ clean)
-      (λ counted.
-      cond_both (leb worn now.stamp) (Answers reply.Worn) (goes call (Read now (Up 0) (reply.Reset count))) P
-      (λ old. λ room. ap (on room Success) is ∙ cond-false _ _ _ counted ∙ cond-true _ _ _ old)
-      (λ fresh. (refl, λ room. ap (on room Success) is ∙ cond-false _ _ _ counted ∙ cond-false _ _ _ fresh)))
-  says-up Release count is = λ room. ap (on room Release) is ∙ ap (λ m. stays (reply.NotMine m)) (sym is)
-
-  -- on the thread's own soft mark
-  says-own_soft : (op : Op) → now.mark ≡ Soft call.number
-      → ((room : Bool) → on room op now.mark ≡ own_soft_transition call.number op)
-      → Says s call.number op now (on_own_soft_by op call now)
-  says-own_soft LookUp is own = λ room. own room ∙ ap (λ m. stays (reply.Marked m)) (sym is)
-  says-own_soft SoftFailure is own = λ room. own room ∙ ap (λ m. stays (reply.Already m)) (sym is)
-  says-own_soft HardFailure is own = (refl, own)
-  says-own_soft Success is own = (refl, λ room. own room ∙ ap (λ m. becomes (Up 0) (reply.Unmarked m)) (sym is))
-  says-own_soft Release is own = (refl, λ room. own room ∙ ap (λ m. becomes (Up 0) (reply.Released m)) (sym is))
-
-  -- on the thread's own hard mark
-  says-own_hard : (op : Op) → now.mark ≡ Hard call.number
-      → ((room : Bool) → on room op now.mark ≡ own_hard_transition call.number op)
-      → Says s call.number op now (on_own_hard_by op call now)
-  says-own_hard LookUp is own = λ room. own room ∙ ap (λ m. stays (reply.Marked m)) (sym is)
-  says-own_hard SoftFailure is own = λ room. own room ∙ ap (λ m. stays (reply.Already m)) (sym is)
-  says-own_hard HardFailure is own = λ room. own room ∙ ap (λ m. stays (reply.Already m)) (sym is)
-  says-own_hard Success is own = (refl, λ room. own room ∙ ap (λ m. becomes (Up 0) (reply.Unmarked m)) (sym is))
-  says-own_hard Release is own = (refl, λ room. own room ∙ ap (λ m. becomes (Up 0) (reply.Released m)) (sym is))
-
-  says-mark : (mark : Mark) → now.mark ≡ mark → Says s call.number call.op now (from_mark mark s call now)
-  says-mark (Up count) is = says-up call.op count is
-  says-mark (Soft owner) is =
-      cond_both (eqb owner call.number) (on_own_soft_by call.op call now) (Answers (on_others call.op now.mark)) (Says s call.number call.op now)
-      (λ mine.
-      let same : now.mark ≡ Soft call.number = is ∙ ap Soft (eqb-true owner call.number mine) in
-      says-own_soft call.op same (λ room. ap (on room call.op) is ∙ cond-true _ _ _ mine))
-      (λ theirs. λ room.
-      ap (on room call.op) is ∙ cond-false _ _ _ theirs ∙ others-Soft call.op owner ∙ ap (λ m. stays (on_others call.op m)) (sym is))
-  says-mark (Hard owner) is =
-      cond_both (eqb owner call.number) (on_own_hard_by call.op call now) (Answers (on_others call.op now.mark)) (Says s call.number call.op now)
-      (λ mine.
-      let same : now.mark ≡ Hard call.number = is ∙ ap Hard (eqb-true owner call.number mine) in
-      says-own_hard call.op same (λ room. ap (on room call.op) is ∙ cond-true _ _ _ mine))
-      (λ theirs. λ room.
-      ap (on room call.op) is ∙ cond-false _ _ _ theirs ∙ others-Hard call.op owner ∙ ap (λ m. stays (on_others call.op m)) (sym is))
-
-  -- what the first look decides
-  pub Says-from_start : Says s call.number call.op now (from_start s call now)
-  Says-from_start = says-mark now.mark refl
+    by_row : Row s call.number call.op found (λ room. transition s room call.number call.op found.mark found.stamp) → P (from_start s call found)
+    by_row (Stays answer is_answer is) = subst Q (sym (is true)) (answers answer is_answer is)
+    by_row (Takes soft fresh is) = subst Q (sym (is true)) (marks soft fresh is)
+    by_row (Reads mark answer put can by is) =
+        let to : puts call found mark answer ≡ goes call (Read found mark answer) =
+        cond-false _ _ _ put.soft ∙ cond-false _ _ _ (unmarked-soft call.number found found found.mark by) in
+        subst Q (sym (is true)) (subst P (sym to) (reads mark answer put can by is))
+    by_row (Loosens mark answer put can own is) =
+        let to : puts call found mark answer ≡ goes call (Loosening found mark answer) =
+        cond-false _ _ _ put.soft ∙ cond-true _ _ _ (ap is_soft own) in
+        subst Q (sym (is true)) (subst P (sym to) (loosens mark answer put can own is))

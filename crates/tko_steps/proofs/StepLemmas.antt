@@ -1,7 +1,6 @@
 -- A step changes one word, to what that word alone decides.
 use Rattle.std.proofs.Common.{◌≡◌, ℕ, ◌<◌, Bool, true, false, cond, ◌+◌, List, length, set, refl, sym, ap, get_or-set_same}
 use Rattle.std.proofs.lemmas.List.{set-get_or}
-use Rattle.tko_model.specs.declared.mark.Mark.TheVariants.{Up}
 use Rattle.tko_model.specs.declared.state.ServerState.{ServerState}
 use Rattle.tko_model.specs.Tracker.{server_at}
 use Rattle.tko_steps.specs.declared.step.Word.TheVariants as word
@@ -15,9 +14,7 @@ use Rattle.tko_steps.specs.declared.step.Word.{Word}
 use Rattle.tko_steps.specs.Core.{CoreState, IsOnOneWord, IsPlace, Shared, found_by, follows, seen_by, shared_after, reported_by_act, word_at}
 use Rattle.tko_steps.specs.Steps.{answer_of, is_done, kind_of, place_of, word_after}
 use Rattle.tko_steps.specs.Table.{action_of, same_server}
-
-abbrev unread : ServerState
-unread = record { mark = Up 0; stamp = 0 }
+use Rattle.tko_steps.proofs.CountLemmas.{unread}
 
 -- these servers in place of the others
 abbrev with_servers : Shared → List ServerState → Shared

@@ -4,40 +4,34 @@ use Rattle.std.proofs.lemmas.Bool.{cond-false, cond-true}
 use Rattle.tko_model.specs.declared.mark.Mark.{Mark}
 use Rattle.tko_model.specs.declared.mark.Mark.TheVariants.{Up, Soft, Hard}
 use Rattle.tko_model.specs.declared.settings.Settings.{Settings}
+use Rattle.tko_steps.specs.declared.step.Kind.{Kind}
+use Rattle.tko_steps.specs.declared.step.Kind.TheVariants as kind
 use Rattle.tko_steps.specs.declared.step.Place.{Place}
 use Rattle.tko_steps.specs.declared.step.Word.{Word}
 use Rattle.tko_steps.specs.Steps.{kind_of_exchange}
 use Rattle.tko_steps.specs.Lost.{holds_after, holds_slot, is_exchange, is_give, is_look, last_look, loses_try, lost_tries, owes_slot, same_place}
 use Rattle.tko_steps.specs.Runs.{OwnStep, StepTaken}
 
+-- what holds of a count, a mark and an own step holds of each exchange of a server's word
+pub by_exchange : (P : Kind → Type 0) → P kind.Count → P kind.Mark → P kind.Own → (old new : Mark) → P (kind_of_exchange old new)
+by_exchange P counts marks own (Up a) (Up b) = counts
+by_exchange P counts marks own (Up a) (Soft b) = marks
+by_exchange P counts marks own (Up a) (Hard b) = marks
+by_exchange P counts marks own (Soft a) new = own
+by_exchange P counts marks own (Hard a) new = own
+
 pub exchange-not_look : (old new : Mark) → is_look (kind_of_exchange old new) ≡ false
-exchange-not_look (Up a) (Up b) = refl
-exchange-not_look (Up a) (Soft b) = refl
-exchange-not_look (Up a) (Hard b) = refl
-exchange-not_look (Soft a) new = refl
-exchange-not_look (Hard a) new = refl
+exchange-not_look = by_exchange (λ it. is_look it ≡ false) refl refl refl
 
 pub exchange-is_exchange : (old new : Mark) → is_exchange (kind_of_exchange old new) ≡ true
-exchange-is_exchange (Up a) (Up b) = refl
-exchange-is_exchange (Up a) (Soft b) = refl
-exchange-is_exchange (Up a) (Hard b) = refl
-exchange-is_exchange (Soft a) new = refl
-exchange-is_exchange (Hard a) new = refl
+exchange-is_exchange = by_exchange (λ it. is_exchange it ≡ true) refl refl refl
 
 pub exchange-no_give : (old new : Mark) → is_give (kind_of_exchange old new) ≡ false
-exchange-no_give (Up a) (Up b) = refl
-exchange-no_give (Up a) (Soft b) = refl
-exchange-no_give (Up a) (Hard b) = refl
-exchange-no_give (Soft a) new = refl
-exchange-no_give (Hard a) new = refl
+exchange-no_give = by_exchange (λ it. is_give it ≡ false) refl refl refl
 
 -- an exchange of a server's word leaves what the call holds
 pub exchange-holds : (old new : Mark) (won held : Bool) → holds_after (kind_of_exchange old new) won held ≡ held
-exchange-holds (Up a) (Up b) won held = refl
-exchange-holds (Up a) (Soft b) won held = refl
-exchange-holds (Up a) (Hard b) won held = refl
-exchange-holds (Soft a) new won held = refl
-exchange-holds (Hard a) new won held = refl
+exchange-holds old new won held = by_exchange (λ it. holds_after it won held ≡ held) refl refl refl old new
 
 or_false : (b : Bool) → (b || false) ≡ b
 or_false true = refl

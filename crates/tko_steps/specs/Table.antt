@@ -1,15 +1,13 @@
 -- The table of phases: the step that a call takes from its phase, and what follows from what that
 -- step read.
-use Rattle.std.specs.Prelude.{ℕ, ◌+◌, Bool, false, ◌==◌, ◌&&◌, nat_le, nat_lt, if◌then◌else◌}
+use Rattle.std.specs.Prelude.{ℕ, ◌+◌, Bool, true, false, ◌==◌, ◌&&◌, if◌then◌else◌, Option, Some, None}
 use Rattle.tko_model.specs.declared.mark.Mark.{Mark}
 use Rattle.tko_model.specs.declared.mark.Mark.TheVariants.{Up, Soft, Hard}
-use Rattle.tko_model.specs.declared.mark.Op.{Op}
-use Rattle.tko_model.specs.declared.mark.Op.TheVariants.{LookUp, SoftFailure, HardFailure, Success, Release}
 use Rattle.tko_model.specs.declared.mark.Reply.{Reply}
 use Rattle.tko_model.specs.declared.mark.Reply.TheVariants as reply
 use Rattle.tko_model.specs.declared.state.ServerState.{ServerState}
 use Rattle.tko_model.specs.declared.settings.Settings.{Settings}
-use Rattle.tko_model.specs.Ranges.{worn}
+use Rattle.tko_model.specs.Tracker.{is_soft, transition}
 use Rattle.tko_steps.specs.declared.table.Action.{Action}
 use Rattle.tko_steps.specs.declared.table.Action.TheVariants as action
 use Rattle.tko_steps.specs.declared.table.Decision.{Decision}
@@ -58,73 +56,27 @@ abbrev pub lost_try : Settings → Call → Decision
 lost_try s call =
     if s.tries == (call.lost + 1) then Answers reply.Contended else Goes (call.lost + 1) Start
 
--- on a server that another thread marked
-abbrev pub on_others : Op → Mark → Reply
-on_others LookUp mark = reply.Marked mark
-on_others SoftFailure mark = reply.Already mark
-on_others HardFailure mark = reply.Already mark
-on_others Success mark = reply.Already mark
-on_others Release mark = reply.NotMine mark
+-- a call that is to put this mark, with this reply, in the place of what it found: a soft mark needs
+-- a slot first, the thread's own soft mark is loosened first, and any other is exchanged at once
+abbrev pub puts : Call → ServerState → Mark → Reply → Decision
+puts call found mark answer =
+    if is_soft mark
+    then goes call (AtThreshold found)
+    else (if is_soft found.mark
+    then goes call (Loosening found mark answer)
+    else goes call (Read found mark answer))
 
--- on the thread's own soft mark; an operation that gives it up loosens it first
-abbrev pub on_own_soft_by : Op → Call → ServerState → Decision
-on_own_soft_by LookUp call found = Answers (reply.Marked found.mark)
-on_own_soft_by SoftFailure call found = Answers (reply.Already found.mark)
-on_own_soft_by HardFailure call found =
-    goes call (Loosening found (Hard call.number) reply.Hardened)
-on_own_soft_by Success call found =
-    goes call (Loosening found (Up 0) (reply.Unmarked found.mark))
-on_own_soft_by Release call found =
-    goes call (Loosening found (Up 0) (reply.Released found.mark))
+-- a call that is to do what the sequential tracker does on what it found
+abbrev pub sets_out : Call → ServerState → Reply → Option Mark → Decision
+sets_out call found answer None = Answers answer
+sets_out call found answer (Some mark) = puts call found mark answer
 
-abbrev pub on_own_soft : Call → ServerState → Decision
-on_own_soft call found = on_own_soft_by call.op call found
-
--- on the thread's own hard mark
-abbrev pub on_own_hard_by : Op → Call → ServerState → Decision
-on_own_hard_by LookUp call found = Answers (reply.Marked found.mark)
-on_own_hard_by SoftFailure call found = Answers (reply.Already found.mark)
-on_own_hard_by HardFailure call found = Answers (reply.Already found.mark)
-on_own_hard_by Success call found = goes call (Read found (Up 0) (reply.Unmarked found.mark))
-on_own_hard_by Release call found = goes call (Read found (Up 0) (reply.Released found.mark))
-
-abbrev pub on_own_hard : Call → ServerState → Decision
-on_own_hard call found = on_own_hard_by call.op call found
-
--- a worn server takes no change
-abbrev pub unless_worn : ServerState → Decision → Decision
-unless_worn found following = if nat_le worn found.stamp then Answers reply.Worn else following
-
--- on an unmarked server with this count of soft failures
-abbrev pub from_up_by : Op → Settings → Call → ServerState → ℕ → Decision
-from_up_by LookUp s call found count = Answers (reply.Up count)
-from_up_by SoftFailure s call found count =
-    unless_worn
-    found
-    (if nat_lt (count + 1) s.failures
-    then goes call (Read found (Up (count + 1)) (reply.Counted (count + 1)))
-    else goes call (AtThreshold found))
-from_up_by HardFailure s call found count =
-    unless_worn found (goes call (Read found (Hard call.number) reply.TookHard))
-from_up_by Success s call found count =
-    if count == 0
-    then Answers reply.Clean
-    else unless_worn found (goes call (Read found (Up 0) (reply.Reset count)))
-from_up_by Release s call found count = Answers (reply.NotMine found.mark)
-
-abbrev pub from_up : Settings → Call → ServerState → ℕ → Decision
-from_up s call found count = from_up_by call.op s call found count
-
--- the first look found the server with this mark
-abbrev pub from_mark : Mark → Settings → Call → ServerState → Decision
-from_mark (Up count) s call found = from_up s call found count
-from_mark (Soft owner) s call found =
-    if owner == call.number then on_own_soft call found else Answers (on_others call.op found.mark)
-from_mark (Hard owner) s call found =
-    if owner == call.number then on_own_hard call found else Answers (on_others call.op found.mark)
-
+-- the first look found the server like this, where the sequential tracker makes a soft mark if there
+-- is room for one more
 abbrev pub from_start : Settings → Call → ServerState → Decision
-from_start s call found = from_mark found.mark s call found
+from_start s call found =
+    let given = transition s true call.number call.op found.mark found.stamp in
+    sets_out call found given.reply given.change
 
 -- a soft failure that would mark found these counts
 abbrev pub at_threshold : Settings → Call → ServerState → Slots → Decision

@@ -1,10 +1,9 @@
 //! The one decision: what a call does after each of its steps.
 ghost use Rattle.std.specs.Prelude.{◌≡◌, ◌<◌};
-ghost use Rattle.tko_model.specs.Ranges.{IsWithinRanges};
-ghost use Rattle.tko_steps.specs.Table.{action_of, after_change, after_look, after_slots, at_threshold, from_start, from_up, goes, lost_try, next_of, on_others, on_own_hard, on_own_soft, same_server};
+ghost use Rattle.tko_steps.specs.Table.{action_of, after_change, after_look, after_slots, at_threshold, from_start, goes, lost_try, next_of, puts, same_server};
 
 use crate::{Call, Kind, Phase, Place, Slots, ThreadState};
-use tko_model::{Mark, Op, Reply, ServerState, Settings, WORN_STAMP};
+use tko_model::{Mark, Reply, ServerState, Settings, Transition};
 
 /// One step on one word.
 #[derive(Clone, Copy)]
@@ -148,8 +147,7 @@ impl Phase {
 
 /// What a call does once the step of its phase has read this.
 pub fn next(settings: &Settings, call: &Call, phase: Phase, seen: Observed) -> Decision
-    requires settings { IsWithinRanges settings.now }
-    requires tries { call.now.lost < settings.now.tries }
+    requires { call.now.lost < settings.now.tries }
     ensures { result ≡ next_of settings.now call.now phase seen }
 {
     match seen {
@@ -161,8 +159,7 @@ pub fn next(settings: &Settings, call: &Call, phase: Phase, seen: Observed) -> D
 
 /// It loaded the server's word.
 fn after_look(settings: &Settings, call: &Call, phase: Phase, found: ServerState) -> Decision
-    requires settings { IsWithinRanges settings.now }
-    requires tries { call.now.lost < settings.now.tries }
+    requires { call.now.lost < settings.now.tries }
     ensures { result ≡ after_look settings.now call.now phase found }
 {
     match phase {
@@ -228,80 +225,29 @@ fn lost_try(settings: &Settings, call: &Call) -> Decision
     }
 }
 
-/// The first look found the server like this.
+/// The first look found the server like this: the call sets out to do what the sequential tracker
+/// does there, which makes a soft mark if there is room for one more.
 fn from_start(settings: &Settings, call: &Call, found: ServerState) -> Decision
-    requires { IsWithinRanges settings.now }
     ensures { result ≡ from_start settings.now call.now found }
 {
-    match found.mark {
-        Mark::Up(count) => from_up(settings, call, found, count),
-        Mark::Soft(owner) if owner == call.number => on_own_soft(call, found),
-        Mark::Hard(owner) if owner == call.number => on_own_hard(call, found),
-        Mark::Soft(_) | Mark::Hard(_) => Decision::Answers(on_others(call.op, found.mark)),
+    let given = Transition::of(settings, true, call.number, call.op, found);
+    match given.change {
+        None => Decision::Answers(given.reply),
+        Some(mark) => puts(call, found, mark, given.reply),
     }
 }
 
-/// On a server that another thread marked.
-fn on_others(op: Op, mark: Mark) -> Reply
-    ensures { result ≡ on_others op mark }
+/// The call is to put this mark in the place of what it found: a soft mark needs a slot first, and
+/// the thread's own soft mark is loosened first.
+fn puts(call: &Call, found: ServerState, mark: Mark, reply: Reply) -> Decision
+    ensures { result ≡ puts call.now found mark reply }
 {
-    match op {
-        Op::LookUp => Reply::Marked(mark),
-        Op::Release => Reply::NotMine(mark),
-        Op::SoftFailure | Op::HardFailure | Op::Success => Reply::Already(mark),
-    }
-}
-
-fn on_own_soft(call: &Call, found: ServerState) -> Decision
-    ensures { result ≡ on_own_soft call.now found }
-{
-    let (mark, reply) = match call.op {
-        Op::LookUp => return Decision::Answers(Reply::Marked(found.mark)),
-        Op::SoftFailure => return Decision::Answers(Reply::Already(found.mark)),
-        Op::HardFailure => (Mark::Hard(call.number), Reply::Hardened),
-        Op::Success => (Mark::Up(0), Reply::Unmarked(found.mark)),
-        Op::Release => (Mark::Up(0), Reply::Released(found.mark)),
+    let phase = match (found.mark, mark) {
+        (_, Mark::Soft(_)) => Phase::AtThreshold { found },
+        (Mark::Soft(_), _) => Phase::Loosening { found, mark, reply },
+        _ => Phase::Read { found, mark, reply },
     };
-    goes(call, Phase::Loosening { found, mark, reply })
-}
-
-fn on_own_hard(call: &Call, found: ServerState) -> Decision
-    ensures { result ≡ on_own_hard call.now found }
-{
-    let reply = match call.op {
-        Op::LookUp => return Decision::Answers(Reply::Marked(found.mark)),
-        Op::SoftFailure | Op::HardFailure => return Decision::Answers(Reply::Already(found.mark)),
-        Op::Success => Reply::Unmarked(found.mark),
-        Op::Release => Reply::Released(found.mark),
-    };
-    goes(
-        call,
-        Phase::Read {
-            found,
-            mark: Mark::Up(0),
-            reply,
-        },
-    )
-}
-
-/// On an unmarked server with this count of soft failures.
-fn from_up(settings: &Settings, call: &Call, found: ServerState, count: u32) -> Decision
-    requires { IsWithinRanges settings.now }
-    ensures { result ≡ from_up settings.now call.now found count }
-{
-    let (mark, reply) = match call.op {
-        Op::LookUp => return Decision::Answers(Reply::Up(count)),
-        Op::Release => return Decision::Answers(Reply::NotMine(found.mark)),
-        Op::Success if count == 0 => return Decision::Answers(Reply::Clean),
-        _ if found.stamp >= WORN_STAMP => return Decision::Answers(Reply::Worn),
-        Op::SoftFailure if count >= settings.failures - 1 => {
-            return goes(call, Phase::AtThreshold { found });
-        }
-        Op::SoftFailure => (Mark::Up(count + 1), Reply::Counted(count + 1)),
-        Op::HardFailure => (Mark::Hard(call.number), Reply::TookHard),
-        Op::Success => (Mark::Up(0), Reply::Reset(count)),
-    };
-    goes(call, Phase::Read { found, mark, reply })
+    goes(call, phase)
 }
 
 /// A soft mark may be made where a slot is left, and none where as many are settled as may be.

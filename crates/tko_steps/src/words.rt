@@ -6,7 +6,7 @@ ghost use Rattle.tko_steps.specs.Table.{same_server, same_slots};
 ghost use Rattle.tko_word.specs.Words.{IsMark, stamp_end};
 
 use crate::table::is_same;
-use crate::{Action, Place, Observed, Slots, Word};
+use crate::{Action, Observed, Place, Slots, Word};
 use std::alloc::{AllocError, Global};
 use std::marker::Model;
 use tko_model::{Mark, ServerState, Settings};

@@ -82,14 +82,19 @@ taken-look s words new_words views id pass call phase found kept there op begins
       new = taken.new;
       kept = subst (IsKept s new_words) (set_twice views id (pass_now ∷ []) (taken.new ∷ [])) taken.kept;
       takes = record {
-        shared = takes.shared;
+        core = takes.core;
+        is_found = record {
+          is = takes.is_found.is;
+          settings = takes.is_found.settings;
+          thread = takes.is_found.thread;
+          inside = takes.is_found.inside;
+          stands = takes.is_found.stands;
+        };
         between = takes.between;
         others = takes.others;
         drawn = takes.drawn;
         found = takes.found;
         reads = takes.reads;
-        settled = takes.settled;
-        limit = takes.limit;
         left = takes.left;
         own = takes.own;
         gained = takes.gained;

@@ -24,7 +24,7 @@ use Rattle.tko_steps.specs.Core.{Shared, seen_by}
 use Rattle.tko_steps.specs.Invariant.{IsPhase}
 use Rattle.tko_steps.specs.Steps.{is_done, state_after}
 use Rattle.tko_steps.specs.Table.{action_of, from_start, goes, lost_try, next_of, same_server, same_slots}
-use Rattle.tko_steps.proofs.StartLemmas.{Says, Says-from_start}
+use Rattle.tko_steps.proofs.StartLemmas.{from_start-is}
 use Rattle.tko_steps.proofs.TableLemmas.{eq-same_server}
 use Rattle.tko_table.specs.declared.pass.Change.{Change}
 use Rattle.tko_table.specs.declared.pass.Made.{Made}
@@ -146,7 +146,7 @@ changes_in-append number (made ∷ one) other =
 
 -- ---- what a step adds
 
-by_test : (P : Bool → Type 0) (test : Bool) → (test ≡ true → P true) → (test ≡ false → P false) → P test
+pub by_test : (P : Bool → Type 0) (test : Bool) → (test ≡ true → P true) → (test ≡ false → P false) → P test
 by_test P test one other =
     elim (cases_Bool test) as (λ it. P test) [
       | inl e ↦ subst P (sym e) (one e)
@@ -158,19 +158,11 @@ abbrev pub IsCalm : Call → Decision → Type 0
 IsCalm call (Goes lost phase) = pending_at (record call { lost = lost }) phase ≡ []
 IsCalm call (Answers answer) = is_change answer ≡ false
 
-pub calm-start : (s : Settings) (call : Call) (now : ServerState) (decision : Decision) → Says s call.number call.op now decision → IsCalm call decision
-calm-start s call now (Answers answer) says = stays-no_change s true call.number call.op now.mark now.stamp answer (says true)
-calm-start s call now (Goes lost Start) says = refl
-calm-start s call now (Goes lost (Read found mark answer)) says = refl
-calm-start s call now (Goes lost (AtThreshold found)) says = refl
-calm-start s call now (Goes lost (Limit found)) says = refl
-calm-start s call now (Goes lost (Reserving found slots)) says = refl
-calm-start s call now (Goes lost (Holding found)) says = refl
-calm-start s call now (Goes lost Firming) says = absurd says
-calm-start s call now (Goes lost Losing) says = refl
-calm-start s call now (Goes lost (Loosening found mark answer)) says = refl
-calm-start s call now (Goes lost (Loosened found mark answer)) says = refl
-calm-start s call now (Goes lost (Emptied answer)) says = absurd says
+pub calm-start : (s : Settings) (call : Call) (now : ServerState) → IsCalm call (from_start s call now)
+calm-start s call now =
+    from_start-is s call now (IsCalm call)
+    (λ answer is_answer is. stays-no_change s true call.number call.op now.mark now.stamp answer (is true))
+    (λ soft fresh is. refl) (λ mark answer put can by is. refl) (λ mark answer put can own is. refl)
 
 pub calm-lost_try : (s : Settings) (call : Call) → IsCalm call (lost_try s call)
 calm-lost_try s call =
@@ -230,7 +222,7 @@ module _ (s : Settings) (call : Call) (mine : List Made) (at : ℕ) where
       (changes_by call phase (is_done (seen_by shared call.server (action_of call.number phase))))
   told-next shared Start planned knows =
       let now = server_at shared.servers call.server in
-      calm-adds (from_start s call now) (calm-start s call now (from_start s call now) (Says-from_start s call now))
+      calm-adds (from_start s call now) (calm-start s call now)
   told-next shared (Read found mark answer) planned knows =
       let change = change_by call answer ∷ [] in
       by_test (λ won. Adds [] (cond won (Answers answer) (lost_try s call)) (cond won change []))

@@ -20,7 +20,7 @@ use Rattle.tko_steps.specs.Invariant.{IsCore, IsFoundBy, holds, is_loose}
 use Rattle.tko_steps.specs.Table.{action_of, same_server, same_slots}
 use Rattle.tko_steps.proofs.CoreLemmas.{free-found, free-fresh, knows_at, owners-written}
 use Rattle.tko_steps.proofs.CountLemmas.{bit}
-use Rattle.tko_steps.proofs.RunLemmas.{loose-le-holds}
+use Rattle.tko_steps.proofs.CoreLemmas.{loose-le-holds}
 use Rattle.tko_steps.proofs.TableLemmas.{same_server-true}
 use Rattle.tko_steps.proofs.ThreadLemmas.{count_by-moved}
 use Rattle.tko_table.specs.declared.pass.Change.{Change}

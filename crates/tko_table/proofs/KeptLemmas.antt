@@ -1,8 +1,7 @@
 -- The rule is kept by the step of a call.
-use Rattle.std.proofs.Common.{count_by, ltb, ◌≡◌, ℕ, ◌+◌, ◌<◌, cond, ◌≤◌, List, [], ◌∷◌, ◌++◌, length, get_or, set, All, Some, refl, sym, ap, ◌∙◌, subst, ⊎_elim, arith, length-set, get_or-set_same, get_or-set_other}
+use Rattle.std.proofs.Common.{count_by, ltb, ◌≡◌, ℕ, ◌+◌, ◌<◌, cond, List, [], ◌∷◌, ◌++◌, length, get_or, set, All, Some, refl, sym, ap, ◌∙◌, subst, ⊎_elim, arith, length-set, get_or-set_same, get_or-set_other}
 use Rattle.std.proofs.lemmas.Bool.{cases_eq}
 use Rattle.std.proofs.lemmas.List.{append-nil, append_cancel_left, get_or-map, length-map, map-set}
-use Rattle.std.proofs.lemmas.List.Sums.{sum_by-le-sum_by}
 use Rattle.std.proofs.lemmas.List.Elements.{All-append, All-tail, All-from_get_or, All-set, All-weaker}
 use mathlib.Core.Option.{some}
 use lib.ListN.{get_elem?}
@@ -23,11 +22,9 @@ use Rattle.tko_steps.specs.Core.{Shared, after_act, has_number, number_of, seen_
 use Rattle.tko_steps.specs.Steps.{owned_after as owned_after_core, place_of}
 use Rattle.tko_steps.proofs.OwnedLemmas.{own-step}
 use Rattle.tko_steps.specs.Steps.{is_done, state_after}
-use Rattle.tko_steps.specs.Invariant.{IsCore, IsPhase, holds, is_loose}
+use Rattle.tko_steps.specs.Invariant.{IsCore, IsPhase}
 use Rattle.tko_steps.specs.Table.{action_of, next_of}
 use Rattle.tko_steps.proofs.CoreLemmas.{IsCore-after_act, enrolled-le, knows_at}
-use Rattle.tko_steps.proofs.CountLemmas.{bit}
-use Rattle.tko_steps.proofs.RunLemmas.{loose-le-holds}
 use Rattle.tko_steps.proofs.ThreadLemmas.{number-lt, number-once}
 use Rattle.tko_table.specs.declared.pass.Change.{Change}
 use Rattle.tko_table.specs.declared.pass.Pass.{Pass}
@@ -291,9 +288,6 @@ module _ (s : Settings) (words new_words : List ℕ) (views : List (List Pass)) 
       (λ change less. omega (arith, less, le, ap (λ (it : Settings). it.threads) same_settings)) begins.rest
       (All-right_part (λ (change : Change). change.number < (shared_in words).enrolled) pass.seen begins.rest all)
 
-  loose_held : count_by is_loose (states_of (joined views)) ≤ count_by holds (states_of (joined views))
-  loose_held = sum_by-le-sum_by (λ state. bit (is_loose state)) (λ state. bit (holds state)) (states_of (joined views)) loose-le-holds
-
   -- the core's step leaves it the same servers to own
   gained : (server : ℕ) → owns pass_after.owned server
       ≡ owned_after_core call phase (word_at (shared_in words) (place_of call.server (action_of call.number phase))) (owns pass.owned) server
@@ -309,15 +303,14 @@ module _ (s : Settings) (words new_words : List ℕ) (views : List (List Pass)) 
   pub act-takes : Takes pass call phase it pass_after
   act-takes =
       record {
-        shared = shared_in words;
+        core = core_in s words (joined views);
+        is_found = record { is = kept.core.core; settings = sym same_settings; thread = one.place; inside = inside; stands = stands_in };
         between = begins.rest;
         found = subst (λ with_settings. Replays with_settings (pass.seen ++ begins.rest) (shared_in words).servers) (sym same_settings)
             (subst (λ history. Replays s history (shared_in words).servers) begins.is kept.told.replays);
         others = others_between;
         drawn = drawn_between;
         reads = refl;
-        settled = omega (arith, kept.core.core.firm);
-        limit = omega (arith, kept.core.core.firm, kept.core.core.held, kept.core.core.room, loose_held, ap (λ (it : Settings). it.limit) same_settings);
         left = subst (λ with_settings. Replays with_settings history_after (shared_after (shared_in words) call.server (action_of call.number phase)).servers)
             (sym same_settings)
             (subst (λ (shared : Shared). Replays s history_after shared.servers) left (replays_by effect));

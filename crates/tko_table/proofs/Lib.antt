@@ -8,6 +8,7 @@ pub mod HistoryLemmas
 pub mod JoinLemmas
 pub mod JoinedLemmas
 pub mod KeptLemmas
+pub mod LeadsLemmas
 pub mod OpenLemmas
 pub mod OpeningLemmas
 pub mod OwnedLemmas

@@ -14,7 +14,7 @@ use Rattle.tko_steps.specs.Steps.{state_after}
 use Rattle.tko_steps.specs.Table.{action_of, from_start, goes, lost_try, next_of, same_server}
 use Rattle.tko_model.specs.Tracker.{server_at}
 use Rattle.std.proofs.Common.{eqb, ◌+◌}
-use Rattle.tko_steps.proofs.StartLemmas.{Says, Says-from_start}
+use Rattle.tko_steps.proofs.StartLemmas.{from_start-is}
 use Rattle.tko_table.specs.Rule.{IsPlanned, IsPlannedAt}
 use Rattle.tko_table.proofs.ChangeLemmas.{puts-change}
 
@@ -22,20 +22,10 @@ use Rattle.tko_table.proofs.ChangeLemmas.{puts-change}
 abbrev pub Plans : Settings → Call → Decision → Type 0
 Plans s call decision = IsPlanned s (state_after call decision)
 
-plans-says : (s : Settings) (call : Call) (now : ServerState) (decision : Decision) → Says s call.number call.op now decision
-    → Plans s call decision
-plans-says s call now (Answers answer) says = tt
-plans-says s call now (Goes lost Start) says = tt
-plans-says s call now (Goes lost (Read found mark answer)) says = says.1
-plans-says s call now (Goes lost (AtThreshold found)) says = says.1
-plans-says s call now (Goes lost (Limit found)) says = absurd says
-plans-says s call now (Goes lost (Reserving found slots)) says = absurd says
-plans-says s call now (Goes lost (Holding found)) says = absurd says
-plans-says s call now (Goes lost Firming) says = tt
-plans-says s call now (Goes lost Losing) says = tt
-plans-says s call now (Goes lost (Loosening found mark answer)) says = says.1
-plans-says s call now (Goes lost (Loosened found mark answer)) says = absurd says
-plans-says s call now (Goes lost (Emptied answer)) says = absurd says
+plans-start : (s : Settings) (call : Call) (now : ServerState) → Plans s call (from_start s call now)
+plans-start s call now =
+    from_start-is s call now (Plans s call)
+    (λ answer is_answer is. tt) (λ soft fresh is. is) (λ mark answer put can by is. is) (λ mark answer put can own is. is)
 
 plans-lost_try : (s : Settings) (call : Call) → Plans s call (lost_try s call)
 plans-lost_try s call =
@@ -54,9 +44,7 @@ module _ (s : Settings) (call : Call) (shared : Shared) where
   Follows phase = Plans s call (next_of s call phase (seen_by shared call.server (action_of call.number phase)))
 
   pub plans-next : (phase : Phase) → IsPlannedAt s call phase → Follows phase
-  plans-next Start planned =
-      plans-says s call (server_at shared.servers call.server) (from_start s call (server_at shared.servers call.server))
-      (Says-from_start s call (server_at shared.servers call.server))
+  plans-next Start planned = plans-start s call (server_at shared.servers call.server)
   plans-next (Read found mark answer) planned =
       either s call (same_server (server_at shared.servers call.server) found) (Answers answer) (lost_try s call) tt (plans-lost_try s call)
   plans-next (AtThreshold found) planned =

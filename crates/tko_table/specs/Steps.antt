@@ -6,7 +6,7 @@ use Rattle.tko_model.specs.declared.mark.Mark.{Mark}
 use Rattle.tko_model.specs.declared.mark.Op.{Op}
 use Rattle.tko_model.specs.declared.settings.Settings.{Settings}
 use Rattle.tko_model.specs.declared.state.ServerState.{ServerState}
-use Rattle.tko_model.specs.Tracker.{IsFit, server_at, softs}
+use Rattle.tko_model.specs.Tracker.{IsFit, server_at}
 use Rattle.tko_word.specs.Words.{IsMark, IsMarkOf, IsWord, most_threads, server_in, stamp_end}
 use Rattle.tko_steps.specs.declared.phase.Call.{Call}
 use Rattle.tko_steps.specs.declared.phase.Phase.{Phase}
@@ -15,7 +15,8 @@ use Rattle.tko_steps.specs.declared.table.Action.{Action}
 use Rattle.tko_steps.specs.declared.table.Action.TheVariants.{LookAtServer, LookAtSlots, Exchange, Settle, Loosen}
 use Rattle.tko_steps.specs.declared.table.Observed.{Observed}
 use Rattle.tko_steps.specs.declared.table.Observed.TheVariants as read
-use Rattle.tko_steps.specs.Core.{Shared, seen_by, shared_after, word_at}
+use Rattle.tko_steps.specs.Core.{CoreState, seen_by, shared_after, thread_at, word_at}
+use Rattle.tko_steps.specs.Invariant.{IsCore}
 use Rattle.tko_steps.specs.Steps.{in_call, is_marked_state, seen_in, owned_after, place_of}
 use Rattle.tko_steps.specs.declared.step.Word.{Word}
 use Rattle.tko_steps.specs.declared.step.Word.TheVariants as held
@@ -45,39 +46,47 @@ held_by action number = held.Soft (slots_in number)
 abbrev pub read_in : Action → ℕ → Observed
 read_in action number = seen_in action (held_by action number)
 
--- a step of this call at this phase, by the pass of a thread: it finds the words of some core whose
+-- this state of the core, under these settings, meets the core's invariant, and the call of one of
+-- its threads is at this phase
+pub record IsFound (s : Settings) (call : Call) (phase : Phase) (core : CoreState) : Type 0 where
+  pub is : IsCore core
+  pub settings : core.settings ≡ s
+  pub thread : ℕ
+  pub inside : thread < length core.threads
+  pub stands : thread_at core thread ≡ InCall call phase
+
+-- a step of this call at this phase, by the pass of a thread: it finds a state of the core whose
 -- servers are the replay of the history, which begins with what the pass has seen; it reads and
 -- leaves what the core's step does; the pass has then seen the whole history, a change that the
 -- step makes goes last in it, and an answer goes last in the thread's calls
 pub record Takes (before : Pass) (call : Call) (phase : Phase) (it : Observed) (after : Pass)
     : Type 0
   where
-    pub shared : Shared
+    -- what the words hold, and the states of all threads
+    pub core : CoreState
+    pub is_found : IsFound before.settings call phase core
     -- the changes since the pass looked last, which are other threads'
     pub between : List Change
     pub others : made_by call.number between ≡ []
     pub drawn : All (λ change. change.number < before.settings.threads) between
-    pub found : Replays before.settings (before.seen ++ between) shared.servers
-    pub reads : it ≡ seen_by shared call.server (action_of call.number phase)
-    -- no more soft marks are settled than there are, nor are there more than the limit allows
-    pub settled : shared.slots.firm ≤ softs shared.servers
-    pub limit : softs shared.servers ≤ before.settings.limit
+    pub found : Replays before.settings (before.seen ++ between) core.shared.servers
+    pub reads : it ≡ seen_by core.shared call.server (action_of call.number phase)
     pub left :
         Replays
         before.settings
         after.seen
-        (shared_after shared call.server (action_of call.number phase)).servers
+        (shared_after core.shared call.server (action_of call.number phase)).servers
     -- the servers that its thread owns are those whose marks name it
     pub own : (server : ℕ) →
         owns before.owned server
-        ≡ is_marked_by (Some call.number) (server_at shared.servers server).mark
+        ≡ is_marked_by (Some call.number) (server_at core.shared.servers server).mark
     -- the servers that it then owns are those that the core's step leaves it
     pub gained : (server : ℕ) →
         owns after.owned server
         ≡ owned_after
         call
         phase
-        (word_at shared (place_of call.server (action_of call.number phase)))
+        (word_at core.shared (place_of call.server (action_of call.number phase)))
         (owns before.owned)
         server
     pub knows : after ≡ after_step before call phase it (before.seen ++ between)

@@ -21,7 +21,7 @@ use crate::values::{
 };
 use crate::{Seat, Words};
 use tko_model::{Mark, Op, ServerState};
-use tko_steps::{Action, Call, Phase, Observed, Slots};
+use tko_steps::{Action, Call, Observed, Phase, Slots};
 use tko_word::{pack_soft, unpack, unpack_soft};
 
 impl Words {

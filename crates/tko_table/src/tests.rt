@@ -16,7 +16,7 @@ use crate::{Seat, Words};
 use std::process::Abort;
 use std::test::Fail;
 use tko_model::{Mark, Op, OpenFault, Reply, ServerState, Settings, SettingsFault};
-use tko_steps::{Action, Call, Decision, Kind, Phase, Observed, Slots, ThreadState, next};
+use tko_steps::{Action, Call, Decision, Kind, Observed, Phase, Slots, ThreadState, next};
 
 const SETTINGS: Settings = Settings {
     servers: 1,

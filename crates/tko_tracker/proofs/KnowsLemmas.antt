@@ -1,6 +1,6 @@
 -- What is known of a call at each phase, over plain data: the steps that it took, the servers that its thread owns, and the words that it is about to write.
 use Rattle.std.proofs.Common.{◌≡◌, ℕ, ◌+◌, ◌-◌, ◌*◌, ◌<◌, ◌≤◌, Bool, true, false, cond, eqb, ltb, leb, List, ◌∷◌, Some, refl, sym, ap, ◌∙◌, subst, arith}
-use Rattle.std.proofs.lemmas.Bool.{cond-true, cond_both, eqb-false, ltb-true}
+use Rattle.std.proofs.lemmas.Bool.{cond-false, cond-true, cond_both, eqb-false, eqb-true, ltb-true}
 use Rattle.tko_model.specs.declared.mark.Mark.{Mark}
 use Rattle.tko_model.specs.declared.mark.Mark.TheVariants.{Up, Soft, Hard}
 use Rattle.tko_model.specs.declared.mark.Op.{Op}
@@ -9,8 +9,10 @@ use Rattle.tko_model.specs.declared.mark.Reply.{Reply}
 use Rattle.tko_model.specs.declared.mark.Reply.TheVariants as reply
 use Rattle.tko_model.specs.declared.settings.Settings.{Settings}
 use Rattle.tko_model.specs.declared.state.ServerState.{ServerState}
+use Rattle.tko_model.specs.declared.transition.Transition.{Transition}
+use Rattle.tko_model.specs.Looks.{look_reply}
 use Rattle.tko_model.specs.Ranges.{IsWithinRanges, worn}
-use Rattle.tko_model.specs.Tracker.{IsFit, server_at}
+use Rattle.tko_model.specs.Tracker.{IsFit, becomes, is_soft, on_others, on_own_hard, on_own_soft, on_unmarked, server_at, stays, transition}
 use Rattle.tko_word.specs.Words.{IsMark, IsMarkOf}
 use Rattle.tko_steps.specs.declared.phase.Call.{Call}
 use Rattle.tko_steps.specs.declared.phase.Phase.{Phase}
@@ -22,43 +24,17 @@ use Rattle.tko_steps.specs.declared.table.Observed.TheVariants as seen
 use Rattle.tko_steps.specs.Core.{Shared, seen_by}
 use Rattle.tko_steps.specs.Cost.{most_steps}
 use Rattle.tko_steps.specs.Steps.{is_done, is_marked_state}
-use Rattle.tko_steps.specs.Table.{action_of, from_mark, from_up_by, goes, lost_try, next_of, on_others, on_own_hard_by, on_own_soft_by, same_server, same_slots}
+use Rattle.tko_steps.specs.Table.{action_of, goes, lost_try, next_of, puts, same_server, same_slots, sets_out}
+use Rattle.tko_steps.proofs.CostLemmas.{depth, per_try}
+use Rattle.tko_steps.proofs.StartLemmas.{CanLoosen}
 use Rattle.tko_table.specs.Passes.{is_marked_by, owned_after, owned_with, owns, without}
 use Rattle.tko_table.specs.Steps.{IsSound, IsWritable}
 use Rattle.tko_tracker.specs.Calls.{answers_owner, can_answer, owned_left}
 use Rattle.tko_tracker.specs.Running.{CanWrite}
 
--- how many steps a lost try takes
-abbrev pub per_try : Op → ℕ
-per_try LookUp = 0
-per_try SoftFailure = 5
-per_try HardFailure = 2
-per_try Success = 2
-per_try Release = 0
-
--- how many steps of a try come before this phase
-abbrev pub depth : Phase → ℕ
-depth Start = 0
-depth (Read found mark answer) = 1
-depth (AtThreshold found) = 1
-depth (Limit found) = 2
-depth (Reserving found slots) = 2
-depth (Holding found) = 3
-depth Firming = 4
-depth Losing = 4
-depth (Loosening found mark answer) = 1
-depth (Loosened found mark answer) = 2
-depth (Emptied answer) = 3
-
 -- no call goes on for more steps than this
 abbrev pub left : Settings → ℕ → Phase → ℕ
 left s lost phase = 5 * (s.tries - lost) - depth phase
-
--- an operation that may give up its thread's mark
-abbrev CanGive : Op → Type 0
-CanGive LookUp = ⊥
-CanGive SoftFailure = ⊥
-CanGive op = Unit {0}
 
 -- an operation that may exchange a word with this mark
 abbrev CanExchange : Op → Mark → Type 0
@@ -83,11 +59,11 @@ KnowsAt op server base owned (Holding found) = (op ≡ SoftFailure) × (owned �
 KnowsAt op server base owned Firming = (op ≡ SoftFailure) × (owned ≡ server ∷ without server base)
 KnowsAt op server base owned Losing = (op ≡ SoftFailure) × (owned ≡ base)
 KnowsAt op server base owned (Loosening found mark answer) =
-    (owned ≡ base) × CanGive op × Leaves op mark answer × (is_marked_state found.mark ≡ true)
+    (owned ≡ base) × CanLoosen op × Leaves op mark answer × (is_marked_state found.mark ≡ true)
 KnowsAt op server base owned (Loosened found mark answer) =
-    (owned ≡ base) × CanGive op × Leaves op mark answer × (is_marked_state found.mark ≡ true)
+    (owned ≡ base) × CanLoosen op × Leaves op mark answer × (is_marked_state found.mark ≡ true)
 KnowsAt op server base owned (Emptied answer) =
-    (owned ≡ owned_left answer server base) × CanGive op × (can_answer op answer ≡ true)
+    (owned ≡ owned_left answer server base) × CanLoosen op × (can_answer op answer ≡ true)
 
 -- what a call at this phase knows, where its thread owned the server as it began
 abbrev pub OwnedAt : Op → Phase → Type 0
@@ -140,7 +116,7 @@ short-read s HardFailure mark first steps lost can few less = omega (arith, few,
 short-read s Success mark first steps lost can few less = omega (arith, few, less)
 short-read s Release mark first steps lost can few less = omega (arith, few)
 
-short-give : (s : Settings) (op : Op) (first steps lost : ℕ) → CanGive op → steps ≤ first + (per_try op * lost + 3) → lost < s.tries
+short-give : (s : Settings) (op : Op) (first steps lost : ℕ) → CanLoosen op → steps ≤ first + (per_try op * lost + 3) → lost < s.tries
     → steps + 1 ≤ first + most_steps s op
 short-give s LookUp first steps lost can few less = absurd can
 short-give s SoftFailure first steps lost can few less = absurd can
@@ -293,21 +269,24 @@ module _ (s : Settings) (ranges : IsWithinRanges s) (first : ℕ) (base : List �
           owner = owner;
         }
 
-    reads : (op : Op) (mark : Mark) (answer : Reply) → call.op ≡ op → CanExchange op now.mark → Leaves op mark answer → IsMarkOf s mark
+    reads : (op : Op) (mark : Mark) (answer : Reply) → call.op ≡ op → is_soft mark ≡ false → is_soft now.mark ≡ false → CanExchange op now.mark
+        → Leaves op mark answer → IsMarkOf s mark
         → (owns base call.server ≡ true → (is_marked_state now.mark ≡ true) × (answers_owner op answer ≡ true))
-        → Next Start (goes call (Read now mark answer)) owned
-    reads op mark answer is can leaves allowed owner =
-        goes-on Start (Read now mark answer) owned knows refl (omega arith)
+        → Next Start (puts call now mark answer) owned
+    reads op mark answer is firm firm_now can leaves allowed owner =
+        subst (λ it. Next Start it owned) (sym (cond-false _ _ _ firm ∙ cond-false _ _ _ firm_now))
+        (goes-on Start (Read now mark answer) owned knows refl (omega arith)
         (knows.at, subst (λ it. CanExchange it now.mark) (sym is) can, subst (λ it. Leaves it mark answer) (sym is) leaves)
         (writable s now mark ranges sound allowed)
-        (λ own. ((owner own).0, ap (λ it. answers_owner it answer) is ∙ (owner own).1))
+        (λ own. ((owner own).0, ap (λ it. answers_owner it answer) is ∙ (owner own).1)))
 
-    loosens : (op : Op) (mark : Mark) (answer : Reply) → call.op ≡ op → CanGive op → Leaves op mark answer → IsMarkOf s mark
-        → is_marked_state now.mark ≡ true → answers_owner op answer ≡ true → Next Start (goes call (Loosening now mark answer)) owned
-    loosens op mark answer is can leaves allowed marked owner =
-        goes-on Start (Loosening now mark answer) owned knows refl (omega arith)
-        (knows.at, subst CanGive (sym is) can, subst (λ it. Leaves it mark answer) (sym is) leaves, marked)
-        (writable s now mark ranges sound allowed) (λ own. ap (λ it. answers_owner it answer) is ∙ owner)
+    loosens : (op : Op) (mark : Mark) (answer : Reply) → call.op ≡ op → is_soft mark ≡ false → now.mark ≡ Soft call.number → CanLoosen op
+        → Leaves op mark answer → IsMarkOf s mark → answers_owner op answer ≡ true → Next Start (puts call now mark answer) owned
+    loosens op mark answer is firm mine can leaves allowed owner =
+        subst (λ it. Next Start it owned) (sym (cond-false _ _ _ firm ∙ cond-true _ _ _ (ap is_soft mine)))
+        (goes-on Start (Loosening now mark answer) owned knows refl (omega arith)
+        (knows.at, subst CanLoosen (sym is) can, subst (λ it. Leaves it mark answer) (sym is) leaves, ap is_marked_state mine)
+        (writable s now mark ranges sound allowed) (λ own. ap (λ it. answers_owner it answer) is ∙ owner))
 
     one-failure : 0 < s.failures
     one-failure = omega (arith, ranges.failures.0)
@@ -318,69 +297,84 @@ module _ (s : Settings) (ranges : IsWithinRanges s) (first : ℕ) (base : List �
     allows-owner : (op : Op) (answer : Reply) → call.op ≡ op → answers_owner op answer ≡ true → answers_owner call.op answer ≡ true
     allows-owner op answer is allowed = ap (λ it. answers_owner it answer) is ∙ allowed
 
-    start-up : (op : Op) (count : ℕ) → call.op ≡ op → (owns base call.server ≡ true → ⊥) → Next Start (from_up_by op s call now count) owned
-    start-up LookUp count is none = ends (reply.Up count) (allows LookUp (reply.Up count) is refl) refl (λ own. absurd (none own))
-    start-up SoftFailure count is none =
-        let counts : Decision = goes call (Read now (Up (count + 1)) (reply.Counted (count + 1))) in
-        let P : Decision → Type 0 = λ it. Next Start it owned in
-        cond_both (leb worn now.stamp) (Answers reply.Worn) (cond (ltb (count + 1) s.failures) counts (goes call (AtThreshold now))) P
+    -- the call sets out to do this
+    abbrev Out : Transition → Type 0
+    Out given = Next Start (sets_out call now given.reply given.change) owned
+
+    start-up : (op : Op) (count : ℕ) → call.op ≡ op → now.mark ≡ Up count → (owns base call.server ≡ true → ⊥)
+        → Out (on_unmarked s true call.number op count now.stamp)
+    start-up LookUp count is up none = ends (reply.Up count) (allows LookUp (reply.Up count) is refl) refl (λ own. absurd (none own))
+    start-up SoftFailure count is up none =
+        let counts : Transition = becomes (Up (count + 1)) (reply.Counted (count + 1)) in
+        let marks : Transition = becomes (Soft call.number) reply.TookSoft in
+        cond_both (leb worn now.stamp) (stays reply.Worn) (cond (ltb (count + 1) s.failures) counts marks) Out
         (λ old. ends reply.Worn (allows SoftFailure reply.Worn is refl) refl (λ own. absurd (none own)))
-        (λ fresh. cond_both (ltb (count + 1) s.failures) counts (goes call (AtThreshold now)) P
-        (λ less. reads SoftFailure (Up (count + 1)) (reply.Counted (count + 1)) is tt (record { allowed = refl; owned = λ server servers. refl })
+        (λ fresh. cond_both (ltb (count + 1) s.failures) counts marks Out
+        (λ less. reads SoftFailure (Up (count + 1)) (reply.Counted (count + 1)) is refl (ap is_soft up) tt (record { allowed = refl; owned = λ server servers. refl })
         (ltb-true (count + 1) s.failures less) (λ own. absurd (none own)))
         (λ last. goes-on Start (AtThreshold now) owned knows refl (omega arith) (is, knows.at) (writable s now (Soft call.number) ranges sound within) none))
-    start-up HardFailure count is none =
-        cond_both (leb worn now.stamp) (Answers reply.Worn) (goes call (Read now (Hard call.number) reply.TookHard)) (λ it. Next Start it owned)
+    start-up HardFailure count is up none =
+        cond_both (leb worn now.stamp) (stays reply.Worn) (becomes (Hard call.number) reply.TookHard) Out
         (λ old. ends reply.Worn (allows HardFailure reply.Worn is refl) refl (λ own. absurd (none own)))
-        (λ fresh. reads HardFailure (Hard call.number) reply.TookHard is tt (record { allowed = refl; owned = λ server servers. refl }) within (λ own. absurd (none own)))
-    start-up Success count is none =
-        let resets : Decision = goes call (Read now (Up 0) (reply.Reset count)) in
-        let P : Decision → Type 0 = λ it. Next Start it owned in
-        cond_both (eqb count 0) (Answers reply.Clean) (cond (leb worn now.stamp) (Answers reply.Worn) resets) P
+        (λ fresh. reads HardFailure (Hard call.number) reply.TookHard is refl (ap is_soft up) tt (record { allowed = refl; owned = λ server servers. refl })
+        within (λ own. absurd (none own)))
+    start-up Success count is up none =
+        let resets : Transition = becomes (Up 0) (reply.Reset count) in
+        cond_both (eqb count 0) (stays reply.Clean) (cond (leb worn now.stamp) (stays reply.Worn) resets) Out
         (λ zero_count. ends reply.Clean (allows Success reply.Clean is refl) refl (λ own. absurd (none own)))
-        (λ some. cond_both (leb worn now.stamp) (Answers reply.Worn) resets P
+        (λ some. cond_both (leb worn now.stamp) (stays reply.Worn) resets Out
         (λ old. ends reply.Worn (allows Success reply.Worn is refl) refl (λ own. absurd (none own)))
-        (λ fresh. reads Success (Up 0) (reply.Reset count) is tt (record { allowed = refl; owned = λ server servers. refl }) one-failure (λ own. absurd (none own))))
-    start-up Release count is none = ends (reply.NotMine now.mark) (allows Release (reply.NotMine now.mark) is refl) refl (λ own. absurd (none own))
+        (λ fresh. reads Success (Up 0) (reply.Reset count) is refl (ap is_soft up) tt (record { allowed = refl; owned = λ server servers. refl }) one-failure
+        (λ own. absurd (none own))))
+    start-up Release count is up none = ends (reply.NotMine (Up count)) (allows Release (reply.NotMine (Up count)) is refl) refl (λ own. absurd (none own))
 
-    start-own_soft : (op : Op) → call.op ≡ op → is_marked_state now.mark ≡ true → Next Start (on_own_soft_by op call now) owned
-    start-own_soft LookUp is marked = ends (reply.Marked now.mark) (allows LookUp (reply.Marked now.mark) is refl) refl (λ own. allows-owner LookUp (reply.Marked now.mark) is refl)
-    start-own_soft SoftFailure is marked = ends (reply.Already now.mark) (allows SoftFailure (reply.Already now.mark) is refl) refl (λ own. allows-owner SoftFailure (reply.Already now.mark) is refl)
-    start-own_soft HardFailure is marked =
-        loosens HardFailure (Hard call.number) reply.Hardened is tt (record { allowed = refl; owned = λ server servers. refl }) within marked refl
-    start-own_soft Success is marked =
-        loosens Success (Up 0) (reply.Unmarked now.mark) is tt (record { allowed = refl; owned = λ server servers. refl }) one-failure marked refl
-    start-own_soft Release is marked =
-        loosens Release (Up 0) (reply.Released now.mark) is tt (record { allowed = refl; owned = λ server servers. refl }) one-failure marked refl
+    -- an answer to the thread that marked the server
+    stays-own : (op : Op) (answer : Reply) → call.op ≡ op → can_answer op answer ≡ true → answers_owner op answer ≡ true
+        → owned_left answer call.server base ≡ base → Next Start (Answers answer) owned
+    stays-own op answer is allowed owner same = ends answer (allows op answer is allowed) same (λ own. allows-owner op answer is owner)
 
-    start-own_hard : (op : Op) → call.op ≡ op → is_marked_state now.mark ≡ true → Next Start (on_own_hard_by op call now) owned
-    start-own_hard LookUp is marked = ends (reply.Marked now.mark) (allows LookUp (reply.Marked now.mark) is refl) refl (λ own. allows-owner LookUp (reply.Marked now.mark) is refl)
-    start-own_hard SoftFailure is marked = ends (reply.Already now.mark) (allows SoftFailure (reply.Already now.mark) is refl) refl (λ own. allows-owner SoftFailure (reply.Already now.mark) is refl)
-    start-own_hard HardFailure is marked = ends (reply.Already now.mark) (allows HardFailure (reply.Already now.mark) is refl) refl (λ own. allows-owner HardFailure (reply.Already now.mark) is refl)
-    start-own_hard Success is marked =
-        reads Success (Up 0) (reply.Unmarked now.mark) is tt (record { allowed = refl; owned = λ server servers. refl }) one-failure (λ own. (marked, refl))
-    start-own_hard Release is marked =
-        reads Release (Up 0) (reply.Released now.mark) is marked (record { allowed = refl; owned = λ server servers. refl }) one-failure (λ own. (marked, refl))
+    start-own_soft : (op : Op) → call.op ≡ op → now.mark ≡ Soft call.number → Out (on_own_soft call.number op)
+    start-own_soft LookUp is mine = stays-own LookUp (reply.Marked (Soft call.number)) is refl refl refl
+    start-own_soft SoftFailure is mine = stays-own SoftFailure (reply.Already (Soft call.number)) is refl refl refl
+    start-own_soft HardFailure is mine =
+        loosens HardFailure (Hard call.number) reply.Hardened is refl mine tt (record { allowed = refl; owned = λ server servers. refl }) within refl
+    start-own_soft Success is mine =
+        loosens Success (Up 0) (reply.Unmarked (Soft call.number)) is refl mine tt (record { allowed = refl; owned = λ server servers. refl }) one-failure refl
+    start-own_soft Release is mine =
+        loosens Release (Up 0) (reply.Released (Soft call.number)) is refl mine tt (record { allowed = refl; owned = λ server servers. refl }) one-failure refl
 
-    start-others : (op : Op) → call.op ≡ op → (owns base call.server ≡ true → ⊥) → Next Start (Answers (on_others op now.mark)) owned
-    start-others LookUp is none = ends (reply.Marked now.mark) (allows LookUp (reply.Marked now.mark) is refl) refl (λ own. absurd (none own))
-    start-others SoftFailure is none = ends (reply.Already now.mark) (allows SoftFailure (reply.Already now.mark) is refl) refl (λ own. absurd (none own))
-    start-others HardFailure is none = ends (reply.Already now.mark) (allows HardFailure (reply.Already now.mark) is refl) refl (λ own. absurd (none own))
-    start-others Success is none = ends (reply.Already now.mark) (allows Success (reply.Already now.mark) is refl) refl (λ own. absurd (none own))
-    start-others Release is none = ends (reply.NotMine now.mark) (allows Release (reply.NotMine now.mark) is refl) refl (λ own. absurd (none own))
+    start-own_hard : (op : Op) → call.op ≡ op → now.mark ≡ Hard call.number → Out (on_own_hard call.number op)
+    start-own_hard LookUp is mine = stays-own LookUp (reply.Marked (Hard call.number)) is refl refl refl
+    start-own_hard SoftFailure is mine = stays-own SoftFailure (reply.Already (Hard call.number)) is refl refl refl
+    start-own_hard HardFailure is mine = stays-own HardFailure (reply.Already (Hard call.number)) is refl refl refl
+    start-own_hard Success is mine =
+        reads Success (Up 0) (reply.Unmarked (Hard call.number)) is refl (ap is_soft mine) tt (record { allowed = refl; owned = λ server servers. refl })
+        one-failure (λ own. (ap is_marked_state mine, refl))
+    start-own_hard Release is mine =
+        reads Release (Up 0) (reply.Released (Hard call.number)) is refl (ap is_soft mine) (ap is_marked_state mine)
+        (record { allowed = refl; owned = λ server servers. refl }) one-failure (λ own. (ap is_marked_state mine, refl))
 
-    start-mark : (mark : Mark) → now.mark ≡ mark → Next Start (from_mark mark s call now) owned
+    start-others : (op : Op) (mark : Mark) → call.op ≡ op → look_reply mark ≡ reply.Marked mark → (owns base call.server ≡ true → ⊥) → Out (on_others op mark)
+    start-others LookUp mark is looks none =
+        subst (λ it. Next Start (Answers it) owned) (sym looks)
+        (ends (reply.Marked mark) (allows LookUp (reply.Marked mark) is refl) refl (λ own. absurd (none own)))
+    start-others SoftFailure mark is looks none = ends (reply.Already mark) (allows SoftFailure (reply.Already mark) is refl) refl (λ own. absurd (none own))
+    start-others HardFailure mark is looks none = ends (reply.Already mark) (allows HardFailure (reply.Already mark) is refl) refl (λ own. absurd (none own))
+    start-others Success mark is looks none = ends (reply.Already mark) (allows Success (reply.Already mark) is refl) refl (λ own. absurd (none own))
+    start-others Release mark is looks none = ends (reply.NotMine mark) (allows Release (reply.NotMine mark) is refl) refl (λ own. absurd (none own))
+
+    start-mark : (mark : Mark) → now.mark ≡ mark → Out (transition s true call.number call.op mark now.stamp)
     start-mark (Up count) is =
-        start-up call.op count refl (λ own. let e : true ≡ false = sym (named own) ∙ ap (is_marked_by (Some call.number)) is in cc)
+        start-up call.op count refl is (λ own. let e : true ≡ false = sym (named own) ∙ ap (is_marked_by (Some call.number)) is in cc)
     start-mark (Soft owner) is =
-        cond_both (eqb owner call.number) (on_own_soft_by call.op call now) (Answers (on_others call.op now.mark)) (λ it. Next Start it owned)
-        (λ mine. start-own_soft call.op refl (ap is_marked_state is))
-        (λ theirs. start-others call.op refl
+        cond_both (eqb owner call.number) (on_own_soft call.number call.op) (on_others call.op (Soft owner)) Out
+        (λ mine. start-own_soft call.op refl (is ∙ ap Soft (eqb-true owner call.number mine)))
+        (λ theirs. start-others call.op (Soft owner) refl refl
         (λ own. let e : true ≡ false = sym (named own) ∙ ap (is_marked_by (Some call.number)) is ∙ theirs in cc))
     start-mark (Hard owner) is =
-        cond_both (eqb owner call.number) (on_own_hard_by call.op call now) (Answers (on_others call.op now.mark)) (λ it. Next Start it owned)
-        (λ mine. start-own_hard call.op refl (ap is_marked_state is))
-        (λ theirs. start-others call.op refl
+        cond_both (eqb owner call.number) (on_own_hard call.number call.op) (on_others call.op (Hard owner)) Out
+        (λ mine. start-own_hard call.op refl (is ∙ ap Hard (eqb-true owner call.number mine)))
+        (λ theirs. start-others call.op (Hard owner) refl refl
         (λ own. let e : true ≡ false = sym (named own) ∙ ap (is_marked_by (Some call.number)) is ∙ theirs in cc))
 
   -- every step

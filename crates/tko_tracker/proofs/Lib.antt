@@ -3,5 +3,8 @@ pub mod ClosingLemmas
 pub mod KnowsLemmas
 pub mod OwnedLemmas
 pub mod PassLemmas
+pub mod PlaceLemmas
 pub mod RetireLemmas
 pub mod RunLemmas
+pub mod SoloLemmas
+pub mod TryLemmas

@@ -1,19 +1,29 @@
 -- The marks of a thread, released one after another.
-use Rattle.std.proofs.Common.{◌≡◌, ℕ, ◌+◌, ◌*◌, ◌<◌, ◌≤◌, Bool, true, false, cond, ◌||◌, eqb, List, [], ◌∷◌, length, refl, sym, ap, ◌∙◌, subst, ⊎_elim, arith}
-use Rattle.std.proofs.lemmas.Bool.{cases_Bool, cases_lt, cond-false, cond-true, cond_both, eq-eqb, ne_eqb}
+use Rattle.std.proofs.Common.{◌≡◌, ℕ, ◌+◌, ◌*◌, ◌<◌, ◌≤◌, Bool, true, false, cond, ◌||◌, eqb, List, [], ◌∷◌, ◌++◌, All, length, refl, sym, ap, ◌∙◌, subst, ⊎_elim, arith}
+use Rattle.std.proofs.lemmas.Bool.{cases_Bool, cases_eq, cases_lt, cond-false, cond-true, cond_both, eq-eqb, ne_eqb}
+use Rattle.std.proofs.lemmas.List.{append-nil, append_assoc}
+use Rattle.std.proofs.lemmas.List.Elements.{All-append, All-cons, All-nil}
+use Rattle.std.proofs.lemmas.List.Sums.{sum_by-append}
 use Rattle.atomic_table.specs.declared.shared.Seat.{Seat}
 use Rattle.tko_model.specs.declared.mark.Op.{Op}
 use Rattle.tko_model.specs.declared.mark.Op.TheVariants.{Release}
 use Rattle.tko_model.specs.declared.mark.Reply.{Reply}
 use Rattle.tko_model.specs.declared.mark.Reply.TheVariants as reply
 use Rattle.tko_model.specs.declared.settings.Settings.{Settings}
+use Rattle.tko_steps.specs.declared.phase.ThreadState.TheVariants.{Idle}
+use Rattle.tko_steps.specs.Steps.{begun_by}
+use Rattle.tko_steps.proofs.CountLemmas.{bit}
+use Rattle.tko_table.specs.declared.pass.Made.{Made}
 use Rattle.tko_table.specs.declared.pass.Pass.{Pass}
+use Rattle.tko_table.specs.History.{changes_in, made_by, made_with}
+use Rattle.tko_table.proofs.ChangeLemmas.{changes_in-append, made_by-append}
 use Rattle.tko_table.specs.Passes.{owns, without}
 use Rattle.tko_table.specs.Steps.{view_of}
 use Rattle.tko_tracker.specs.Calls.{answers_owner, gives, owned_left, takes}
 use Rattle.tko_tracker.specs.Owned.{AreBitsOf}
 use Rattle.tko_tracker.specs.Running.{Ran}
-use Rattle.tko_tracker.specs.Seated.{Answered, HasOwnedPass, IsOf, OwnsBelow, Retired, Seated, TrackerId, first_pass, seated}
+use Rattle.tko_tracker.specs.History.{Adds}
+use Rattle.tko_tracker.specs.Seated.{Answered, HasOwnedPass, IsOf, IsRelease, Makes, OwnsBelow, Retired, calls_on, Seated, TrackerId, first_pass, seated}
 use Rattle.tko_tracker.proofs.OwnedLemmas.{owns-without}
 
 -- the marks of all servers before this one are released
@@ -22,10 +32,23 @@ pub record IsReleased (tracker : TrackerId) (first now : Seated) (place : ℕ) :
   pub state : now.pass.state ≡ first.pass.state
   pub none : (server : ℕ) → server < place → owns now.pass.owned server ≡ false
   pub steps : now.pass.steps + 4 * length now.pass.owned ≤ first.pass.steps + 4 * length first.pass.owned
+  pub calls : List Made
+  pub releases : All IsRelease calls
+  pub each : (server : ℕ) → calls_on server calls + bit (owns now.pass.owned server) ≡ bit (owns first.pass.owned server)
+  pub makes : (number : ℕ) → first.pass.state ≡ Idle number → Makes number first.pass calls now.pass
 
 pub released-none : (tracker : TrackerId) (first : Seated) → IsOf tracker first → IsReleased tracker first first 0
 released-none tracker first of =
-    record { of = of; state = refl; none = λ server less. absurd (omega (arith, less)); steps = omega arith }
+    record {
+      of = of;
+      state = refl;
+      none = λ server less. absurd (omega (arith, less));
+      steps = omega arith;
+      calls = [];
+      releases = All-nil IsRelease;
+      each = λ server. omega arith;
+      makes = λ number idle. record { mine = sym (append-nil first.pass.mine); more = []; seen = sym (append-nil first.pass.seen); own = refl };
+    }
 
 pub one-more : (P : ℕ → Type 0) (place : ℕ) → ((server : ℕ) → server < place → P server) → P place → (server : ℕ) → server < place + 1 → P server
 one-more P place each here server less =
@@ -42,6 +65,10 @@ released-skip tracker first now place is not_own =
       state = is.state;
       none = one-more (λ server. owns now.pass.owned server ≡ false) place is.none not_own;
       steps = is.steps;
+      calls = is.calls;
+      releases = is.releases;
+      each = is.each;
+      makes = is.makes;
     }
 
 released-is : (answer : Reply) → answers_owner Release answer ≡ true → (server : ℕ) (owned : List ℕ) → owned_left answer server owned ≡ without server owned
@@ -60,6 +87,45 @@ released-is reply.Clean is server owned = cc
 released-is (reply.Reset count) is server owned = cc
 released-is (reply.Unmarked mark) is server owned = cc
 released-is (reply.NotMine mark) is server owned = cc
+
+-- on a server that the thread owns, a release is answered by the mark that it released
+released-mark : (made : Made) → made.op ≡ Release → answers_owner Release made.reply ≡ true → IsRelease made
+released-mark made op is = by made.reply refl is
+  where
+    by : (answer : Reply) → made.reply ≡ answer → answers_owner Release answer ≡ true → IsRelease made
+    by (reply.Released mark) same own = record { op = op; mark = mark; reply = same }
+    by (reply.Up count) same own = cc
+    by (reply.Marked mark) same own = cc
+    by (reply.Counted count) same own = cc
+    by reply.TookSoft same own = cc
+    by reply.Full same own = cc
+    by (reply.Already mark) same own = cc
+    by reply.Worn same own = cc
+    by reply.Contended same own = cc
+    by reply.TookHard same own = cc
+    by reply.Hardened same own = cc
+    by reply.Clean same own = cc
+    by (reply.Reset count) same own = cc
+    by (reply.Unmarked mark) same own = cc
+    by (reply.NotMine mark) same own = cc
+
+-- a pass made calls, and then one more
+makes-more : (first now after : Pass) (number : ℕ) (op : Op) (server : ℕ) (answer : Reply) (calls : List Made) → now.state ≡ Idle number
+    → Makes number first calls now → (adds : Adds now op server answer after)
+    → Makes number first (calls ++ made_with (begun_by number op server) answer adds.at ∷ []) after
+makes-more first now after number op server answer calls idle made adds =
+    let same : adds.number ≡ number = let e : Idle adds.number ≡ Idle number = sym adds.idle ∙ idle in cc in
+    let one : ℕ → List Made = λ n. made_with (begun_by n op server) answer adds.at ∷ [] in
+    record {
+      mine = adds.mine ∙ (λ i. made.mine i ++ one (same i)) ∙ append_assoc first.mine calls (one number);
+      more = made.more ++ adds.more;
+      seen = adds.seen ∙ ap (λ it. it ++ adds.more) made.seen ∙ append_assoc first.seen made.more adds.more;
+      own =
+          made_by-append number made.more adds.more
+          ∙ (λ i. made.own i ++ made_by (sym same i) adds.more)
+          ∙ ap (λ it. changes_in number calls ++ it) (adds.own ∙ (λ i. changes_in (same i) (one (same i))))
+          ∙ sym (changes_in-append number calls (one number));
+    }
 
 without-le : (server : ℕ) (owned : List ℕ) → length (without server owned) ≤ length owned
 without-le server [] = omega arith
@@ -112,24 +178,56 @@ released-next tracker first now after place answer is own made =
           (λ server less. ap (λ owned. owns owned server) left ∙ gone place server now.pass.owned (is.none server less))
           (ap (λ owned. owns owned place) left ∙ here);
       steps = omega (arith, made.steps, is.steps, fewer, count);
+      calls = is.calls ++ call ∷ [];
+      releases = All-append IsRelease is.calls (call ∷ []) is.releases
+          (All-cons IsRelease call [] (released-mark call refl (made.owner own)) (All-nil IsRelease));
+      each = λ server.
+          let split : calls_on server (is.calls ++ call ∷ []) ≡ calls_on server is.calls + (0 + bit (eqb place server)) =
+          sum_by-append (λ (it : Made). bit (eqb it.server server)) is.calls (call ∷ []) in
+          let left_is : bit (owns after.pass.owned server) ≡ bit (cond (eqb server place) false (owns now.pass.owned server)) =
+          ap (λ owned. bit (owns owned server)) left ∙ ap bit (owns-without place server now.pass.owned) in
+          ⊎_elim
+          (λ (here : place ≡ server).
+          let gone_now : bit (cond (eqb server place) false (owns now.pass.owned server)) ≡ 0 = ap bit (cond-true _ _ _ (eq-eqb server place (sym here))) in
+          let was : bit (owns now.pass.owned server) ≡ 1 = ap bit (subst (λ it. owns now.pass.owned it ≡ true) here own) in
+          omega (arith, split, left_is, gone_now, was, is.each server, ap bit (eq-eqb place server here)))
+          (λ (apart : place ≡ server → ⊥).
+          let kept : bit (cond (eqb server place) false (owns now.pass.owned server)) ≡ bit (owns now.pass.owned server) =
+          ap bit (cond-false _ _ _ (ne_eqb server place (λ e. apart (sym e)))) in
+          omega (arith, split, left_is, kept, is.each server, ap bit (ne_eqb place server apart)))
+          (cases_eq place server);
+      makes = λ number idle.
+          let idle_now : now.pass.state ≡ Idle number = is.state ∙ idle in
+          makes-more first.pass now.pass after.pass number Release place answer is.calls idle_now (is.makes number idle) made.adds;
     }
   where
+    call : Made
+    call = made_with (begun_by made.adds.number Release place) answer made.adds.at
+
     same : (n : ℕ) → eqb n n ≡ true
     same n = eq-eqb n n refl
 
 -- all servers were visited
-pub released-all : (tracker : TrackerId) (first now : Seated) (place : ℕ) → IsReleased tracker first now place → tracker.settings.servers ≤ place
-    → OwnsBelow now.pass → Retired tracker first now
-released-all tracker first now place is all below =
+pub released-all : (tracker : TrackerId) (first now : Seated) (place number : ℕ) → IsReleased tracker first now place → tracker.settings.servers ≤ place
+    → OwnsBelow now.pass → now.pass.state ≡ Idle number → Retired tracker first now
+released-all tracker first now place number is all below idle =
+    let none : (server : ℕ) → owns now.pass.owned server ≡ false = λ server.
+    ⊎_elim (λ (less : server < place). is.none server less)
+    (λ (le : place ≤ server).
+    below server (subst (λ (it : Settings). it.servers ≤ server) (sym is.of.settings) (omega (arith, all, le))))
+    (cases_lt server place) in
+    let began : first.pass.state ≡ Idle number = sym is.state ∙ idle in
     record {
       of = is.of;
+      number = number;
+      idle = began;
       state = is.state;
-      none = λ server.
-          ⊎_elim (λ (less : server < place). is.none server less)
-          (λ (le : place ≤ server).
-          below server (subst (λ (it : Settings). it.servers ≤ server) (sym is.of.settings) (omega (arith, all, le))))
-          (cases_lt server place);
+      none = none;
       steps = omega (arith, is.steps);
+      calls = is.calls;
+      releases = is.releases;
+      each = λ server. omega (arith, is.each server, ap bit (none server));
+      makes = is.makes number began;
     }
 
 -- a call on a server that there is leaves no other owned past the last

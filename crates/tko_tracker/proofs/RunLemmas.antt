@@ -1,6 +1,6 @@
 -- A call under way: what its loop keeps from step to step.
 use Rattle.std.proofs.Common.{◌≡◌, ℕ, ◌+◌, ◌<◌, ◌≤◌, true, eqb, List, [], ◌∷◌, ◌++◌, refl, sym, ap, ◌∙◌, subst, arith}
-use Rattle.std.proofs.lemmas.Bool.{cond_both}
+use Rattle.std.proofs.lemmas.Bool.{cond_both, eqb-true}
 use Rattle.tko_model.specs.declared.mark.Mark.{Mark}
 use Rattle.tko_model.specs.declared.mark.Mark.TheVariants.{Up, Soft, Hard}
 use Rattle.tko_model.specs.declared.mark.Op.{Op}
@@ -10,7 +10,9 @@ use Rattle.tko_model.specs.declared.mark.Reply.TheVariants.{Marked}
 use Rattle.tko_model.specs.declared.settings.Settings.{Settings}
 use Rattle.tko_model.specs.declared.state.ServerState.{ServerState}
 use Rattle.tko_model.specs.Looks.{look_reply}
+use Rattle.tko_model.specs.declared.transition.Transition.{Transition}
 use Rattle.tko_model.specs.Ranges.{IsWithinRanges}
+use Rattle.tko_model.specs.Tracker.{on_others, on_own_hard, on_own_soft, stays, transition}
 use Rattle.tko_steps.specs.declared.phase.Call.{Call}
 use Rattle.tko_steps.specs.declared.phase.Phase.{Phase}
 use Rattle.tko_steps.specs.declared.phase.Phase.TheVariants.{Start}
@@ -19,18 +21,23 @@ use Rattle.tko_steps.specs.declared.table.Decision.{Decision}
 use Rattle.tko_steps.specs.declared.table.Decision.TheVariants.{Goes, Answers}
 use Rattle.tko_steps.specs.declared.table.Observed.{Observed}
 use Rattle.tko_steps.specs.declared.table.Observed.TheVariants as seen
+use Rattle.tko_steps.specs.Core.{CoreState, follows, seen_by}
 use Rattle.tko_steps.specs.Cost.{most_steps}
+use Rattle.tko_steps.specs.Runs.{OwnStep}
 use Rattle.tko_steps.specs.Steps.{begun_by, in_call, is_done, state_after}
-use Rattle.tko_steps.specs.Table.{action_of, from_mark, from_up_by, next_of, on_others, on_own_hard_by, on_own_soft_by}
+use Rattle.tko_steps.specs.Table.{action_of, next_of, sets_out}
+use Rattle.tko_steps.proofs.OwnLemmas.{act_step}
 use Rattle.tko_table.specs.declared.pass.Pass.{Pass}
 use Rattle.tko_table.specs.History.{changes_in, made_by, made_with, place_of_answer}
 use Rattle.tko_table.specs.Passes.{owned_after, owns}
 use Rattle.tko_table.specs.Steps.{IsSound}
-use Rattle.tko_tracker.specs.Calls.{Called, GoesOn, IsStep, Leads, Taken, answers_owner, can_answer, owned_left}
+use Rattle.tko_tracker.specs.Tries.{HasTried, Taken, and_steps, own_step, own_steps}
+use Rattle.tko_tracker.specs.Calls.{Called, GoesOn, IsStep, IsTaken, Leads, answers_owner, can_answer, owned_left}
 use Rattle.tko_tracker.specs.Running.{CanCall, IsReady, Ran, Stepped}
-use Rattle.tko_tracker.specs.History.{Adds}
+use Rattle.tko_tracker.specs.History.{Adds, IsAnsweredAt}
 use Rattle.tko_tracker.proofs.AddsLemmas.{HasAdded, HasAddedAfter, HasEnded, added-next, added-none}
 use Rattle.tko_tracker.proofs.KnowsLemmas.{Knows, KnowsAfter, knows-next, left}
+use Rattle.tko_tracker.proofs.TryLemmas.{KnowsAnywhere, TriedAfter, begins-anywhere, slot-held, tried-next, turn-is}
 
 -- the call of the pass that the view had first, at this phase
 pub record IsUnderWay
@@ -50,9 +57,12 @@ pub record IsUnderWay
     pub stands : in_call now.state op server ≡ InCall call phase
     pub knows : Knows s first.steps first.owned call phase now.steps now.owned
     pub added : HasAdded s first now call phase
+    -- its own steps so far, the newest first
+    pub own : List OwnStep
+    pub tried : KnowsAnywhere s call own phase
     -- what follows makes a whole call
     pub rest : (steps : List Taken) (answer : Reply) (after : Pass) →
-        Leads now call phase steps answer after → Called first op server answer after
+        Leads now call phase steps answer after → HasTried s answer (and_steps own steps) → Called first op server answer after
 
 -- the call begins
 pub begins : (s : Settings) (number : ℕ) (op : Op) (server : ℕ) (view : List Pass) → IsWithinRanges s → CanCall s number view
@@ -73,7 +83,16 @@ begins s number op server view ranges can =
       stands = ap (λ state. in_call state op server) can.state;
       knows = record { lost = omega (arith, ranges.tries.0); few = omega arith; at = refl; writes = tt; owner = λ own. tt };
       added = added-none s can.pass (begun_by number op server);
-      rest = λ steps answer after leads. record { number = number; idle = can.state; steps = steps; leads = leads };
+      own = [];
+      tried = begins-anywhere s (begun_by number op server) refl;
+      rest = λ steps answer after leads tried.
+          record {
+            number = number;
+            idle = can.state;
+            steps = steps;
+            leads = leads;
+            tried = subst (λ it. HasTried it answer (own_steps steps)) (sym can.settings) tried;
+          };
     }
 
 pub ready : (s : Settings) (number : ℕ) (op : Op) (server : ℕ) (before : List Pass) (call : Call) (phase : Phase) (view : List Pass)
@@ -88,9 +107,9 @@ ready s number op server before call phase view at =
     }
 
 -- a call that ended, by the number, operation and server that it began with
-ended-adds : (first mid : Pass) (number : ℕ) (op : Op) (server : ℕ) (call : Call) (answer : Reply) → first.state ≡ Idle number
-    → call.number ≡ number → call.op ≡ op → call.server ≡ server → HasEnded first mid call answer → Adds first op server answer mid
-ended-adds first mid number op server call answer idle by does on ended =
+ended-adds : (s : Settings) (first mid : Pass) (number : ℕ) (op : Op) (server : ℕ) (call : Call) (answer : Reply) → first.state ≡ Idle number → first.settings ≡ s
+    → call.number ≡ number → call.op ≡ op → call.server ≡ server → HasEnded s first mid call answer → Adds first op server answer mid
+ended-adds s first mid number op server call answer idle same by does on ended =
     let made : made_with call answer ended.at ≡ made_with (begun_by number op server) answer ended.at =
     λ i. record { op = does i; server = on i; reply = answer; at = place_of_answer answer ended.at } in
     record {
@@ -101,6 +120,10 @@ ended-adds first mid number op server call answer idle by does on ended =
       seen = ended.seen;
       own = ap (λ it. made_by it ended.more) (sym by) ∙ ended.own ∙ (λ i. changes_in (by i) (made i ∷ []));
       mine = ended.mine ∙ ap (λ it. first.mine ++ it ∷ []) made;
+      decided = λ differs. subst (λ it. it) (λ i. IsAnsweredAt (sym same i) (by i) (does i) (on i) answer ended.at first.seen mid.seen) (ended.decided differs);
+      stepped = ended.stepped;
+      at_once = ended.at_once;
+      alone = λ one. ended.alone (ap (λ (it : Settings). it.threads) (sym same) ∙ one);
     }
 
 head : (one other : Pass) → one ∷ [] ≡ other ∷ [] → one ≡ other
@@ -141,19 +164,51 @@ module _ (s : Settings) (ranges : IsWithinRanges s) (number : ℕ) (op : Op) (se
       (owned_after at.now.owned call.server act (is_done read)) in
       let R : List ℕ → Type 0 = λ it. KnowsAfter s at.first.steps at.first.owned call phase (next_of s call phase read) mid.steps it in
       let next = knows-next s ranges at.first.steps at.first.owned call (subst (λ n. n < s.threads) (sym at.by) at.within) at.now.steps at.now.owned
-      takes.shared phase (subst (IsSound s) takes.reads stepped.sound) (λ found mark is marked. sym takes.reads ∙ step.sure found mark is marked) at.knows (takes.own call.server) in
+      takes.core.shared phase (subst (IsSound s) takes.reads stepped.sound) (λ found mark is marked. sym takes.reads ∙ step.sure found mark is marked) at.knows (takes.own call.server) in
       subst R owned (subst Q steps (subst P (sym takes.reads) next))
 
   added-mid : HasAddedAfter s at.first mid call (next_of s call phase read)
-  added-mid = added-next s at.first at.now mid call phase read at.added at.settings call.op at.first.owned at.now.owned at.knows.at step
+  added-mid = added-next s at.first at.now mid call phase read at.added at.settings (subst (λ n. n < s.threads) (sym at.by) at.within) call.op at.first.owned at.now.owned at.knows.at step
+
+  abbrev core : CoreState
+  core = step.takes.core
+
+  abbrev thread : ℕ
+  thread = step.takes.is_found.thread
+
+  abbrev taken : Taken
+  taken = record { read = read; step = act_step core thread call phase; after = mid }
+
+  is-taken : IsTaken at.now call phase taken
+  is-taken =
+      let found = step.takes.is_found in
+      record {
+        step = step;
+        turn = turn-is core thread call phase found.inside found.stands;
+        held = λ e. slot-held at.now.settings core thread call phase found.is found.stands e;
+      }
+
+  follows-is : follows core call phase ≡ next_of s call phase read
+  follows-is =
+      ap (λ (it : Settings). next_of it call phase (seen_by core.shared call.server (action_of call.number phase))) (step.takes.is_found.settings ∙ at.settings)
+      ∙ ap (next_of s call phase) (sym step.takes.reads)
+
+  tried-mid : TriedAfter s call (own_step taken ∷ at.own) (next_of s call phase read)
+  tried-mid =
+      let found = step.takes.is_found in
+      let next = tried-next s core thread call phase at.own at.now.steps found.is found.inside found.stands (found.settings ∙ at.settings) at.tried in
+      let count : at.now.steps + 1 ≡ mid.steps = sym (ap (λ (it : Pass). it.steps) step.takes.knows) in
+      let P : ℕ → Type 0 = λ n. TriedAfter s call (record { at = n; step = act_step core thread call phase } ∷ at.own) (next_of s call phase read) in
+      subst P count (subst (TriedAfter s call (record { at = at.now.steps + 1; step = act_step core thread call phase } ∷ at.own)) follows-is next)
 
   leads-mid : (decision : Decision) → next_of s call phase read ≡ decision → (steps : List Taken) (answer : Reply) (end : Pass)
       → GoesOn call decision (λ same later. Leads mid same later steps answer end) (λ given. (steps ≡ []) × (given ≡ answer) × (mid ≡ end))
+      → HasTried s answer (and_steps (own_step taken ∷ at.own) steps)
       → Called at.first op server answer end
-  leads-mid decision is steps answer end goes =
+  leads-mid decision is steps answer end goes tried =
       let P : Decision → Type 0 = λ it.
       GoesOn call it (λ same later. Leads mid same later steps answer end) (λ given. (steps ≡ []) × (given ≡ answer) × (mid ≡ end)) in
-      at.rest (record { read = read; after = mid } ∷ steps) answer end (step, subst P (sym (decided ∙ is)) goes)
+      at.rest (taken ∷ steps) answer end (is-taken, subst P (sym (decided ∙ is)) goes) tried
 
   pub goes-on : (lost : ℕ) (next : Phase) → next_of s call phase read ≡ Goes lost next
       → IsUnderWay s number op server before (record call { lost = lost }) next after × (left s lost next < left s call.lost phase)
@@ -174,7 +229,9 @@ module _ (s : Settings) (ranges : IsWithinRanges s) (number : ℕ) (op : Op) (se
           stands = ap (λ state. in_call state op server) (state-mid ∙ ap (state_after call) is);
           knows = both.0;
           added = subst (HasAddedAfter s at.first mid call) is added-mid;
-          rest = λ steps answer end leads. leads-mid (Goes lost next) is steps answer end leads;
+          own = own_step taken ∷ at.own;
+          tried = subst (TriedAfter s call (own_step taken ∷ at.own)) is tried-mid;
+          rest = λ steps answer end leads tried. leads-mid (Goes lost next) is steps answer end leads tried;
         },
         both.1,
       )
@@ -187,8 +244,8 @@ module _ (s : Settings) (ranges : IsWithinRanges s) (number : ℕ) (op : Op) (se
         new = mid;
         was = at.was;
         is = stepped.is;
-        called = leads-mid (Answers answer) is [] answer mid (refl, refl, refl);
-        adds = ended-adds at.first mid number op server call answer at.idle at.by at.does at.on (subst (HasAddedAfter s at.first mid call) is added-mid);
+        called = leads-mid (Answers answer) is [] answer mid (refl, refl, refl) (subst (TriedAfter s call (own_step taken ∷ at.own)) is tried-mid);
+        adds = ended-adds s at.first mid number op server call answer at.idle at.same at.by at.does at.on (subst (HasAddedAfter s at.first mid call) is added-mid);
         state = state-mid ∙ ap (state_after call) is ∙ ap Idle at.by;
         settings = settings-mid ∙ sym at.same;
         steps = subst (λ it. mid.steps ≤ at.first.steps + most_steps s it) at.does ends.few;
@@ -199,17 +256,14 @@ module _ (s : Settings) (ranges : IsWithinRanges s) (number : ℕ) (op : Op) (se
       }
 
 -- a look-up's first step answers it
-look-mark : (mark : Mark) (s : Settings) (call : Call) (found : ServerState) → call.op ≡ LookUp → found.mark ≡ mark
-    → from_mark mark s call found ≡ Answers (look_reply mark)
-look-mark (Up count) s call found is of = ap (λ op. from_up_by op s call found count) is
-look-mark (Soft owner) s call found is of =
-    cond_both (eqb owner call.number) (on_own_soft_by call.op call found) (Answers (on_others call.op found.mark)) (λ it. it ≡ Answers (Marked (Soft owner)))
-    (λ mine. ap (λ op. on_own_soft_by op call found) is ∙ ap (λ mark. Answers (Marked mark)) of)
-    (λ theirs. ap (λ op. Answers (on_others op found.mark)) is ∙ ap (λ mark. Answers (Marked mark)) of)
-look-mark (Hard owner) s call found is of =
-    cond_both (eqb owner call.number) (on_own_hard_by call.op call found) (Answers (on_others call.op found.mark)) (λ it. it ≡ Answers (Marked (Hard owner)))
-    (λ mine. ap (λ op. on_own_hard_by op call found) is ∙ ap (λ mark. Answers (Marked mark)) of)
-    (λ theirs. ap (λ op. Answers (on_others op found.mark)) is ∙ ap (λ mark. Answers (Marked mark)) of)
+look-stays : (s : Settings) (number stamp : ℕ) (mark : Mark) → transition s true number LookUp mark stamp ≡ stays (look_reply mark)
+look-stays s number stamp (Up count) = refl
+look-stays s number stamp (Soft owner) =
+    cond_both (eqb owner number) (on_own_soft number LookUp) (on_others LookUp (Soft owner)) (λ it. it ≡ stays (Marked (Soft owner)))
+    (λ mine. ap (λ it. stays (Marked (Soft it))) (sym (eqb-true owner number mine))) (λ theirs. refl)
+look-stays s number stamp (Hard owner) =
+    cond_both (eqb owner number) (on_own_hard number LookUp) (on_others LookUp (Hard owner)) (λ it. it ≡ stays (Marked (Hard owner)))
+    (λ mine. ap (λ it. stays (Marked (Hard it))) (sym (eqb-true owner number mine))) (λ theirs. refl)
 
 -- a look-up that took its one step
 pub looked-up : (s : Settings) (ranges : IsWithinRanges s) (number server : ℕ) (before : List Pass) (found : ServerState) (read : Observed) (after : List Pass)
@@ -218,4 +272,5 @@ pub looked-up : (s : Settings) (ranges : IsWithinRanges s) (number server : ℕ)
 looked-up s ranges number server before found read after can is stepped =
     let call = begun_by number LookUp server in
     answers s ranges number LookUp server before call Start before (begins s number LookUp server before ranges can) read after stepped (look_reply found.mark)
-    (ap (λ it. next_of s call Start it) is ∙ look-mark found.mark s call found refl refl)
+    (ap (λ it. next_of s call Start it) is
+    ∙ ap (λ (given : Transition). sets_out call found given.reply given.change) (look-stays s number found.stamp found.mark))

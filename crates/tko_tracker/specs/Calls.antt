@@ -15,11 +15,13 @@ use Rattle.tko_steps.specs.declared.table.Decision.{Decision}
 use Rattle.tko_steps.specs.declared.table.Decision.TheVariants.{Goes, Answers}
 use Rattle.tko_steps.specs.declared.table.Observed.{Observed}
 use Rattle.tko_steps.specs.declared.table.Observed.TheVariants as seen
+use Rattle.tko_steps.specs.Lost.{IsSlotOfOther, finds_no_slot}
 use Rattle.tko_steps.specs.Steps.{begun_by, is_marked_state}
 use Rattle.tko_steps.specs.Table.{action_of, next_of}
 use Rattle.tko_table.specs.declared.pass.Pass.{Pass}
 use Rattle.tko_table.specs.Passes.{without}
 use Rattle.tko_table.specs.Steps.{Takes}
+use Rattle.tko_tracker.specs.Tries.{HasTried, IsTurn, Taken, own_steps}
 
 -- the replies that an operation may get
 abbrev pub can_answer : Op → Reply → Bool
@@ -78,11 +80,6 @@ owned_left answer server owned =
     then server ∷ without server owned
     else (if gives answer then without server owned else owned)
 
--- one step of a call: what it read, and what the pass knew then
-pub record Taken : Type 0 where
-  pub read : Observed
-  pub after : Pass
-
 -- the step of a call at this phase: that of the core. A thread does not lose the exchange of its
 -- own mark
 pub record IsStep (before : Pass) (call : Call) (phase : Phase) (read : Observed) (after : Pass)
@@ -93,6 +90,14 @@ pub record IsStep (before : Pass) (call : Call) (phase : Phase) (read : Observed
         action_of call.number phase ≡ Exchange found mark →
         is_marked_state found.mark ≡ true → read ≡ seen.Done true
 
+-- the same with the step itself, which is the turn of its thread; where it is a look that finds no
+-- slot left, though more marks could be settled, another thread holds one
+pub record IsTaken (before : Pass) (call : Call) (phase : Phase) (taken : Taken) : Type 0 where
+  pub step : IsStep before call phase taken.read taken.after
+  pub turn : IsTurn step.takes.core step.takes.is_found.thread taken.step
+  pub held : finds_no_slot before.settings taken.step ≡ true →
+      IsSlotOfOther step.takes.core step.takes.is_found.thread
+
 -- a call goes on, or ends with a reply
 abbrev pub GoesOn : Call → Decision → (Call → Phase → Type 0) → (Reply → Type 0) → Type 0
 GoesOn call (Goes lost phase) more end = more (record call { lost = lost }) phase
@@ -102,7 +107,7 @@ GoesOn call (Answers answer) more end = end answer
 abbrev pub Leads : Pass → Call → Phase → List Taken → Reply → Pass → Type 0
 Leads before call phase [] answer after = ⊥
 Leads before call phase (step ∷ steps) answer after =
-    IsStep before call phase step.read step.after
+    IsTaken before call phase step
     × GoesOn
     call
     (next_of before.settings call phase step.read)
@@ -116,3 +121,4 @@ pub record Called (before : Pass) (op : Op) (server : ℕ) (answer : Reply) (aft
     pub idle : before.state ≡ Idle number
     pub steps : List Taken
     pub leads : Leads before (begun_by number op server) Start steps answer after
+    pub tried : HasTried before.settings answer (own_steps steps)

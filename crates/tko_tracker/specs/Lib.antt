@@ -4,3 +4,4 @@ pub mod History
 pub mod Owned
 pub mod Running
 pub mod Seated
+pub mod Tries

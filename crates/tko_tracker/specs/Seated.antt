@@ -1,18 +1,22 @@
 -- What a tracker and a pass are in contracts.
-use Rattle.std.specs.Prelude.{◌≡◌, ℕ, ◌+◌, ◌*◌, ◌<◌, ◌≤◌, true, false, List, [], ◌∷◌, length, slice_index_or}
+use Rattle.std.specs.Prelude.{◌≡◌, ℕ, ◌+◌, ◌*◌, ◌<◌, ◌≤◌, ◌==◌, All, true, false, if◌then◌else◌, List, [], ◌∷◌, ◌++◌, count_by, length, slice_index_or}
 use Rattle.atomic_table.specs.declared.shared.Seat.{Seat}
 use Rattle.atomic_table.specs.Seated.{TableId}
 use Rattle.tko_model.specs.declared.look.Look.{Look}
 use Rattle.tko_model.specs.declared.mark.Mark.{Mark}
 use Rattle.tko_model.specs.declared.mark.Op.{Op}
-use Rattle.tko_model.specs.declared.mark.Op.TheVariants.{LookUp}
+use Rattle.tko_model.specs.declared.mark.Op.TheVariants.{LookUp, Release}
 use Rattle.tko_model.specs.declared.mark.Reply.{Reply}
+use Rattle.tko_model.specs.declared.mark.Reply.TheVariants.{Released}
 use Rattle.tko_model.specs.declared.settings.Settings.{Settings}
 use Rattle.tko_model.specs.Looks.{look_of, look_reply}
 use Rattle.tko_steps.specs.declared.phase.ThreadState.TheVariants.{Idle}
 use Rattle.tko_steps.specs.Cost.{most_steps}
+use Rattle.tko_table.specs.declared.pass.Change.{Change}
+use Rattle.tko_table.specs.declared.pass.Made.{Made}
 use Rattle.tko_table.specs.declared.pass.Pass.{Pass}
 use Rattle.tko_table.specs.declared.words.Words.{Words}
+use Rattle.tko_table.specs.History.{changes_in, made_by}
 use Rattle.tko_table.specs.Passes.{new_pass, owns}
 use Rattle.tko_table.specs.Steps.{view_of}
 use Rattle.tko_tracker.specs.Calls.{Called, answers_owner, can_answer, owned_left}
@@ -108,9 +112,35 @@ pub record LooksUp
     pub answered : Answered tracker before LookUp server (look_reply mark) after
     pub is : look ≡ look_of server mark
 
--- a pass of this tracker released every mark of its thread, by four steps for each at most
+-- a call that released the mark of its thread
+pub record IsRelease (made : Made) : Type 0 where
+  pub op : made.op ≡ Release
+  pub mark : Mark
+  pub reply : made.reply ≡ Released mark
+
+-- how many of these calls were on this server
+abbrev pub calls_on : ℕ → List Made → ℕ
+calls_on server calls = count_by (λ made. made.server == server) calls
+
+-- the pass of the thread of this number made these calls, and saw their changes: in what it then
+-- has seen more of the history, its thread's changes are theirs, in order
+pub record Makes (number : ℕ) (before : Pass) (calls : List Made) (after : Pass) : Type 0 where
+  pub mine : after.mine ≡ before.mine ++ calls
+  pub more : List Change
+  pub seen : after.seen ≡ before.seen ++ more
+  pub own : made_by number more ≡ changes_in number calls
+
+-- a pass of this tracker released every mark of its thread, each by one call of four steps at most,
+-- and made no other call
 pub record Retired (tracker : TrackerId) (before : Seated) (after : Seated) : Type 0 where
   pub of : IsOf tracker after
+  pub number : ℕ
+  pub idle : before.pass.state ≡ Idle number
   pub state : after.pass.state ≡ before.pass.state
   pub none : OwnsNothing after.pass
   pub steps : after.pass.steps ≤ before.pass.steps + 4 * length before.pass.owned
+  pub calls : List Made
+  pub releases : All IsRelease calls
+  pub each : (server : ℕ) →
+      calls_on server calls ≡ (if owns before.pass.owned server then 1 else 0)
+  pub makes : Makes number before.pass calls after.pass

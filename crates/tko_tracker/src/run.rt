@@ -7,7 +7,7 @@ ghost use Rattle.tko_tracker.specs.Running.{CanCall, Ran};
 
 use crate::step::take_step;
 use tko_model::{Mark, Op, Reply};
-use tko_steps::{Call, Decision, Phase, Observed, next};
+use tko_steps::{Call, Decision, Observed, Phase, next};
 use tko_table::{Seat, Words};
 
 /// Makes a call of the thread with this number, and returns its answer.

@@ -8,7 +8,7 @@ ghost use Rattle.tko_table.specs.Steps.{IsAt, IsSameSeat, IsShift, IsWritable, T
 ghost use Rattle.tko_tracker.specs.Running.{IsReady, Stepped};
 
 use tko_model::{Mark, ServerState};
-use tko_steps::{Action, Call, Phase, Observed};
+use tko_steps::{Action, Call, Observed, Phase};
 use tko_table::{Seat, Words};
 
 /// Takes the step of the call's phase, and returns what it read.

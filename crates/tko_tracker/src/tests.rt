@@ -2,6 +2,8 @@
 ghost use Rattle.std.specs.Prelude.{◌≡◌, ◌<◌, IfSome};
 ghost use Rattle.tko_tracker.specs.Seated.{ArePasses, IsOf};
 
+mod ends;
+mod limits;
 mod threads;
 
 use crate::{Final, IdlePass, Pass, Tracker, close, open, wake};

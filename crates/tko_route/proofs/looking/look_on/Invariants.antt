@@ -1,14 +1,16 @@
-use Rattle.std.proofs.Common.{◌≡◌, ◌-◌, ◌≤◌, map, take, length, vec_capacity}
+use Rattle.std.proofs.Common.{◌≡◌, ◌-◌, ◌≤◌, ◌++◌, ℕ, List, length, vec_capacity}
 use Rattle.tko_text.specs.declared.request.Request.{Request}
-use Rattle.tko_route.specs.Routing.{Passed}
-use Rattle.tko_route.specs.Trail.{NoneAnswered, form_at, server_of}
+use Rattle.tko_route.specs.Calls.{Call}
+use Rattle.tko_route.specs.Routing.{GoesOn, IsTried}
+use Rattle.tko_route.specs.Trail.{Makes, form_at}
 use Rattle.tko_route.proofs.looking.look_on.Given as goal
 
 abbrev pub invariant-loop-attempts : goal.invariant-loop-attempts
 invariant-loop-attempts g l =
-    Passed g.H.Health.steps l.fn.health l.fn.attempts.items l.attempts.items l.health
-    × (map server_of l.attempts.items ≡ take (length l.attempts.items) l.targets)
-    × NoneAnswered l.attempts.items
+    ((form : ℕ → Request) (calls : List Call) → Makes form calls l.fn.attempts.items
+    → GoesOn g.H.Health.steps l.fn.health (λ more. Makes form (calls ++ more) l.attempts.items) l.health)
+    × IsTried l.targets l.attempts.items
+    × (length l.fn.attempts.items ≤ length l.attempts.items)
     × (length l.targets ≤ vec_capacity l.attempts)
     × (vec_capacity l.attempts ≡ vec_capacity l.fn.attempts)
     × (g.H.Health.servers l.health ≡ g.H.Health.servers l.fn.health)

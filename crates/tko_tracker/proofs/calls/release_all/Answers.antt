@@ -1,6 +1,6 @@
-use Rattle.std.proofs.Common.{◌+◌, ◌∙◌, subst, sym}
+use Rattle.std.proofs.Common.{◌+◌, ◌≤◌, ◌∙◌, arith, subst, sym}
 use Rattle.tko_tracker.specs.Seated.{tracker_of}
-use Rattle.tko_tracker.proofs.RetireLemmas.{IsReleased, released-next, released-skip}
+use Rattle.tko_tracker.proofs.RetireLemmas.{IsReleased, released-all, released-next, released-skip}
 use Rattle.tko_tracker.proofs.calls.release_all.Goals.{then-owns, else-owns}
 use Rattle.tko_tracker.proofs.calls.release_all.Goals as goal
 
@@ -18,3 +18,11 @@ loop-server-preserved c =
           subst (λ it. IsReleased tracker first it (at.server + 1)) (sym w.pass-is)
           (released-skip tracker first at.pass at.server at.invariant (sym c.owns.ensures ∙ w.if-owns.false))
     ]
+
+pub returns : goal.returns
+returns c =
+    let tracker = tracker_of c.args.words.now in
+    let at = c.loop-server in
+    released-all tracker c.args.pass.now at.pass at.server c.number.result at.invariant
+    (let all : tracker.settings.servers ≤ at.server = omega (arith, c.loop-server-test.false) in all)
+    c.number.ensures.below c.number.ensures.number

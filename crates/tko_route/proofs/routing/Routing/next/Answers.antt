@@ -1,11 +1,18 @@
-use Rattle.std.proofs.Common.{◌≡◌, rules}
+use Rattle.std.proofs.Common.{◌≡◌, rules, subst}
 use Rattle.std.specs.Option.{IsSome}
+use Rattle.tko_route.specs.Routing.{IsTried}
 use Rattle.tko_route.specs.Trail.{answer_of}
-use Rattle.tko_route.proofs.RoutingLemmas.{is_done}
+use Rattle.tko_route.proofs.RoutingLemmas.{done_at_once, is_done, is_tried}
 use Rattle.tko_route.proofs.routing.Routing.next.Goals as goal
 
-pub returns-then-is_answered-clause-step : goal.returns-then-is_answered-clause-step
-returns-then-is_answered-clause-step g c =
+pub returns-then-is_answered-clause-calls : goal.returns-then-is_answered-clause-calls
+returns-then-is_answered-clause-calls g c = λ form calls make.
     let same : c.of.result.trail ≡ c.args.self.attempts = search rules in
     let answered : IsSome (answer_of c.args.self.attempts) = search rules in
-    is_done c.args.health.now c.requires.underway answered same
+    done_at_once c.args.targets.now form calls c.args.health.now (is_done c.requires.underway answered same) same make
+
+pub look_on-requires-clause-tried : goal.look_on-requires-clause-tried
+look_on-requires-clause-tried g c =
+    let none : ¬ IsSome (answer_of c.args.self.attempts) = search rules in
+    let same : c.args.self.attempts ≡ c.self.inside.attempts.items = search rules in
+    subst (IsTried c.args.targets.now) same (is_tried c.requires.underway none)

@@ -16,9 +16,9 @@ returns-in-Ok-clause-tried g c = λ key is.
     let slots : c.note.new.self ≡ noted c.in-Ok.routed.trail c.args.self.now.probers =
     rw c.attempts.ensures at c.note.ensures in
     record {
-      tried = subst (λ xs. IsTrail xs c.in-Ok.routed.trail) targets routed.trail;
-      attempts = rw c.failover_exptime-exptime.ensures at routed.«record»;
-      sends = routed.sends;
+      tried = subst (λ xs. IsTrail xs c.in-Ok.routed.trail) targets routed.ok.trail;
+      attempts = rw (c.failover_exptime-exptime.ensures, targets) at routed.ok.attempts;
+      sends = routed.ok.sends;
       probes = routed.probes;
       others = with_probers c.args.self.now c.route.new.health c.route.new.links _ _ slots;
     }
@@ -42,7 +42,7 @@ returns-in-Err-clause-short g c = λ key is.
     record {
       trail = c.in-Err.fault.trail;
       was_sent = c.in-Err.fault.sent;
-      attempts = rw (c.failover_exptime-exptime.ensures, targets) at fault.fault_record;
+      attempts = rw (c.failover_exptime-exptime.ensures, targets) at fault.err.attempts;
       others = with_probers c.args.self.now c.route.new.health c.route.new.links _ _ slots;
     }
 

@@ -1,0 +1,104 @@
+//! A worn stamp, and no soft mark at all.
+ghost use Rattle.std.specs.Prelude.{◌<◌};
+
+use super::{is_at, reply};
+use crate::{close, open, wake};
+use std::alloc::Global;
+use std::process::Abort;
+use std::test::Fail;
+use tko_model::{Mark, Op, OpenFault, Reply, Settings, SettingsFault};
+
+const SETTINGS: Settings = Settings {
+    servers: 1,
+    threads: 1,
+    failures: 1,
+    limit: 1,
+    tries: 8,
+    opening_stamp: 0,
+};
+
+/// From this stamp on an unmarked server takes no change.
+const WORN: u64 = 2_251_799_813_685_240;
+
+/// A thread makes these calls on server 0, each with its reply, and retires. Server 0 is up then, and
+/// this is its stamp.
+fn play(
+    rt: &impl Abort,
+    alloc: Global,
+    settings: Settings,
+    calls: &[(Op, Reply)],
+    stamp: u64,
+) -> Result<(), Fail>
+    requires { 0 < settings.servers }
+{
+    let (tracker, mut passes) = open(alloc, settings)?;
+    assert!(rt; passes.len() == 1);
+    let mut pass = wake(passes.pop().expect(rt, "a pass"));
+    for call in calls {
+        assert_eq!(rt; reply(&tracker, &mut pass, call.0, 0), call.1);
+    }
+    passes.push(tracker.retire(pass))?;
+    let Ok(last) = close(tracker, passes) else {
+        panic!(rt; "a pass is missing")
+    };
+    assert_eq!(rt; is_at(&last, 0), (Mark::Up(0), stamp));
+    assert_eq!(rt; last.soft(), (0, 0));
+    Ok(())
+}
+
+/// The last change that a server takes is followed by those of the thread that then marked it.
+#[test]
+fn last_change_before_the_stamp_is_worn(rt: HostRuntime) -> Result<(), Fail> {
+    let settings = Settings {
+        opening_stamp: WORN - 1,
+        ..SETTINGS
+    };
+    let calls = [
+        (Op::SoftFailure, Reply::TookSoft),
+        (Op::HardFailure, Reply::Hardened),
+        (Op::Success, Reply::Unmarked(Mark::Hard(0))),
+        (Op::HardFailure, Reply::Worn),
+        (Op::SoftFailure, Reply::Worn),
+        (Op::Success, Reply::Clean),
+    ];
+    play(&rt, rt.alloc(), settings, &calls, 2_251_799_813_685_242)
+}
+
+#[test]
+fn worn_stamp(rt: HostRuntime) -> Result<(), Fail> {
+    let settings = Settings {
+        opening_stamp: WORN,
+        ..SETTINGS
+    };
+    let calls = [
+        (Op::SoftFailure, Reply::Worn),
+        (Op::HardFailure, Reply::Worn),
+        (Op::LookUp, Reply::Up(0)),
+        (Op::Success, Reply::Clean),
+        (Op::Release, Reply::NotMine(Mark::Up(0))),
+    ];
+    play(&rt, rt.alloc(), settings, &calls, WORN)?;
+    let past = Settings {
+        opening_stamp: WORN + 1,
+        ..SETTINGS
+    };
+    let fault = open(rt.alloc(), past).err();
+    assert!(rt; matches!(fault, Some(OpenFault::Settings(SettingsFault::Stamp))));
+    Ok(())
+}
+
+#[test]
+fn limit_zero_never_marks_soft(rt: HostRuntime) -> Result<(), Fail> {
+    let settings = Settings {
+        limit: 0,
+        ..SETTINGS
+    };
+    let calls = [
+        (Op::SoftFailure, Reply::Full),
+        (Op::LookUp, Reply::Up(0)),
+        (Op::SoftFailure, Reply::Full),
+        (Op::HardFailure, Reply::TookHard),
+        (Op::Release, Reply::Released(Mark::Hard(0))),
+    ];
+    play(&rt, rt.alloc(), settings, &calls, 2)
+}
