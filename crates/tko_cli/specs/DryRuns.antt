@@ -8,12 +8,12 @@ use Rattle.tko_links.specs.declared.scripted.Script.{Script}
 use Rattle.tko_health.specs.Health.{OneThread, IsGranted, IsTrackerStep}
 use Rattle.tko_links.specs.Scripted.{ScriptedState, IsPlayed}
 use Rattle.tko_prober.specs.declared.delays.Delays.{Delays}
-use Rattle.tko_session.specs.declared.moments.Still.{Still}
+use Rattle.tko_backend.specs.declared.clock.FrozenClock.{FrozenClock}
 use Rattle.tko_session.specs.declared.parts.Parts.{Parts}
 use Rattle.tko_session.specs.declared.session.Report.{Report}
 use Rattle.tko_session.specs.Events.{Event, IsEvent}
-use Rattle.tko_session.specs.Moments.{IsStill}
-use Rattle.tko_session.specs.Probers.{no_probers}
+use Rattle.tko_backend.specs.Clocks.{IsFrozen}
+use Rattle.tko_backend.specs.Probers.{no_probers}
 use Rattle.tko_session.specs.Served.{CameTooLong, Served}
 use Rattle.tko_session.specs.SessionState.{probed_by, sent_by}
 use Rattle.tko_session.specs.TrailEvents.{Keeps}
@@ -29,7 +29,7 @@ use Rattle.tko_cli.specs.Texts.{trails_text}
 
 -- a tracker of one thread, scripted servers, the trails so far, and a clock that stands still at 0
 abbrev pub DryParts : Type 0
-DryParts = Parts OneThread ScriptedState (List (List Attempt)) Still
+DryParts = Parts OneThread ScriptedState (List (List Attempt)) FrozenClock
 
 -- the words of the list of outcomes
 abbrev pub words_in : DryOptions → List (List ℕ)
@@ -52,8 +52,8 @@ pub record AreDefaultDelays (delays : Delays) : Type 0 where
 -- scripts, nothing sent or probed, no trail, and no server that is going to be probed
 pub record AreFresh (scripts : List Script) (config : Configuration) (tracker : Tracker)
     (parts : DryParts) : Type 0 where
-  pub health : parts.health ≡ record { tracker = tracker; thread = 0 }
-  pub links : parts.links ≡ record {
+  pub health : parts.backend.health ≡ record { tracker = tracker; thread = 0 }
+  pub links : parts.backend.links ≡ record {
     scripts = scripts;
     sends = replicate (length config.addresses) 0;
     probes = replicate (length config.addresses) 0;
@@ -63,7 +63,7 @@ pub record AreFresh (scripts : List Script) (config : Configuration) (tracker : 
   pub over : parts.config ≡ config
   pub delays : Delays
   pub by_default : AreDefaultDelays delays
-  pub probers : parts.probers ≡ no_probers delays (length config.addresses)
+  pub probers : parts.backend.probers ≡ no_probers delays (length config.addresses)
 
 -- the parts that a dry run begins with: the configuration that the options name, a new tracker of
 -- its servers, and the scripts that the list of outcomes asks for
@@ -100,7 +100,7 @@ probes_of links server = slice_index links.probes server
 -- an event over these parts
 abbrev pub IsDryEvent : DryParts → Event → DryParts → Type 0
 IsDryEvent old event new =
-    IsEvent IsTrackerStep IsGranted IsPlayed sends_of probes_of Keeps IsStill old event new
+    IsEvent IsTrackerStep IsGranted IsPlayed sends_of probes_of Keeps IsFrozen old event new
 
 -- the trails' lines went out if they are asked for, and else nothing
 abbrev pub TrailsGo : {O : Type 0} → (O → List ℕ → O → Type 0) → Bool → List (List Attempt)

@@ -8,14 +8,16 @@ use crate::outcomes::scripts_of;
 use crate::trail_lines::trail_lines;
 use crate::writing::write_text;
 use std::alloc::Global;
+use tko_backend::{Backend, FrozenClock, Probers};
 use tko_bytes::NoMemory;
+use tko_io::{Inlet, Outlet};
 use tko_links::{IoRuntime, Script, Scripted};
 use tko_model::Plain;
 use tko_options::DryOptions;
 use tko_pools::Config;
 use tko_prober::Delays;
 use tko_route::PlainHealth;
-use tko_session::{Inlet, Kept, Outlet, Parts, Probers, Still, serve};
+use tko_session::{Kept, Parts, serve};
 
 /// How long the first probe of a server waits, in milliseconds.
 const FIRST_DELAY: u32 = 10_000;
@@ -24,7 +26,7 @@ const FIRST_DELAY: u32 = 10_000;
 const GREATEST_DELAY: u32 = 60_000;
 
 /// The clock of the probers stands still, so no probe is ever due.
-type DryParts = Parts<PlainHealth, Scripted, Kept, Still>;
+type DryParts = Parts<PlainHealth, Scripted, Kept, FrozenClock>;
 
 /// Answers the requests of the input, and then prints the trails if they are asked for.
 pub(crate) fn dry<R: IoRuntime, I: Inlet, O: Outlet>(
@@ -64,12 +66,14 @@ fn parts_of(
 {
     let servers = config.servers() as usize;
     Ok(Parts {
-        health: PlainHealth::new(tracker, 0),
-        links: Scripted::new(alloc, servers, scripts)?,
+        backend: Backend {
+            health: PlainHealth::new(tracker, 0),
+            links: Scripted::new(alloc, servers, scripts)?,
+            probers: Probers::new(alloc, default_delays(), servers)?,
+            clock: FrozenClock,
+        },
         trails: Kept::new(alloc),
-        probers: Probers::new(alloc, default_delays(), servers)?,
         config,
-        moments: Still,
     })
 }
 

@@ -8,9 +8,9 @@ use std::alloc::Global;
 use std::fs::{File, Files};
 use std::io;
 use tko_bytes::NoMemory;
+use tko_io::Outlet;
 use tko_links::IoRuntime;
 use tko_options::{CheckOptions, DryOptions, ServeOptions};
-use tko_session::Outlet;
 
 /// The options, with the text of their configuration's file in the place of the configuration.
 pub(crate) fn loaded_dry<R: IoRuntime + Files, F: Outlet>(

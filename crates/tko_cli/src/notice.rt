@@ -5,10 +5,10 @@ ghost use Rattle.tko_cli.specs.Notices.{HasNotice, HasNotices, notice_bytes, not
 use crate::writing::write_text;
 use std::alloc::Global;
 use tko_bytes::NoMemory;
+use tko_io::Outlet;
 use tko_links::IoRuntime;
 use tko_model::append_number;
 use tko_server::Allotment;
-use tko_session::Outlet;
 
 /// What `serve` says on standard error.
 #[derive(Clone, Copy, Debug, PartialEq, Eq)]

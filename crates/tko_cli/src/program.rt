@@ -13,9 +13,9 @@ use std::alloc::Global;
 use std::fs::Files;
 use std::net::TcpListener;
 use std::thread::Threads;
+use tko_io::{Inlet, Outlet};
 use tko_links::IoRuntime;
 use tko_options::{Asked, CheckOptions, DryOptions, Refusal, ServeOptions};
-use tko_session::{Inlet, Outlet};
 
 const DONE: u8 = 0;
 

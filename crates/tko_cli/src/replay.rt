@@ -6,9 +6,9 @@ use crate::Fault;
 use crate::reading::read_text;
 use crate::writing::write_text;
 use std::alloc::Global;
+use tko_io::{Inlet, Outlet};
 use tko_links::IoRuntime;
 use tko_runs::{Schedule, check, play};
-use tko_session::{Inlet, Outlet};
 
 /// One byte more than a schedule may have, so that a text that is too long is seen.
 const MOST_READ: usize = 1_048_577;

@@ -14,10 +14,10 @@ use std::fs::Files;
 use std::net::TcpListener;
 use std::thread::Threads;
 use tko_events::What;
+use tko_io::Outlet;
 use tko_links::IoRuntime;
 use tko_options::ServeOptions;
 use tko_server::{Logging, WorkerReport, run_logged};
-use tko_session::Outlet;
 
 /// Serves clients over TCP until the last of the connections has ended, and then prints the totals.
 /// `ready` is printed once clients can connect. Before it a notice says what the server does with

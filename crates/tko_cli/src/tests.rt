@@ -9,7 +9,7 @@ use std::sync::Wait;
 use std::test::Fail;
 use std::thread::Threads;
 use std::time::Clock;
-use tko_session::{Stop, Taped};
+use tko_io::{Stop, Taped};
 
 const DRY: &str = "tkoproxy dry --servers 2 --failures 2 --outcomes refused,miss --trail";
 

@@ -1,8 +1,8 @@
 //! Whole texts onto an outlet.
 ghost use Rattle.std.specs.Prelude.{◌≡◌, ◌<◌, OnErr, OnOk};
 
+use tko_io::{Outlet, write_all};
 use tko_links::IoRuntime;
-use tko_session::{Outlet, write_all};
 
 /// The outlet failed.
 #[derive(Clone, Copy, Debug, PartialEq, Eq)]

@@ -17,9 +17,9 @@ pub record IsCommand (name : List ℕ) (matches : ArgMatches) (found : Found) : 
 -- a command whose options are what clap found for it
 pub record IsCommandWith (name : List ℕ) (are : Found → Type 0) (matches : ArgMatches) : Type 0
   where
-  pub found : Found
-  pub command : IsCommand name matches found
-  pub options : are found
+    pub found : Found
+    pub command : IsCommand name matches found
+    pub options : are found
 
 -- what was asked for is the command that clap found, with the options that it found for it
 abbrev pub AsksFor : ArgMatches → Asked → Type 0

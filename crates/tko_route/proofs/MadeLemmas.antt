@@ -11,7 +11,7 @@ use Rattle.tko_links.specs.declared.links.Outcome.{Outcome}
 use Rattle.tko_links.specs.Links.{part_of}
 use Rattle.tko_route.specs.declared.attempt.Attempt.{Attempt}
 use Rattle.tko_route.specs.Calls.{Upstream, Call, Came, Does, IsExchange, Told, came, look_up, sends_of}
-use Rattle.tko_route.specs.Routing.{FindsUp, GoesOn}
+use Rattle.tko_route.specs.Routing.{FindsUp}
 use Rattle.tko_route.specs.Trail.{Cut, IsCut, IsCutTrail, IsRouted, IsTrail, Makes, Way, next_target, sends_in}
 use Rattle.tko_route.proofs.TrailLemmas.{sends_by_trail}
 
@@ -45,79 +45,68 @@ module _ {H L : Type 0} (upstream : Upstream H L) where
       omega (arith, split, sends_by_step s old call mid step, sends_by_calls s mid calls new rest)
 
   -- a request was routed
-  pub is_routed : {old : H × L} {health found : H} {links : L} {calls : List Call} {way : Way}
-      → Gains (Does upstream) old calls (health, links)
-      → GoesOn upstream.steps health (λ more. IsTrail way.targets way.trail × Makes way.form (calls ++ more) way.trail) found
-      → IsRouted upstream old way (found, links)
-  is_routed {old} {health} {found} {links} {calls} {way} front on =
-      let gains = gains_told front on.gains in
-      record {
-        trail = on.is.0;
-        attempts = record { calls = calls ++ map Told on.items; make = on.is.1; gains = gains };
-        sends = λ s. omega (arith, sends_by_calls s old (calls ++ map Told on.items) (found, links) gains.leads, sends_by_trail s on.is.1);
-      }
+  pub is_routed : {old new : H × L} {calls : List Call} {way : Way} → Gains (Does upstream) old calls new
+      → IsTrail way.targets way.trail → Makes way.form calls way.trail → IsRouted upstream old way new
+  is_routed {old} {new} {calls} {way} gains whole make = record {
+    trail = whole;
+    attempts = record { calls = calls; make = make; gains = gains };
+    sends = λ s. omega (arith, sends_by_calls s old calls new gains.leads, sends_by_trail s make);
+  }
 
-  -- marked servers were skipped, the next was sent to, and what came of it was recorded
-  pub made_sent : {old : H × L} {health found new : H} {links after : L} {calls : List Call} {form : ℕ → Request}
-      {trail all : List Attempt} {server clear : ℕ} {request : Request} {got : Outcome}
+  -- a request was sent, what came of it was recorded, and marked servers were skipped
+  pub made_sent : {old : H × L} {health new : H} {links after : L} {calls : List Call} {items : List HealthItem}
+      {server clear : ℕ} {form request : Request} {got : Outcome}
       → Gains (Does upstream) old calls (health, links)
-      → (on : GoesOn upstream.steps health (λ more. FindsUp form (calls ++ more) trail server) found)
       → clear ≡ server
       → IsExchange upstream links (record { server = clear; request = request; result = Ok got }) after
-      → request ≡ form (length trail)
-      → ((calls : List Call) → FindsUp form calls trail server → GoesOn upstream.steps found
-      (λ more. Makes form (calls ++ came server (form (length trail)) (Ok got) ∷ more) all) new)
-      → (all_calls : List Call) × Makes form all_calls all × Gains (Does upstream) old all_calls (new, after)
-  made_sent {old} {health} {found} {new} {links} {after} {calls} {form} {trail} {all} {server} {clear} {request} {got} front on names exchange form_is records =
-      let before = calls ++ map Told on.items in
-      let last = records before on.is in
-      let item = came server (form (length trail)) (Ok got) in
+      → request ≡ form
+      → Gains upstream.steps health items new
+      → Gains (Does upstream) old (calls ++ came server form (Ok got) ∷ map Told items) (new, after)
+  made_sent {old} {health} {new} {links} {after} {calls} {items} {server} {clear} {form} {request} {got} front names exchange form_is more =
+      let item = came server form (Ok got) in
       let Q : ℕ → Request → Type 0 = λ n r. IsExchange upstream links (record { server = n; request = r; result = Ok got }) after in
-      let sent : Gains (Does upstream) old (before ++ item ∷ []) (found, after) =
-      gains_push (gains_told front on.gains) (subst (λ (n : ℕ). Q n (form (length trail))) names (subst (λ (r : Request). Q clear r) form_is exchange), refl) in
-      let P : List Call → Type 0 = λ list. Gains (Does upstream) old list (new, after) in (
-        before ++ item ∷ map Told last.items,
-        last.is,
-        subst P (append_assoc before (item ∷ []) (map Told last.items)) (gains_told sent last.gains),
-      )
+      let sent : Gains (Does upstream) old (calls ++ item ∷ []) (health, after) =
+      gains_push front (subst (λ (n : ℕ). Q n form) names (subst (λ (r : Request). Q clear r) form_is exchange), refl) in
+      let P : List Call → Type 0 = λ list. Gains (Does upstream) old list (new, after) in
+      subst P (append_assoc calls (item ∷ []) (map Told items)) (gains_told sent more)
 
   -- memory ran out at the exchange
-  pub is_cut : {old : H × L} {health found : H} {links after : L} {calls : List Call} {cut : Cut} {server clear : ℕ}
+  pub is_cut : {old : H × L} {health : H} {links after : L} {calls : List Call} {cut : Cut} {server clear : ℕ}
       {request : Request}
       → Gains (Does upstream) old calls (health, links)
-      → (on : GoesOn upstream.steps health (λ more. FindsUp cut.way.form (calls ++ more) cut.way.trail server) found)
+      → FindsUp cut.way.form calls cut.way.trail server
       → IsCutTrail cut.way.targets cut.way.trail
       → server ≡ next_target cut.way.targets cut.way.trail
       → clear ≡ server
       → IsExchange upstream links (record { server = clear; request = request; result = Err (record { sent = cut.sent }) }) after
       → request ≡ cut.way.form (length cut.way.trail)
-      → IsCut upstream old cut (found, after)
-  is_cut {old} {health} {found} {links} {after} {calls} {cut} {server} {clear} {request} front on tried at names exchange form_is =
+      → IsCut upstream old cut (health, after)
+  is_cut {old} {health} {links} {after} {calls} {cut} {server} {clear} {request} front up tried at names exchange form_is =
       let form = cut.way.form in
       let trail = cut.way.trail in
       let fault : NoMemory = record { sent = cut.sent } in
       let item = came server (form (length trail)) (Err fault) in
-      let look = look_up server (reply.Up on.is.count) in
+      let look = look_up server (reply.Up up.count) in
       let Q : ℕ → Request → Type 0 = λ n r. IsExchange upstream links (record { server = n; request = r; result = Err fault }) after in
-      let sent : Gains (Does upstream) old ((calls ++ map Told on.items) ++ item ∷ []) (found, after) =
-      gains_push (gains_told front on.gains) (subst (λ (n : ℕ). Q n (form (length trail))) names (subst (λ (r : Request). Q clear r) form_is exchange), refl) in
-      let P : List Call → Type 0 = λ list. Gains (Does upstream) old list (found, after) in
-      let grown : (calls ++ map Told on.items) ++ item ∷ [] ≡ on.is.before ++ look ∷ item ∷ [] =
-      ap (λ list. list ++ item ∷ []) on.is.is ∙ append_assoc on.is.before (look ∷ []) (item ∷ []) in
+      let sent : Gains (Does upstream) old (calls ++ item ∷ []) (health, after) =
+      gains_push front (subst (λ (n : ℕ). Q n (form (length trail))) names (subst (λ (r : Request). Q clear r) form_is exchange), refl) in
+      let P : List Call → Type 0 = λ list. Gains (Does upstream) old list (health, after) in
+      let grown : calls ++ item ∷ [] ≡ up.before ++ look ∷ item ∷ [] =
+      ap (λ list. list ++ item ∷ []) up.is ∙ append_assoc up.before (look ∷ []) (item ∷ []) in
       let gains = subst P grown sent in
-      let count : (s : ℕ) → sum_by (sends_of s) (on.is.before ++ look ∷ item ∷ [])
-      ≡ sum_by (sends_of s) on.is.before + (0 + 0 + part_of cut.sent server s) =
-      λ s. sum_by-append (sends_of s) on.is.before (look ∷ item ∷ []) in
+      let count : (s : ℕ) → sum_by (sends_of s) (up.before ++ look ∷ item ∷ [])
+      ≡ sum_by (sends_of s) up.before + (0 + 0 + part_of cut.sent server s) =
+      λ s. sum_by-append (sends_of s) up.before (look ∷ item ∷ []) in
       let N : ℕ → Type 0 = λ n. (s : ℕ) → upstream.sent after s ≡ upstream.sent old.1 s + sends_in s trail + part_of cut.sent n s in
       record {
         trail = tried;
         attempts = inr (record {
-          calls = on.is.before;
-          make = on.is.make;
+          calls = up.before;
+          make = up.make;
           server = server;
           is_next = at;
-          count = on.is.count;
+          count = up.count;
           gains = gains;
         });
-        sends = subst N at (λ s. omega (arith, count s, sends_by_calls s old (on.is.before ++ look ∷ item ∷ []) (found, after) gains.leads, sends_by_trail s on.is.make));
+        sends = subst N at (λ s. omega (arith, count s, sends_by_calls s old (up.before ++ look ∷ item ∷ []) (health, after) gains.leads, sends_by_trail s up.make));
       }

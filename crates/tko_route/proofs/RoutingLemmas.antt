@@ -10,8 +10,8 @@ use Rattle.std.specs.Option.{option_and_then}
 use Rattle.tko_model.specs.declared.mark.Mark.{Mark}
 use Rattle.tko_model.specs.declared.mark.Op.TheVariants.{LookUp}
 use Rattle.tko_model.specs.declared.mark.Reply.TheVariants as reply
-use Rattle.tko_model.specs.Records.{HealthItem, Called}
-use Rattle.tko_model.proofs.RecordLemmas.{gains_none, gains_one, gains_push}
+use Rattle.tko_model.specs.Records.{Gains, HealthItem, Called}
+use Rattle.tko_model.proofs.RecordLemmas.{gains_append, gains_none, gains_one, gains_push}
 use Rattle.tko_text.specs.declared.request.Request.{Request}
 use Rattle.tko_links.specs.declared.links.Outcome.{Outcome}
 use Rattle.tko_links.specs.declared.links.Outcome.TheVariants as outcome
@@ -199,3 +199,15 @@ module _ {H : Type 0} {steps : H → HealthItem → H → Type 0} where
   done_at_once targets form calls at {trail} {all} whole e make =
       let P : List Attempt → Type 0 = λ list. Makes form calls list in
       stays (λ list. IsTrail targets all × Makes form list all) calls at (whole, subst P (sym e) make)
+
+  -- after one call more, health was asked or told this, and then more
+  pub then_on : (reached : List Call → Type 0) (calls : List Call) (item : Call) {old mid new : H} {items : List HealthItem}
+      → Gains steps old items mid → GoesOn steps mid (λ more. reached ((calls ++ item ∷ map Told items) ++ more)) new
+      → GoesOn steps old (λ more. reached (calls ++ item ∷ more)) new
+  then_on reached calls item {old} {mid} {new} {items} first on = record {
+    items = items ++ on.items;
+    gains = gains_append first on.gains;
+    is = subst reached
+        (append_assoc calls (item ∷ map Told items) (map Told on.items)
+        ∙ ap (λ told. calls ++ item ∷ told) (sym (map-append Told items on.items))) on.is;
+  }

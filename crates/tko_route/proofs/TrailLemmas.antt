@@ -4,7 +4,7 @@ use Rattle.std.specs.Prelude.{sum_by}
 use Rattle.std.proofs.lemmas.Grind.{common_steps}
 use Rattle.std.proofs.lemmas.List.Sums.{sum_by-append}
 use Rattle.tko_model.specs.Records.{Gains, Lead}
-use Rattle.tko_model.proofs.RecordLemmas.{gains_push}
+use Rattle.tko_model.proofs.RecordLemmas.{gains_none, gains_push}
 use Rattle.tko_model.specs.declared.mark.Op.{Op}
 use Rattle.tko_text.specs.declared.request.Request.{Request}
 use Rattle.tko_links.specs.declared.links.Outcome.{Outcome}
@@ -42,6 +42,10 @@ placed_push place last (first ∷ trail) it e =
 pub count_pushed : (all trail : List Attempt) (it : Attempt) → all ≡ trail ++ it ∷ []
     → length trail ≡ length all - 1
 count_pushed all trail it e = grind (arith, common_steps)
+
+-- without an attempt there are no calls
+pub makes_none : {form : ℕ → Request} {trail : List Attempt} → trail ≡ [] → Makes form [] trail
+makes_none e = rw e (record { adds = gains_none [] })
 
 -- one more attempt adds its calls
 pub makes_pushed : {form : ℕ → Request} {calls all_calls : List Call} {trail all : List Attempt}

@@ -115,9 +115,9 @@ Ends steps old (attempt.Sent server got answer) new =
     (op : Op) × (op_of got ≡ Some op) × steps old (Called op server answer) new
 Ends steps old (attempt.Spent server) new = new ≡ old
 
--- the calls of one attempt: a look-up that found that mark; or one that found the server up, then the
--- exchange, then the call that the table of outcomes names; or one that found the server up, and
--- an exchange that sent nothing, since the server's count is used up
+-- the calls of one attempt: a look-up that found that mark; or one that found the server up, then
+-- the exchange, then the call that the table of outcomes names; or one that found the server up,
+-- and an exchange that sent nothing, since the server's count is used up
 abbrev pub IsAttempt : Request → List Call → Attempt → Type 0
 IsAttempt request calls (attempt.Skipped server mark) =
     calls ≡ look_up server (reply.Marked mark) ∷ []

@@ -5,7 +5,7 @@ ghost use Rattle.tko_route.specs.Trail.{IsCut, IsRouted, cut, form_at, way};
 ghost use Rattle.tko_text.specs.SentRequests.{without_noreply};
 
 use crate::routed::{RouteFault, Routed};
-use crate::routing::{Routing, Stage};
+use crate::routing::Stage;
 use std::alloc::Global;
 use tko_health::Health;
 use tko_links::{IoRuntime, Links};
@@ -41,14 +41,16 @@ pub fn route<R: IoRuntime, H: Health, L: Links>(
     ensures health_servers { H.servers health.new ≡ H.servers health.old }
     ensures links_servers { L.servers links.new ≡ L.servers links.old }
 {
-    let Ok(mut routing) = Routing::new(alloc, request, targets) else {
+    let Ok(mut stage) = Stage::begin(rt, alloc, health, targets, request, exptime) else {
         return Err(RouteFault::untried(alloc));
     };
     loop {
-        match routing.next(rt, health, targets, request, exptime) {
+        match stage {
             Stage::Done(routed) => return Ok(routed),
             Stage::Away(clear, waiting) => match links.exchange(rt, clear, request) {
-                Ok(outcome) => routing = waiting.record(rt, health, outcome),
+                Ok(outcome) => {
+                    stage = waiting.answered(rt, health, targets, request, exptime, outcome);
+                }
                 Err(fault) => return Err(waiting.stop(fault)),
             },
         }

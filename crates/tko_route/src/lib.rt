@@ -3,7 +3,7 @@
 //! - `Health` of tko_health: what is known of the servers, and what a router reports of them;
 //!   `PlainHealth` keeps it for one thread, and `LockedHealth` for several, in a lock.
 //! - `Attempt` and `Trail`: what was done at one target, and at all of them in order.
-//! - `Routing`: a routed request that says what to send next, and `Waiting`, the same while that
+//! - `Stage`: how far a routed request came, and what it sends next; `Waiting`, the same while that
 //!   send is out.
 //! - `route`: makes the trail of a request, as a `Routed` or, out of memory, a `RouteFault`.
 #![tactic(auto)]
@@ -17,7 +17,7 @@ mod routing;
 pub use attempt::{Attempt, Trail};
 pub use failover::route;
 pub use routed::{RouteFault, Routed};
-pub use routing::{Routing, Stage, Waiting};
+pub use routing::{Stage, Waiting};
 pub use tko_health::{Health, LockedHealth, PlainHealth};
 
 #[cfg(test)]

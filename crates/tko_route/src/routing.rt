@@ -1,8 +1,8 @@
 //! The routing of one request as a value that sends nothing itself: its caller sends. A look-up or
 //! a record of an outcome may wait for a lock of the health.
 //!
-//! - `Routing`: nothing is sent. `next` looks for a server that is up.
-//! - `Waiting`: a request was sent. `record` takes what came of it.
+//! - `Stage`: how far a routing came. `begin` looks for the first server that is up.
+//! - `Waiting`: a request was sent. `answered` takes what came of it, and goes on.
 ghost use Rattle.std.specs.Prelude.{◌≡◌, ◌+◌, ◌-◌, ◌<◌, ◌≤◌, ◌∷◌, ◌++◌, ℕ, [], All, IfOk, List, OnErr, length, Ok};
 ghost use Rattle.tko_route.specs.Calls.{Call, came};
 ghost use Rattle.tko_route.specs.Routing.{FindsUp, GoesOn, IsAwaited, IsUnderway, Reached, last_place, tries};
@@ -25,7 +25,7 @@ use tko_text::Request;
 /// A request that is routed, while none of its sends is out. It has room for an attempt at each
 /// target. Its calls are passed the same targets, the request and its replaced expiry.
 #[derive(Debug, Drop)]
-pub struct Routing {
+pub(crate) struct Routing {
     attempts: Vec<Attempt>,
 }
 
@@ -71,7 +71,7 @@ impl Model for Waiting {
 
 impl Routing {
     /// A request to be routed to these targets. It is sent without `noreply`.
-    pub fn new(alloc: Global, request: &mut Request, targets: &[usize]) -> Result<Routing, NoMemory>
+    fn new(alloc: Global, request: &mut Request, targets: &[usize]) -> Result<Routing, NoMemory>
         ensures ok { IfOk result (λ routing. IsUnderway targets.now routing) }
         ensures empty { IfOk result (λ routing. routing.attempts ≡ []) }
         ensures err { OnErr result (0 < length targets.now) }
@@ -84,7 +84,7 @@ impl Routing {
 
     /// Looks for the next server to send to. Brings the request into the form in which that server
     /// gets it: from the second target of the list on, its expiry is replaced.
-    pub fn next<R: Wait, H: Health>(
+    fn next<R: Wait, H: Health>(
         self,
         rt: &R,
         health: &mut H,
@@ -117,6 +117,32 @@ impl Routing {
     }
 }
 
+impl Stage {
+    /// Begins to route a request: drops its `noreply`, and looks for the first server to send to.
+    pub fn begin<R: Wait, H: Health>(
+        rt: &R,
+        alloc: Global,
+        health: &mut H,
+        targets: &[usize],
+        request: &mut Request,
+        exptime: u32,
+    ) -> Result<Stage, NoMemory>
+        requires health { All (λ target. target < H.servers health.old) targets.now }
+        ensures calls { IfOk result (λ stage. (form : ℕ → Request)
+            → GoesOn H.steps health.old
+            (λ calls. Reached targets.now form calls stage) health.new) }
+        ensures ok_request { IfOk result (λ stage.
+            request.new ≡ form_at exptime (without_noreply request.old) (last_place stage)) }
+        ensures err { OnErr result (0 < length targets.now) }
+        ensures err_health { OnErr result (health.new ≡ health.old) }
+        ensures err_request { OnErr result (request.new ≡ without_noreply request.old) }
+        ensures servers { H.servers health.new ≡ H.servers health.old }
+    {
+        let routing = Routing::new(alloc, request, targets)?;
+        Ok(routing.next(rt, health, targets, request, exptime))
+    }
+}
+
 impl Waiting {
     /// The server that the request was sent to.
     pub fn server(&self) -> usize
@@ -126,7 +152,7 @@ impl Waiting {
     }
 
     /// Records what came of the send.
-    pub fn record<R: Wait, H: Health>(self, rt: &R, health: &mut H, outcome: Outcome) -> Routing
+    fn record<R: Wait, H: Health>(self, rt: &R, health: &mut H, outcome: Outcome) -> Routing
         requires { self.server < H.servers health.old }
         ensures calls { (form : ℕ → Request) (calls : List Call)
             → FindsUp form calls self.attempts self.server
@@ -140,6 +166,33 @@ impl Waiting {
         let mut attempts = self.attempts;
         attempts.push_reserved(conclude(rt, health, self.server, outcome));
         Routing { attempts }
+    }
+
+    /// Records what came of the send, and goes on to the next target unless it was answered.
+    pub fn answered<R: Wait, H: Health>(
+        self,
+        rt: &R,
+        health: &mut H,
+        targets: &[usize],
+        request: &mut Request,
+        exptime: u32,
+        outcome: Outcome,
+    ) -> Stage
+        requires health { All (λ target. target < H.servers health.old) targets.now }
+        requires awaited { IsAwaited targets.now self }
+        ensures calls { (form : ℕ → Request) (calls : List Call)
+            → FindsUp form calls self.attempts self.server
+            → GoesOn H.steps health.old (λ more. Reached targets.now form
+            (calls ++ came self.server (form (length self.attempts)) (Ok outcome) ∷ more)
+            result) health.new }
+        ensures request { (original : Request)
+            → request.old ≡ form_at exptime original (length self.attempts)
+            → request.new ≡ form_at exptime original (last_place result) }
+        ensures grown { length self.attempts < tries result }
+        ensures servers { H.servers health.new ≡ H.servers health.old }
+    {
+        let routing = self.record(rt, health, outcome);
+        routing.next(rt, health, targets, request, exptime)
     }
 
     /// Ends the routing where memory ran out at the send.

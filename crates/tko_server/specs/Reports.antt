@@ -2,7 +2,7 @@
 use Rattle.std.specs.Prelude.{◌≡◌, ◌+◌, ◌||◌, Bool, false, true, List, Result, Ok, Err}
 use Rattle.std.specs.List.{list_any, sum_by}
 use Rattle.tko_server.specs.declared.report.WorkerReport.{WorkerReport}
-use Rattle.tko_session.specs.Io.{capped}
+use Rattle.tko_io.specs.Io.{capped}
 use Rattle.tko_session.specs.declared.fault.SessionFault.{SessionFault}
 use Rattle.tko_session.specs.declared.fault.SessionFault.TheVariants as fault
 use Rattle.tko_session.specs.declared.session.Report.{Report}

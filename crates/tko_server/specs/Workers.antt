@@ -4,7 +4,7 @@ use Rattle.tko_links.specs.Wired.{WiredState}
 use Rattle.tko_server.specs.declared.pooling.Member.{Member}
 use Rattle.tko_server.specs.declared.running.Options.{Options}
 use Rattle.tko_server.specs.declared.working.WorkerParts.{WorkerParts}
-use Rattle.tko_session.specs.Probers.{no_probers}
+use Rattle.tko_backend.specs.Probers.{no_probers}
 use Rattle.tko_tracker.specs.Seated.{IsOf, Seated, TrackerId}
 
 -- the seating, the links and the probers have the servers of the configuration

@@ -12,8 +12,8 @@ use std::io::{ErrorKind, Read, Write};
 use std::net::TcpStream;
 use std::sync::Arc;
 use std::time::Duration;
+use tko_io::Piped;
 use tko_links::IoRuntime;
-use tko_session::Piped;
 
 /// A client's connection, which both its ends share, so that it has one descriptor. The socket is
 /// closed before the place is given back.

@@ -10,12 +10,12 @@ use crate::{Account, Member, Options, WorkerParts};
 use crossbeam_channel::Receiver;
 use std::alloc::Global;
 use std::sync::{Arc, Mutex};
+use tko_backend::{MonotonicClock, Probers};
 use tko_bytes::NoMemory;
 use tko_desk::{Book, Share};
 use tko_events::{Log, LoggedIdle, LoggedLinks, LoggedSeating, WorkerLog};
 use tko_health::{Seating, SharedSeating};
 use tko_links::{IoRuntime, Links, TcpLinks, TcpWire};
-use tko_session::{Elapsed, Probers};
 use tko_tracker::{IdlePass, Named};
 
 /// What all workers of a server share.
@@ -36,7 +36,7 @@ pub(crate) type ServerMember<'a, 'o, N> = Member<
     LoggedIdle<IdlePass>,
     LoggedSeating<SharedSeating<'o, N>>,
     LoggedLinks<TcpLinks>,
-    Elapsed,
+    MonotonicClock,
 >;
 
 /// What one of them works with.
@@ -44,7 +44,7 @@ type LoggedParts<'a, 'o, N> = WorkerParts<
     'a,
     LoggedSeating<SharedSeating<'o, N>>,
     LoggedLinks<TcpLinks>,
-    Elapsed,
+    MonotonicClock,
 >;
 
 impl<'o, N: Named> Shared<'o, N> {
@@ -111,7 +111,7 @@ impl<'o, N: Named> Shared<'o, N> {
             links: LoggedLinks::new(TcpLinks::new(alloc, wire)?, log),
             config: self.options.config.copy(alloc)?,
             probers: Probers::new(alloc, self.options.delays, addresses.len())?,
-            moments: Elapsed::new(rt),
+            clock: MonotonicClock::new(rt),
             account: Account {
                 book: &self.book,
                 share,

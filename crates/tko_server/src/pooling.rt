@@ -7,10 +7,11 @@ use std::alloc::Global;
 use std::net::TcpListener;
 use std::thread;
 use std::thread::Threads;
+use tko_backend::Clock;
 use tko_bytes::NoMemory;
 use tko_health::{Health, Seating};
+use tko_io::{Inlet, Outlet};
 use tko_links::{IoRuntime, Links};
-use tko_session::{Inlet, Moments, Outlet};
 
 /// What one worker of a pool is started with.
 #[derive(Drop)]
@@ -33,7 +34,7 @@ pub fn pool<
     H: Health + Drop + Send,
     S: Seating<Idle = P, Worker = H> + Sync,
     L: Links + Drop + Send,
-    M: Moments + Drop + Send,
+    M: Clock + Drop + Send,
 >(
     rt: &R,
     alloc: Global,

@@ -1,7 +1,7 @@
 //! Where a worker's connections come from.
 
+use tko_io::{Inlet, Outlet};
 use tko_links::IoRuntime;
-use tko_session::{Inlet, Outlet};
 
 /// What a worker does next.
 #[derive(Drop)]

@@ -8,12 +8,12 @@ ghost use Rattle.tko_session.specs.SessionState.{Reaches};
 use crate::{Account, Next, Source, WorkerReport};
 use std::alloc::Global;
 use std::sync::Wait;
+use tko_backend::{Backend, Clock, Probers};
 use tko_health::{Health, Seating};
+use tko_io::{Inlet, Outlet};
 use tko_links::{IoRuntime, Links};
 use tko_pools::Config;
-use tko_session::{
-    Counts, Inlet, Moments, Outlet, Parts, Probers, Report, SessionFault, round, serve,
-};
+use tko_session::{Counts, Parts, Report, SessionFault, round, serve};
 
 /// What a worker works with: the seat that it takes, the links, the configuration, the probers,
 /// their clock, and its account.
@@ -23,14 +23,14 @@ pub struct WorkerParts<'a, S, L, M> {
     pub links: L,
     pub config: Config,
     pub probers: Probers,
-    pub moments: M,
+    pub clock: M,
     pub account: Account<'a>,
 }
 
 /// Serves each connection that the source gives, until it gives none any more. Where the source is
 /// idle, and after each request, the probers of the servers that this worker marked get a round. At
 /// the end the worker gives up its marks, and gives its place back.
-pub fn worker<R: IoRuntime, C: Source + Drop, S: Seating, L: Links + Drop, M: Moments + Drop>(
+pub fn worker<R: IoRuntime, C: Source + Drop, S: Seating, L: Links + Drop, M: Clock + Drop>(
     rt: &R,
     alloc: Global,
     mut source: C,
@@ -46,17 +46,19 @@ pub fn worker<R: IoRuntime, C: Source + Drop, S: Seating, L: Links + Drop, M: Mo
         links,
         config,
         probers,
-        moments,
+        clock,
         mut account,
     } = parts;
     let mut working = Working {
         parts: Parts {
-            health: seating.seat(idle),
-            links,
+            backend: Backend {
+                health: seating.seat(idle),
+                links,
+                probers,
+                clock,
+            },
             trails: Counts::new(),
             config,
-            probers,
-            moments,
         },
         report: WorkerReport::new(),
         probes: 0,
@@ -74,7 +76,7 @@ pub fn worker<R: IoRuntime, C: Source + Drop, S: Seating, L: Links + Drop, M: Mo
     }
     working.settle(rt, &mut account);
     let Working { parts, report, .. } = working;
-    (seating.leave(rt, parts.health), report)
+    (seating.leave(rt, parts.backend.health), report)
 }
 
 /// A worker at work.
@@ -86,7 +88,7 @@ struct Working<H, L, M> {
     probes: u64,
 }
 
-impl<H: Health, L: Links, M: Moments> Working<H, L, M> {
+impl<H: Health, L: Links, M: Clock> Working<H, L, M> {
     /// Serves one client, and returns whether its session ended by a fault. That is counted, and
     /// the worker goes on.
     fn serve<R: IoRuntime, I: Inlet, O: Outlet>(
@@ -110,7 +112,7 @@ impl<H: Health, L: Links, M: Moments> Working<H, L, M> {
         requires reach { Reaches H.servers L.servers self.old.parts }
         ensures reach { Reaches H.servers L.servers self.new.parts }
         ensures round { IsRoundNoted H.steps H.grants L.exchanges L.probed M.reads
-            self.old.parts self.old.report self.new.parts self.new.report }
+            self.old.parts.backend self.old.report self.new.parts.backend self.new.report }
     {
         let rounded = round(rt, &mut self.parts);
         self.report.note_round(rounded.is_err());
@@ -121,7 +123,10 @@ impl<H: Health, L: Links, M: Moments> Working<H, L, M> {
         requires reach { Reaches H.servers L.servers self.old.parts }
         ensures reach { Reaches H.servers L.servers self.new.parts }
     {
-        let probes = probes_of(&self.parts.links, self.parts.config.addresses().len());
+        let probes = probes_of(
+            &self.parts.backend.links,
+            self.parts.config.addresses().len(),
+        );
         let more = probes.saturating_sub(self.probes);
         if account.add(rt, &self.parts.trails, more) {
             self.report.ledger_full = true;

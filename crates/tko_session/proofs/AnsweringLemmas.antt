@@ -123,41 +123,41 @@ next_replied false n found key trail xs ys is text same = (
   text ∙ ap (λ f. take n xs ++ text_of_answer f) same,
 )
 
-module _ {H L T M : Type 0} {steps : H → HealthItem → H → Type 0} {exchanges : L → LinksItem → L → Type 0} {sent probed : L → ℕ → ℕ} where
-  pub key_sends : {old mid new : Parts H L T M} (request : Request) (key : List ℕ) (trail : List Attempt)
+module _ {H L T C : Type 0} {steps : H → HealthItem → H → Type 0} {exchanges : L → LinksItem → L → Type 0} {sent probed : L → ℕ → ℕ} where
+  pub key_sends : {old mid new : Parts H L T C} (request : Request) (key : List ℕ) (trail : List Attempt)
       → IsTried steps exchanges sent probed request key old trail mid → new ≡ record mid { trails = new.trails }
-      → (server : ℕ) → sent new.links server ≡ sent old.links server + sends_in server trail
+      → (server : ℕ) → sent new.backend.links server ≡ sent old.backend.links server + sends_in server trail
   key_sends request key trail tried same server =
-      ap (λ (p : Parts H L T M). sent p.links server) same ∙ tried.sends server
+      ap (λ (p : Parts H L T C). sent p.backend.links server) same ∙ tried.sends server
 
-  pub key_probes : {old mid new : Parts H L T M} (request : Request) (key : List ℕ) (trail : List Attempt)
+  pub key_probes : {old mid new : Parts H L T C} (request : Request) (key : List ℕ) (trail : List Attempt)
       → IsTried steps exchanges sent probed request key old trail mid → new ≡ record mid { trails = new.trails }
-      → (server : ℕ) → probed new.links server ≡ probed old.links server
+      → (server : ℕ) → probed new.backend.links server ≡ probed old.backend.links server
   key_probes request key trail tried same server =
-      ap (λ (p : Parts H L T M). probed p.links server) same ∙ tried.probes server
+      ap (λ (p : Parts H L T C). probed p.backend.links server) same ∙ tried.probes server
 
-module _ {H L T M : Type 0} {steps : H → HealthItem → H → Type 0} {exchanges : L → LinksItem → L → Type 0} {sent probed : L → ℕ → ℕ} {records : T → TrailEvent → T → Type 0} where
+module _ {H L T C : Type 0} {steps : H → HealthItem → H → Type 0} {exchanges : L → LinksItem → L → Type 0} {sent probed : L → ℕ → ℕ} {records : T → TrailEvent → T → Type 0} where
   -- a key was routed by this request, which is the one for the key, and its trail was recorded
-  pub key_routed : {old mid new : Parts H L T M} (asked request : Request) (key : List ℕ) (trail : List Attempt) → request_for asked key ≡ request
+  pub key_routed : {old mid new : Parts H L T C} (asked request : Request) (key : List ℕ) (trail : List Attempt) → request_for asked key ≡ request
       → IsTried steps exchanges sent probed request key old trail mid → records mid.trails (Tried trail) new.trails
       → new ≡ record mid { trails = new.trails }
       → IsKeyRouted steps exchanges sent records asked old (one key trail) new
   key_routed {old} {mid} {new} asked request key trail is tried recorded same =
-      let health : new.health ≡ mid.health = ap (λ (p : Parts H L T M). p.health) same in
-      let links : new.links ≡ mid.links = ap (λ (p : Parts H L T M). p.links) same in
-      let trails : mid.trails ≡ old.trails = ap (λ (p : Parts H L T M). p.trails) tried.others in
-      let config : mid.config ≡ old.config = ap (λ (p : Parts H L T M). p.config) tried.others in
+      let health : new.backend.health ≡ mid.backend.health = ap (λ (p : Parts H L T C). p.backend.health) same in
+      let links : new.backend.links ≡ mid.backend.links = ap (λ (p : Parts H L T C). p.backend.links) same in
+      let trails : mid.trails ≡ old.trails = ap (λ (p : Parts H L T C). p.trails) tried.others in
+      let config : mid.config ≡ old.config = ap (λ (p : Parts H L T C). p.config) tried.others in
       record {
         tried = tried.tried;
         attempts = rw (health, links, is) tried.attempts;
         recorded = subst (λ from. records from (Tried trail) new.trails) trails recorded;
-        config = ap (λ (p : Parts H L T M). p.config) same ∙ config;
-        probers = ap (λ (p : Parts H L T M). p.probers) same ∙ ap (λ (p : Parts H L T M). p.probers) tried.others;
-        moments = ap (λ (p : Parts H L T M). p.moments) same ∙ ap (λ (p : Parts H L T M). p.moments) tried.others;
+        config = ap (λ (p : Parts H L T C). p.config) same ∙ config;
+        probers = ap (λ (p : Parts H L T C). p.backend.probers) same ∙ ap (λ (p : Parts H L T C). p.backend.probers) tried.others;
+        clock = ap (λ (p : Parts H L T C). p.backend.clock) same ∙ ap (λ (p : Parts H L T C). p.backend.clock) tried.others;
       }
 
   -- a request of one key was answered
-  pub answered_key : {old mid new : Parts H L T M} {outbox outbox' : List ℕ} (request : Request) (key : List ℕ) (trail : List Attempt)
+  pub answered_key : {old mid new : Parts H L T C} {outbox outbox' : List ℕ} (request : Request) (key : List ℕ) (trail : List Attempt)
       → request_keys request ≡ key ∷ [] → IsTried steps exchanges sent probed request key old trail mid
       → records mid.trails (Tried trail) new.trails → new ≡ record mid { trails = new.trails }
       → outbox' ≡ outbox ++ written request (reply_text trail)
@@ -178,7 +178,7 @@ module _ {H L T M : Type 0} {steps : H → HealthItem → H → Type 0} {exchang
   }
 
   -- the next of several keys was routed
-  pub is_next : {old mid new : Parts H L T M} {outbox outbox' : List ℕ} (request : Request) (key : List ℕ) (waiting : ℕ) (listed : Bool) (trail : List Attempt)
+  pub is_next : {old mid new : Parts H L T C} {outbox outbox' : List ℕ} (request : Request) (key : List ℕ) (waiting : ℕ) (listed : Bool) (trail : List Attempt)
       → request_keys request ≡ key ∷ [] → IsTried steps exchanges sent probed request key old trail mid
       → records mid.trails (Tried trail) new.trails → new ≡ record mid { trails = new.trails }
       → MatchBool listed (HasValues (one key trail) × (outbox' ≡ outbox ++ joined (one key trail ∷ [])))
@@ -193,78 +193,78 @@ module _ {H L T M : Type 0} {steps : H → HealthItem → H → Type 0} {exchang
   }
 
   -- a request without a key was answered
-  pub answered_itself : {old new : Parts H L T M} {outbox outbox' : List ℕ} (request : Request) (text : List ℕ)
-      → AnswersItself steps exchanges sent records request old text new → new.links ≡ old.links → outbox' ≡ outbox ++ text
+  pub answered_itself : {old new : Parts H L T C} {outbox outbox' : List ℕ} (request : Request) (text : List ℕ)
+      → AnswersItself steps exchanges sent records request old text new → new.backend.links ≡ old.backend.links → outbox' ≡ outbox ++ text
       → AnsweredInto steps exchanges sent probed records request old outbox new outbox'
   answered_itself {old} request text answers links appended = record {
     routed = [];
     text = text;
     answers = itself refl answers;
-    sends = λ server. ap (λ l. sent l server) links ∙ sym (add-zero (sent old.links server));
+    sends = λ server. ap (λ l. sent l server) links ∙ sym (add-zero (sent old.backend.links server));
     probes = λ server. ap (λ l. probed l server) links;
     appended = appended;
   }
 
-  pub answered_version : {old : Parts H L T M} {outbox outbox' : List ℕ} {request : Request} → request ≡ Version
+  pub answered_version : {old : Parts H L T C} {outbox outbox' : List ℕ} {request : Request} → request ≡ Version
       → outbox' ≡ outbox ++ version_text → AnsweredInto steps exchanges sent probed records request old outbox old outbox'
   answered_version {old} {outbox} {outbox'} is appended =
       subst (λ r. AnsweredInto steps exchanges sent probed records r old outbox old outbox') (sym is)
       (answered_itself Version version_text (refl, refl) refl appended)
 
-  pub answered_quit : {old : Parts H L T M} {outbox : List ℕ} {request : Request} → request ≡ Quit
+  pub answered_quit : {old : Parts H L T C} {outbox : List ℕ} {request : Request} → request ≡ Quit
       → AnsweredInto steps exchanges sent probed records request old outbox old outbox
   answered_quit {old} {outbox} is =
       subst (λ r. AnsweredInto steps exchanges sent probed records r old outbox old outbox) (sym is)
       (answered_itself Quit [] (refl, refl) refl (sym (append-nil outbox)))
 
-  pub answered_status : {old : Parts H L T M} {health : H} {outbox outbox' : List ℕ} {request : Request} → request ≡ StatsTko
-      → IsStatusAfter steps old.config.addresses old.health outbox health outbox'
-      → AnsweredInto steps exchanges sent probed records request old outbox (record old { health = health }) outbox'
+  pub answered_status : {old : Parts H L T C} {health : H} {outbox outbox' : List ℕ} {request : Request} → request ≡ StatsTko
+      → IsStatusAfter steps old.config.addresses old.backend.health outbox health outbox'
+      → AnsweredInto steps exchanges sent probed records request old outbox (record old { backend = record old.backend { health = health } }) outbox'
   answered_status {old} {health} {outbox} {outbox'} is after =
-      subst (λ r. AnsweredInto steps exchanges sent probed records r old outbox (record old { health = health }) outbox') (sym is)
+      subst (λ r. AnsweredInto steps exchanges sent probed records r old outbox (record old { backend = record old.backend { health = health } }) outbox') (sym is)
       (answered_itself StatsTko after.text (after.status, refl) refl after.appended)
 
-module _ {H L T M : Type 0} {steps : H → HealthItem → H → Type 0} {exchanges : L → LinksItem → L → Type 0} {sent : L → ℕ → ℕ} {records : T → TrailEvent → T → Type 0} where
+module _ {H L T C : Type 0} {steps : H → HealthItem → H → Type 0} {exchanges : L → LinksItem → L → Type 0} {sent : L → ℕ → ℕ} {records : T → TrailEvent → T → Type 0} where
   -- the same key of another request that is routed alike
-  routed_as : {old new : Parts H L T M} {it : RoutedKey} (asked other : Request) → request_for asked it.key ≡ request_for other it.key
+  routed_as : {old new : Parts H L T C} {it : RoutedKey} (asked other : Request) → request_for asked it.key ≡ request_for other it.key
       → IsKeyRouted steps exchanges sent records asked old it new → IsKeyRouted steps exchanges sent records other old it new
   routed_as {old} {new} {it} asked other is routed = record {
     tried = routed.tried;
     attempts =
-        subst (λ r. Attempts (record { steps = steps; exchanges = exchanges; sent = sent }) (old.health, old.links) (way_of old.config r it.key it.trail) (new.health, new.links))
+        subst (λ r. Attempts (record { steps = steps; exchanges = exchanges; sent = sent }) (old.backend.health, old.backend.links) (way_of old.config r it.key it.trail) (new.backend.health, new.backend.links))
         is routed.attempts;
     recorded = routed.recorded;
     config = routed.config;
     probers = routed.probers;
-    moments = routed.moments;
+    clock = routed.clock;
   }
 
-module _ {H L T M : Type 0} (steps : H → HealthItem → H → Type 0) (exchanges : L → LinksItem → L → Type 0) (sent probed : L → ℕ → ℕ) (records : T → TrailEvent → T → Type 0) where
+module _ {H L T C : Type 0} (steps : H → HealthItem → H → Type 0) (exchanges : L → LinksItem → L → Type 0) (sent probed : L → ℕ → ℕ) (records : T → TrailEvent → T → Type 0) where
   -- all these keys but those that are left were routed, and each got a list of values; the values are at the end of the outbox
-  pub record JoinsOn (request : Request) (all left : List (List ℕ)) (old : Parts H L T M) (outbox : List ℕ) (new : Parts H L T M) (outbox' : List ℕ) : Type 0 where
+  pub record JoinsOn (request : Request) (all left : List (List ℕ)) (old : Parts H L T C) (outbox : List ℕ) (new : Parts H L T C) (outbox' : List ℕ) : Type 0 where
     pub routed : List RoutedKey
     pub are : all ≡ keys_in routed ++ left
     pub each : Gains (IsKeyRouted steps exchanges sent records request) old routed new
     pub values : All HasValues routed
-    pub sends : (server : ℕ) → sent new.links server ≡ sent old.links server + sends_to server (trails_in routed)
-    pub probes : (server : ℕ) → probed new.links server ≡ probed old.links server
+    pub sends : (server : ℕ) → sent new.backend.links server ≡ sent old.backend.links server + sends_to server (trails_in routed)
+    pub probes : (server : ℕ) → probed new.backend.links server ≡ probed old.backend.links server
     pub appended : outbox' ≡ outbox ++ joined routed
 
-module _ {H L T M : Type 0} {steps : H → HealthItem → H → Type 0} {exchanges : L → LinksItem → L → Type 0} {sent probed : L → ℕ → ℕ} {records : T → TrailEvent → T → Type 0} where
-  pub joins_none : (request : Request) (all left : List (List ℕ)) (old : Parts H L T M) (outbox : List ℕ) → all ≡ left
+module _ {H L T C : Type 0} {steps : H → HealthItem → H → Type 0} {exchanges : L → LinksItem → L → Type 0} {sent probed : L → ℕ → ℕ} {records : T → TrailEvent → T → Type 0} where
+  pub joins_none : (request : Request) (all left : List (List ℕ)) (old : Parts H L T C) (outbox : List ℕ) → all ≡ left
       → JoinsOn steps exchanges sent probed records request all left old outbox old outbox
   joins_none request all left old outbox is = record {
     routed = [];
     are = is;
     each = gains_none old;
     values = All-nil HasValues;
-    sends = λ server. sym (add-zero (sent old.links server));
+    sends = λ server. sym (add-zero (sent old.backend.links server));
     probes = λ server. refl;
     appended = sym (append-nil outbox);
   }
 
   -- another key got a list of values
-  pub joins_more : {old mid new : Parts H L T M} {outbox outbox' outbox'' : List ℕ} {left : List (List ℕ)} (all : List (List ℕ)) (unique : Bool) (key : List ℕ) (rest : List (List ℕ)) (waiting : ℕ)
+  pub joins_more : {old mid new : Parts H L T C} {outbox outbox' outbox'' : List ℕ} {left : List (List ℕ)} (all : List (List ℕ)) (unique : Bool) (key : List ℕ) (rest : List (List ℕ)) (waiting : ℕ)
       → JoinsOn steps exchanges sent probed records (retrieval all unique) all left old outbox mid outbox' → left ≡ key ∷ rest
       → IsNext steps exchanges sent probed records (retrieval (key ∷ []) unique) key waiting true mid outbox' new outbox''
       → JoinsOn steps exchanges sent probed records (retrieval all unique) all rest old outbox new outbox''
@@ -285,7 +285,7 @@ module _ {H L T M : Type 0} {steps : H → HealthItem → H → Type 0} {exchang
       }
 
   -- the values of all keys were joined, and `END` follows them
-  pub joins_end : {old new : Parts H L T M} {outbox outbox' outbox'' : List ℕ} {left : List (List ℕ)} (all : List (List ℕ)) (unique : Bool) → 0 < length all
+  pub joins_end : {old new : Parts H L T C} {outbox outbox' outbox'' : List ℕ} {left : List (List ℕ)} (all : List (List ℕ)) (unique : Bool) → 0 < length all
       → JoinsOn steps exchanges sent probed records (retrieval all unique) all left old outbox new outbox' → left ≡ [] → outbox'' ≡ outbox' ++ end_line
       → AnsweredInto steps exchanges sent probed records (retrieval all unique) old outbox new outbox''
   joins_end {old} {new} {outbox} {outbox'} {outbox''} {left} all unique some so_far none end = record {
@@ -307,7 +307,7 @@ module _ {H L T M : Type 0} {steps : H → HealthItem → H → Type 0} {exchang
   }
 
   -- a key got no list of values
-  pub joins_cut : {old mid new : Parts H L T M} {outbox outbox' outbox'' : List ℕ} {left : List (List ℕ)} (all : List (List ℕ)) (unique : Bool) (key : List ℕ) (rest : List (List ℕ)) (waiting : ℕ)
+  pub joins_cut : {old mid new : Parts H L T C} {outbox outbox' outbox'' : List ℕ} {left : List (List ℕ)} (all : List (List ℕ)) (unique : Bool) (key : List ℕ) (rest : List (List ℕ)) (waiting : ℕ)
       → 0 < length all → waiting ≡ length outbox
       → JoinsOn steps exchanges sent probed records (retrieval all unique) all left old outbox mid outbox' → left ≡ key ∷ rest
       → IsNext steps exchanges sent probed records (retrieval (key ∷ []) unique) key waiting false mid outbox' new outbox''
@@ -337,11 +337,11 @@ module _ {H L T M : Type 0} {steps : H → HealthItem → H → Type 0} {exchang
       }
 
   -- what waited before the first key is still there
-  pub joins_extend : {old new : Parts H L T M} {outbox outbox' : List ℕ} {left : List (List ℕ)} {request : Request} (all : List (List ℕ))
+  pub joins_extend : {old new : Parts H L T C} {outbox outbox' : List ℕ} {left : List (List ℕ)} {request : Request} (all : List (List ℕ))
       → JoinsOn steps exchanges sent probed records request all left old outbox new outbox' → Extends outbox outbox'
   joins_extend all so_far = record { more = joined so_far.routed; is = so_far.appended }
 
-  pub joins_extend_by : {old new : Parts H L T M} {outbox outbox' outbox'' : List ℕ} {left : List (List ℕ)} {request : Request} (all : List (List ℕ)) (waiting : ℕ)
+  pub joins_extend_by : {old new : Parts H L T C} {outbox outbox' outbox'' : List ℕ} {left : List (List ℕ)} {request : Request} (all : List (List ℕ)) (waiting : ℕ)
       → waiting ≡ length outbox → JoinsOn steps exchanges sent probed records request all left old outbox new outbox'
       → Extends (take waiting outbox') outbox'' → Extends outbox outbox''
   joins_extend_by {old} {new} {outbox} {outbox'} all waiting at so_far more =

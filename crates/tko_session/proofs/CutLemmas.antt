@@ -20,17 +20,17 @@ one_of : (keys : List (List ℕ)) (unique : Bool) (key : List ℕ) → retrieval
 one_of keys unique key =
     sym (request_for_alone (retrieval (key ∷ []) unique) key (retrieval_keys (key ∷ []) unique)) ∙ request_for_one keys unique key
 
-module _ {H L T M A E : Type 0} {steps : H → HealthItem → H → Type 0} {exchanges : L → LinksItem → L → Type 0} {sent probed : L → ℕ → ℕ} where
+module _ {H L T C A E : Type 0} {steps : H → HealthItem → H → Type 0} {exchanges : L → LinksItem → L → Type 0} {sent probed : L → ℕ → ℕ} where
   -- a fact on the key of a request is one at an Err
-  pub key_cut : {old new : Parts H L T M} (result : Result A E) (request : Request)
+  pub key_cut : {old new : Parts H L T C} (result : Result A E) (request : Request)
       → ((key : List ℕ) → request_keys request ≡ key ∷ [] → IsKeyCut steps exchanges sent probed request key old new)
       → OnErr result ((key : List ℕ) → request_keys request ≡ key ∷ [] → IsKeyCut steps exchanges sent probed request key old new)
   key_cut (Ok value) request cut = tt
   key_cut (Err fault) request cut = cut
 
-module _ {H L T M : Type 0} {steps : H → HealthItem → H → Type 0} {exchanges : L → LinksItem → L → Type 0} {sent probed : L → ℕ → ℕ} {records : T → TrailEvent → T → Type 0} where
+module _ {H L T C : Type 0} {steps : H → HealthItem → H → Type 0} {exchanges : L → LinksItem → L → Type 0} {sent probed : L → ℕ → ℕ} {records : T → TrailEvent → T → Type 0} where
   -- a request of one key was cut short
-  pub cut_alone : {old new : Parts H L T M} (request : Request) (key : List ℕ) → request_keys request ≡ key ∷ []
+  pub cut_alone : {old new : Parts H L T C} (request : Request) (key : List ℕ) → request_keys request ≡ key ∷ []
       → IsKeyCut steps exchanges sent probed request key old new → IsAnswerCut steps exchanges sent probed records request old new
   cut_alone {old} {new} request key is cut = at_keys (record {
     routed = [];
@@ -43,7 +43,7 @@ module _ {H L T M : Type 0} {steps : H → HealthItem → H → Type 0} {exchang
   })
 
   -- nothing was done for a request
-  pub cut_at_once : (request : Request) (at : Parts H L T M) → IsAnswerCut steps exchanges sent probed records request at at
+  pub cut_at_once : (request : Request) (at : Parts H L T C) → IsAnswerCut steps exchanges sent probed records request at at
   cut_at_once request at = at_keys (record {
     routed = [];
     left = request_keys request;
@@ -54,12 +54,12 @@ module _ {H L T M : Type 0} {steps : H → HealthItem → H → Type 0} {exchang
     last = untried refl;
   })
 
-  pub cut_status : {old : Parts H L T M} {health : H} {request : Request} → request ≡ StatsTko → LooksSome steps old.config.addresses old.health health
-      → IsAnswerCut steps exchanges sent probed records request old (record old { health = health })
+  pub cut_status : {old : Parts H L T C} {health : H} {request : Request} → request ≡ StatsTko → LooksSome steps old.config.addresses old.backend.health health
+      → IsAnswerCut steps exchanges sent probed records request old (record old { backend = record old.backend { health = health } })
   cut_status is some = in_status is some refl
 
   -- memory ran out between two keys
-  pub cut_between : {old new : Parts H L T M} {outbox outbox' : List ℕ} {left : List (List ℕ)} (all : List (List ℕ)) (unique : Bool)
+  pub cut_between : {old new : Parts H L T C} {outbox outbox' : List ℕ} {left : List (List ℕ)} (all : List (List ℕ)) (unique : Bool)
       → JoinsOn steps exchanges sent probed records (retrieval all unique) all left old outbox new outbox'
       → IsAnswerCut steps exchanges sent probed records (retrieval all unique) old new
   cut_between {old} {new} {outbox} {outbox'} {left} all unique so_far = at_keys (record {
@@ -73,7 +73,7 @@ module _ {H L T M : Type 0} {steps : H → HealthItem → H → Type 0} {exchang
   })
 
   -- memory ran out at the next key
-  pub cut_next : {old mid new : Parts H L T M} {outbox outbox' : List ℕ} {left : List (List ℕ)} (all : List (List ℕ)) (unique : Bool) (key : List ℕ) (rest : List (List ℕ))
+  pub cut_next : {old mid new : Parts H L T C} {outbox outbox' : List ℕ} {left : List (List ℕ)} (all : List (List ℕ)) (unique : Bool) (key : List ℕ) (rest : List (List ℕ))
       → JoinsOn steps exchanges sent probed records (retrieval all unique) all left old outbox mid outbox' → left ≡ key ∷ rest
       → IsKeyCut steps exchanges sent probed (retrieval (key ∷ []) unique) key mid new
       → IsAnswerCut steps exchanges sent probed records (retrieval all unique) old new

@@ -1,13 +1,10 @@
 mod AnsweringLemmas
 mod CutLemmas
 mod EventLemmas
-mod ListLemmas
 mod NeverLemmas
 mod OutboxLemmas
 mod PartsLemmas
-mod ProberLemmas
 mod ResultLemmas
-mod RoundLemmas
 mod ServedLemmas
 mod StatusLemmas
 mod TextFacts

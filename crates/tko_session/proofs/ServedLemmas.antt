@@ -1,5 +1,5 @@
 -- Laws of a whole session: nothing yet, one delivery more, one piece more, the end.
-use Rattle.std.proofs.Common.{◌≡◌, ◌≢◌, ℕ, Bool, true, ◌+◌, ◌<◌, ◌^◌, List, [], ◌∷◌, ◌++◌, length, refl, sym, ap, subst, ◌∙◌, append_assoc, append-nil, length-append, arith, add-zero, Some, false}
+use Rattle.std.proofs.Common.{◌≡◌, ◌≢◌, ℕ, Bool, true, ◌+◌, ◌<◌, ◌^◌, List, [], ◌∷◌, ◌++◌, length, refl, sym, ap, subst, ◌∙◌, append_assoc, append-nil, arith, add-zero, Some, false}
 use Rattle.tko_model.specs.Records.{HealthItem}
 use Rattle.tko_model.proofs.RecordLemmas.{gains_append, gains_none, gains_one}
 use Rattle.tko_links.specs.Links.{LinksItem}
@@ -14,7 +14,8 @@ use Rattle.tko_text.proofs.ReadingLemmas.{NeedsMore-failed}
 use Rattle.tko_session.specs.declared.session.Progress.{Progress}
 use Rattle.tko_session.specs.declared.session.Progress.TheVariants.{More, NeedsInput, LineTooLong, Quit}
 use Rattle.tko_session.specs.declared.session.Report.{Report}
-use Rattle.tko_session.specs.Io.{Writes, capped}
+use Rattle.tko_io.specs.Io.{Writes, capped}
+use Rattle.tko_io.proofs.WriteLemmas.{writes_append, writes_none}
 use Rattle.tko_session.specs.Events.{Event, IdleRound, IsEvent, IsRun, NoneRun, Rounded, turns_of}
 use Rattle.tko_session.specs.TrailEvents.{TrailEvent}
 use Rattle.tko_session.specs.SessionState.{SessionState, Answered, AnsweredPart, GoesOn, InSession, IsBehind, ProgressIs, fed_state, fresh, items_of, probed_by, sent_by, text_of, cut_short, no_more}
@@ -22,36 +23,7 @@ use Rattle.tko_session.specs.Served.{CameTooLong, Delivered, DeliveredPart, Ends
 use Rattle.tko_session.proofs.EventLemmas.{idles-append, order-append}
 use Rattle.tko_session.proofs.NeverLemmas.{reading_goes_on}
 use Rattle.tko_session.proofs.TextFacts.{open_start}
-use Rattle.tko_session.proofs.TurnLemmas.{capped-more, goes_on-append, goes_on-none, in_session, in_session_of, items-append, text-append, turned_append, turned_idle, turned_none, events_in_session, events_progress, part_paid}
-
-module _ {O : Type 0} {takes : O → List ℕ → O → Type 0} where
-  -- two writes are one
-  pub writes_append : ((x y z : O) (bytes more : List ℕ) → takes x bytes y → takes y more z → takes x (bytes ++ more) z)
-      → {x y z : O} {text more : List ℕ} {a b c : ℕ} → Writes takes x text y a b → Writes takes y more z b c
-      → Writes takes x (text ++ more) z a c
-  writes_append goes_on {x} {y} {z} {text} {more} {a} {b} {c} front back = record {
-    output = goes_on x y z text more front.output back.output;
-    counted =
-        capped-more a b c (length text) (length more) front.counted back.counted
-        ∙ ap (λ n. capped (a + n)) (sym (length-append text more));
-  }
-
-  -- some more of a text was written
-  pub writes_some : ((x y z : O) (bytes more : List ℕ) → takes x bytes y → takes y more z → takes x (bytes ++ more) z)
-      → {x y z : O} {text more : List ℕ} {a b c : ℕ} → Writes takes x text y a b → takes y more z
-      → capped c ≡ capped (b + length more) → Writes takes x (text ++ more) z a c
-  writes_some goes_on front took counted = writes_append goes_on front (record { output = took; counted = counted })
-
-  -- nothing more was written
-  pub writes_failed : ((x y z : O) (bytes more : List ℕ) → takes x bytes y → takes y more z → takes x (bytes ++ more) z)
-      → {x y z : O} {text : List ℕ} {a b : ℕ} → Writes takes x text y a b → takes y [] z → Writes takes x text z a b
-  writes_failed goes_on {x} {y} {z} {text} front nothing = record {
-    output = subst (λ bytes. takes x bytes z) (append-nil text) (goes_on x y z text [] front.output nothing);
-    counted = front.counted;
-  }
-
-  pub writes_none : (x : O) (a : ℕ) → takes x [] x → Writes takes x [] x a a
-  writes_none x a nothing = record { output = nothing; counted = ap capped (sym (add-zero a)) }
+use Rattle.tko_session.proofs.TurnLemmas.{goes_on-append, goes_on-none, in_session, in_session_of, items-append, text-append, turned_append, turned_idle, turned_none, events_in_session, events_progress, part_paid}
 
 false_is_true : false ≡ true → ⊥
 false_is_true same = cc
@@ -420,10 +392,10 @@ module _ {I O W : Type 0} {gives : I → List ℕ → I → Type 0} {idled : I �
   so_far_reads {at} so_far =
       reading_goes_on so_far.bytes (items_of (turns_of so_far.delivered.events)) at.reading so_far.delivered.turned.gives so_far.delivered.progress_is.0
 
-module _ {I O H L T M : Type 0} {gives : I → List ℕ → I → Type 0} {idled : I → ℕ} {takes : O → List ℕ → O → Type 0} {steps : H → HealthItem → H → Type 0} {grants : H → ℕ → Type 0} {exchanges : L → LinksItem → L → Type 0} {sent probed : L → ℕ → ℕ} {records : T → TrailEvent → T → Type 0} {reads : M → ℕ → M → Type 0} where
+module _ {I O H L T C : Type 0} {gives : I → List ℕ → I → Type 0} {idled : I → ℕ} {takes : O → List ℕ → O → Type 0} {steps : H → HealthItem → H → Type 0} {grants : H → ℕ → Type 0} {exchanges : L → LinksItem → L → Type 0} {sent probed : L → ℕ → ℕ} {records : T → TrailEvent → T → Type 0} {reads : C → ℕ → C → Type 0} where
   -- the reader was idle, and a round was run
   pub so_far_idle : ((x y z : I) (bytes more : List ℕ) → gives x bytes y → gives y more z → gives x (bytes ++ more) z)
-      → {reader reader' reader'' : I} {writer writer' : O} {written : ℕ} {parts parts' parts'' : Parts H L T M} {at : SessionState}
+      → {reader reader' reader'' : I} {writer writer' : O} {written : ℕ} {parts parts' parts'' : Parts H L T C} {at : SessionState}
       → ServedSoFar gives idled takes (IsEvent steps grants exchanges sent probed records reads) (sent_by sent) (probed_by probed) NeedsInput reader writer parts at reader' writer' written parts'
       → gives reader' [] reader'' → idled reader'' ≡ idled reader' + 1 → Rounded steps grants exchanges sent probed reads false parts' parts''
       → ServedSoFar gives idled takes (IsEvent steps grants exchanges sent probed records reads) (sent_by sent) (probed_by probed) NeedsInput reader writer parts at reader'' writer' written parts''
@@ -454,7 +426,7 @@ module _ {I O H L T M : Type 0} {gives : I → List ℕ → I → Type 0} {idled
 
   -- the reader was idle, and memory ran out in the round
   pub stopped_idle : ((x y z : I) (bytes more : List ℕ) → gives x bytes y → gives y more z → gives x (bytes ++ more) z)
-      → {cut : Request → Parts H L T M → Parts H L T M → Type 0} {short : Bool} {reader reader' reader'' : I} {writer writer' : O} {written : ℕ} {parts parts' parts'' : Parts H L T M} {at : SessionState}
+      → {cut : Request → Parts H L T C → Parts H L T C → Type 0} {short : Bool} {reader reader' reader'' : I} {writer writer' : O} {written : ℕ} {parts parts' parts'' : Parts H L T C} {at : SessionState}
       → ServedSoFar gives idled takes (IsEvent steps grants exchanges sent probed records reads) (sent_by sent) (probed_by probed) NeedsInput reader writer parts at reader' writer' written parts'
       → gives reader' [] reader'' → idled reader'' ≡ idled reader' + 1 → Rounded steps grants exchanges sent probed reads short parts' parts''
       → StoppedEarly gives idled takes (IsEvent steps grants exchanges sent probed records reads) (sent_by sent) (probed_by probed) cut reader writer parts reader'' writer' parts''
@@ -475,7 +447,7 @@ module _ {I O H L T M : Type 0} {gives : I → List ℕ → I → Type 0} {idled
             let all = goes_in reader reader' reader'' so_far.bytes [] so_far.input read in
             subst (λ bytes. gives reader bytes reader'') (append-nil so_far.bytes) all;
         items = subst (λ xs. Gives (fed start so_far.bytes) xs at.reading) (sym items) before.turned.gives;
-        gains = gains_append before.turned.gains (gains_one (record { short = short; round = rounded.round; visited = refl }));
+        gains = gains_append before.turned.gains (gains_one (record { short = short; round = rounded.round; visited = refl; others = rounded.others }));
         order = order-append false at.owes false before.events last before.turned.order (rw before.owes refl);
         idles = omega (arith, so_far.idles, idle, before.idle, idles-append before.events last);
         ends = at_once refl;
@@ -486,9 +458,9 @@ module _ {I O H L T M : Type 0} {gives : I → List ℕ → I → Type 0} {idled
         output = before.output.output;
       }
 
-module _ {O H L T M : Type 0} {takes : O → List ℕ → O → Type 0} {cut : Request → Parts H L T M → Parts H L T M → Type 0} {steps : H → HealthItem → H → Type 0} {grants : H → ℕ → Type 0} {exchanges : L → LinksItem → L → Type 0} {sent probed : L → ℕ → ℕ} {records : T → TrailEvent → T → Type 0} {reads : M → ℕ → M → Type 0} where
+module _ {O H L T C : Type 0} {takes : O → List ℕ → O → Type 0} {cut : Request → Parts H L T C → Parts H L T C → Type 0} {steps : H → HealthItem → H → Type 0} {grants : H → ℕ → Type 0} {exchanges : L → LinksItem → L → Type 0} {sent probed : L → ℕ → ℕ} {records : T → TrailEvent → T → Type 0} {reads : C → ℕ → C → Type 0} where
   -- all items were answered, the owed round was run, and the front of the replies was written
-  pub ok_delivered : {progress : Progress} {short : Bool} {old mid : SessionState} {writer writer' : O} {written written' : ℕ} {before between after : Parts H L T M}
+  pub ok_delivered : {progress : Progress} {short : Bool} {old mid : SessionState} {writer writer' : O} {written written' : ℕ} {before between after : Parts H L T C}
       → (front unwritten : List ℕ)
       → Answered (IsEvent steps grants exchanges sent probed records reads) (sent_by sent) (probed_by probed) progress old before mid between
       → IsRun steps grants exchanges sent probed reads mid.owes short between after
@@ -500,9 +472,9 @@ module _ {O H L T M : Type 0} {takes : O → List ℕ → O → Type 0} {cut : R
       part_paid {records = records} answered run refl in
       part_delivered front unwritten part (ends_settled part.behind refl) empty split wrote
 
-module _ {H L T M : Type 0} {cut : Request → Parts H L T M → Parts H L T M → Type 0} {steps : H → HealthItem → H → Type 0} {grants : H → ℕ → Type 0} {exchanges : L → LinksItem → L → Type 0} {sent probed : L → ℕ → ℕ} {records : T → TrailEvent → T → Type 0} {reads : M → ℕ → M → Type 0} where
+module _ {H L T C : Type 0} {cut : Request → Parts H L T C → Parts H L T C → Type 0} {steps : H → HealthItem → H → Type 0} {grants : H → ℕ → Type 0} {exchanges : L → LinksItem → L → Type 0} {sent probed : L → ℕ → ℕ} {records : T → TrailEvent → T → Type 0} {reads : C → ℕ → C → Type 0} where
   -- after a request that was cut short its round was run
-  ends_paid : {items : List Item} {left : Reading} {reached mid after : Parts H L T M} {owes short : Bool} → IsBehind cut items left reached owes mid
+  ends_paid : {items : List Item} {left : Reading} {reached mid after : Parts H L T C} {owes short : Bool} → IsBehind cut items left reached owes mid
       → IsRun steps grants exchanges sent probed reads owes short mid after
       → EndsAt (IsEvent steps grants exchanges sent probed records reads) cut items left reached after
   ends_paid {items} {left} {reached} {mid} {after} {owes} {short} (no_more same none) run =
@@ -511,11 +483,11 @@ module _ {H L T M : Type 0} {cut : Request → Parts H L T M → Parts H L T M �
   ends_paid {items} {left} {reached} {mid} {after} {owes} {short} (cut_short it to goes emits is owed) run =
       let P : Bool → Type 0 = λ owes. MatchBool owes (Rounded steps grants exchanges sent probed reads short mid after) (NoneRun short mid after) in
       let rounded : Rounded steps grants exchanges sent probed reads short mid after = subst P owed run.ran in
-      after_cut it to mid rounded.round.visits goes emits is (record { short = short; round = rounded.round; visited = refl })
+      after_cut it to mid rounded.round.visits goes emits is (record { short = short; round = rounded.round; visited = refl; others = rounded.others })
 
-module _ {O H L T M : Type 0} {takes : O → List ℕ → O → Type 0} {cut : Request → Parts H L T M → Parts H L T M → Type 0} {steps : H → HealthItem → H → Type 0} {grants : H → ℕ → Type 0} {exchanges : L → LinksItem → L → Type 0} {sent probed : L → ℕ → ℕ} {records : T → TrailEvent → T → Type 0} {reads : M → ℕ → M → Type 0} where
+module _ {O H L T C : Type 0} {takes : O → List ℕ → O → Type 0} {cut : Request → Parts H L T C → Parts H L T C → Type 0} {steps : H → HealthItem → H → Type 0} {grants : H → ℕ → Type 0} {exchanges : L → LinksItem → L → Type 0} {sent probed : L → ℕ → ℕ} {records : T → TrailEvent → T → Type 0} {reads : C → ℕ → C → Type 0} where
   -- some items were answered, memory ran out, and the front of the replies was written
-  pub err_delivered : {short : Bool} {old mid : SessionState} {writer writer' : O} {written written' : ℕ} {before between after : Parts H L T M}
+  pub err_delivered : {short : Bool} {old mid : SessionState} {writer writer' : O} {written written' : ℕ} {before between after : Parts H L T C}
       → (front unwritten : List ℕ)
       → AnsweredPart (IsEvent steps grants exchanges sent probed records reads) cut old before mid between
       → IsRun steps grants exchanges sent probed reads mid.owes short between after

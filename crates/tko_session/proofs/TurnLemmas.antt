@@ -23,12 +23,13 @@ use Rattle.tko_text.specs.Reading.{Reading, Gives, NeedsMore, Emits}
 use Rattle.tko_route.specs.Trail.{sends_in}
 use Rattle.tko_session.specs.Replies.{trails_in}
 use Rattle.tko_session.specs.Events.{Answer, Event, IdleRound, IsEvent, IsRun, NoneRun, RoundAfter, Rounded, turns_of}
-use Rattle.tko_session.specs.Round.{probes_in, ran_out}
+use Rattle.tko_backend.specs.Round.{probes_in, ran_out}
 use Rattle.tko_session.specs.Turns.{Turn, is_request}
 use Rattle.tko_session.specs.declared.session.Progress.{Progress}
 use Rattle.tko_session.specs.declared.session.Progress.TheVariants.{More, NeedsInput}
 use Rattle.tko_session.specs.declared.session.Progress.TheVariants as progress
-use Rattle.tko_session.specs.Io.{capped}
+use Rattle.tko_io.specs.Io.{capped}
+use Rattle.tko_io.proofs.WriteLemmas.{capped-more}
 use Rattle.tko_session.specs.SessionState.{SessionState, Turned, Answered, AnsweredPart, Replied, Continues, EndsWith, GoesOn, InSession, IsBehind, ProgressIs, BeginBelowBound, probed_by, progress_after, progress_of, reply_bound, sent_by, items_of, text_of, trails_of, requests_in, sends_to, line_too_long, quit, cut_short, no_more}
 use Rattle.tko_text.proofs.GivesLemmas.{Gives-none, Gives-one, Gives-append}
 use Rattle.tko_session.proofs.EventLemmas.{idles-append, order-append, probes-append, short-append, turns-append}
@@ -58,10 +59,6 @@ pub requests-append : (events more : List Event)
 requests-append events more =
     ap (count_by is_request) (items-append events more)
     ∙ sum_by-append (λ item. cond (is_request item) 1 0) (items_of (turns_of events)) (items_of (turns_of more))
-
--- counts that stop at the same number may be added one after another
-pub capped-more : (a b c n m : ℕ) → capped b ≡ capped (a + n) → capped c ≡ capped (b + m) → capped c ≡ capped (a + (n + m))
-capped-more a b c n m first second = omega arith
 
 -- turns that begin below the bound, and then more that do
 begin-append : (waiting : ℕ) (turns more : List Turn) → BeginBelowBound waiting turns
@@ -322,9 +319,9 @@ module _ {W : Type 0} {step : W → Event → W → Type 0} {sent probed : W →
     behind = no_more refl none;
   }
 
-module _ {H L T M : Type 0} {steps : H → HealthItem → H → Type 0} {grants : H → ℕ → Type 0} {exchanges : L → LinksItem → L → Type 0} {sent probed : L → ℕ → ℕ} {records : T → TrailEvent → T → Type 0} {reads : M → ℕ → M → Type 0} where
+module _ {H L T C : Type 0} {steps : H → HealthItem → H → Type 0} {grants : H → ℕ → Type 0} {exchanges : L → LinksItem → L → Type 0} {sent probed : L → ℕ → ℕ} {records : T → TrailEvent → T → Type 0} {reads : C → ℕ → C → Type 0} where
   -- a fault is answered, which changes nothing but the outbox
-  pub answered_fault : (old mid new : SessionState) (world : Parts H L T M) (fault : TextFault) (progress : Progress)
+  pub answered_fault : (old mid new : SessionState) (world : Parts H L T C) (fault : TextFault) (progress : Progress)
       → Emits old.reading (item.Fault fault) mid.reading → mid ≡ record old { reading = mid.reading }
       → new ≡ record mid { outbox = mid.outbox ++ fault_text fault } → progress ≡ progress_after fault
       → old.owes ≡ false → length old.outbox < reply_bound
@@ -337,8 +334,8 @@ module _ {H L T M : Type 0} {steps : H → HealthItem → H → Type 0} {grants 
       order =
           let owes : new.owes ≡ false = ap (λ s. s.owes) e ∙ ap (λ s. s.owes) same ∙ none in
           rw (none, owes) refl;
-      sends = λ server. sym (add-zero (sent world.links server));
-      probes = λ server. sym (add-zero (probed world.links server));
+      sends = λ server. sym (add-zero (sent world.backend.links server));
+      probes = λ server. sym (add-zero (probed world.backend.links server));
       memory = refl;
       requests = ap capped (ap (λ s. s.requests) e ∙ ap (λ s. s.requests) same ∙ sym (add-zero old.requests));
     };
@@ -354,7 +351,7 @@ module _ {H L T M : Type 0} {steps : H → HealthItem → H → Type 0} {grants 
   }
 
   -- a request was replied to, and its round is owed
-  pub answered_request : (old mid new : SessionState) (before after : Parts H L T M) (it : Request) (progress : Progress)
+  pub answered_request : (old mid new : SessionState) (before after : Parts H L T C) (it : Request) (progress : Progress)
       → Emits old.reading (item.Request it) mid.reading → mid ≡ record old { reading = mid.reading }
       → Replied steps exchanges sent probed records mid before it new after → progress ≡ progress_of it
       → old.owes ≡ false → length old.outbox < reply_bound
@@ -367,8 +364,8 @@ module _ {H L T M : Type 0} {steps : H → HealthItem → H → Type 0} {grants 
       order = rw (none, replied.owes) refl;
       sends = λ server.
           replied.sends server
-          ∙ ap (λ trails. sent before.links server + sends_to server trails) (sym (append-nil (trails_in replied.routed)));
-      probes = λ server. replied.probes server ∙ sym (add-zero (probed before.links server));
+          ∙ ap (λ trails. sent before.backend.links server + sends_to server trails) (sym (append-nil (trails_in replied.routed)));
+      probes = λ server. replied.probes server ∙ sym (add-zero (probed before.backend.links server));
       memory = refl;
       requests = replied.requests ∙ ap (λ s. capped (s.requests + 1)) same;
     };
@@ -382,26 +379,26 @@ module _ {H L T M : Type 0} {steps : H → HealthItem → H → Type 0} {grants 
   }
 
   -- the round that was owed is an event
-  turned_round : {mid new : SessionState} {between after : Parts H L T M} → mid.owes ≡ true
+  turned_round : {mid new : SessionState} {between after : Parts H L T C} → mid.owes ≡ true
       → (rounded : Rounded steps grants exchanges sent probed reads false between after) → new ≡ record mid { owes = false }
       → Turned (IsEvent steps grants exchanges sent probed records reads) (sent_by sent) (probed_by probed) mid between
       (RoundAfter rounded.round.visits ∷ []) new after
   turned_round {mid} {new} {between} {after} owed rounded paid = record {
     gives = subst (Gives mid.reading []) (sym (ap (λ s. s.reading) paid)) (Gives-none mid.reading);
-    gains = gains_one (record { short = false; round = rounded.round; visited = refl });
+    gains = gains_one (record { short = false; round = rounded.round; visited = refl; others = rounded.others });
     order =
         let owes : new.owes ≡ false = ap (λ s. s.owes) paid in
         rw (owed, owes) refl;
-    sends = λ server. rounded.sends server ∙ sym (add-zero (sent between.links server));
+    sends = λ server. rounded.sends server ∙ sym (add-zero (sent between.backend.links server));
     probes = λ server.
         rounded.round.probes server
-        ∙ ap (λ visits. probed between.links server + probes_in server visits) (sym (append-nil rounded.round.visits));
+        ∙ ap (λ visits. probed between.backend.links server + probes_in server visits) (sym (append-nil rounded.round.visits));
     memory = ap (list_any ran_out) (append-nil rounded.round.visits) ∙ sym rounded.round.memory;
     requests = ap capped (ap (λ s. s.requests) paid ∙ sym (add-zero mid.requests));
   }
 
   -- the round that was owed was run
-  pub answered_round : {progress : Progress} {old mid new : SessionState} {before between after : Parts H L T M}
+  pub answered_round : {progress : Progress} {old mid new : SessionState} {before between after : Parts H L T C}
       → Answered (IsEvent steps grants exchanges sent probed records reads) (sent_by sent) (probed_by probed) progress old before mid between
       → mid.owes ≡ true → Rounded steps grants exchanges sent probed reads false between after → new ≡ record mid { owes = false }
       → Answered (IsEvent steps grants exchanges sent probed records reads) (sent_by sent) (probed_by probed) progress old before new after
@@ -423,7 +420,7 @@ module _ {H L T M : Type 0} {steps : H → HealthItem → H → Type 0} {grants 
       }
 
   -- the round that was owed, if one was
-  pub answered_paid : {progress : Progress} {old mid new : SessionState} {before between after : Parts H L T M}
+  pub answered_paid : {progress : Progress} {old mid new : SessionState} {before between after : Parts H L T C}
       → Answered (IsEvent steps grants exchanges sent probed records reads) (sent_by sent) (probed_by probed) progress old before mid between
       → IsRun steps grants exchanges sent probed reads mid.owes false between after → new ≡ record mid { owes = false }
       → Answered (IsEvent steps grants exchanges sent probed records reads) (sent_by sent) (probed_by probed) progress old before new after
@@ -438,7 +435,7 @@ module _ {H L T M : Type 0} {steps : H → HealthItem → H → Type 0} {grants 
       ]
 
   -- the round that was owed was run, and memory ran out in it or did not
-  part_round : {cut : Request → Parts H L T M → Parts H L T M → Type 0} {progress : Progress} {short : Bool} {old mid new : SessionState} {before between after : Parts H L T M}
+  part_round : {cut : Request → Parts H L T C → Parts H L T C → Type 0} {progress : Progress} {short : Bool} {old mid new : SessionState} {before between after : Parts H L T C}
       → Answered (IsEvent steps grants exchanges sent probed records reads) (sent_by sent) (probed_by probed) progress old before mid between
       → mid.owes ≡ true → Rounded steps grants exchanges sent probed reads short between after → new ≡ record mid { owes = false }
       → AnsweredPart (IsEvent steps grants exchanges sent probed records reads) cut old before new after
@@ -455,7 +452,7 @@ module _ {H L T M : Type 0} {steps : H → HealthItem → H → Type 0} {grants 
         left = mid.reading;
         reached = after;
         gives = subst (λ xs. Gives old.reading xs mid.reading) (sym items) front.turned.gives;
-        gains = gains_append front.turned.gains (gains_one (record { short = short; round = rounded.round; visited = refl }));
+        gains = gains_append front.turned.gains (gains_one (record { short = short; round = rounded.round; visited = refl; others = rounded.others }));
         order = order-append old.owes mid.owes false front.events last front.turned.order (rw owed refl);
         idles = omega (arith, front.idles, idles-append front.events last);
         in_session = subst InSession (sym items) ended;
@@ -464,7 +461,7 @@ module _ {H L T M : Type 0} {steps : H → HealthItem → H → Type 0} {grants 
       }
 
   -- the same where a round was owed or none was
-  pub part_paid : {cut : Request → Parts H L T M → Parts H L T M → Type 0} {progress : Progress} {short : Bool} {old mid new : SessionState} {before between after : Parts H L T M}
+  pub part_paid : {cut : Request → Parts H L T C → Parts H L T C → Type 0} {progress : Progress} {short : Bool} {old mid new : SessionState} {before between after : Parts H L T C}
       → Answered (IsEvent steps grants exchanges sent probed records reads) (sent_by sent) (probed_by probed) progress old before mid between
       → IsRun steps grants exchanges sent probed reads mid.owes short between after → new ≡ record mid { owes = false }
       → AnsweredPart (IsEvent steps grants exchanges sent probed records reads) cut old before new after
@@ -479,18 +476,18 @@ module _ {H L T M : Type 0} {steps : H → HealthItem → H → Type 0} {grants 
       ]
 
   -- the round at an idle turn is an event
-  pub turned_idle : {at : SessionState} {between after : Parts H L T M} → at.owes ≡ false
+  pub turned_idle : {at : SessionState} {between after : Parts H L T C} → at.owes ≡ false
       → (rounded : Rounded steps grants exchanges sent probed reads false between after)
       → Turned (IsEvent steps grants exchanges sent probed records reads) (sent_by sent) (probed_by probed) at between
       (IdleRound rounded.round.visits ∷ []) at after
   turned_idle {at} {between} {after} none rounded = record {
     gives = Gives-none at.reading;
-    gains = gains_one (record { short = false; round = rounded.round; visited = refl });
+    gains = gains_one (record { short = false; round = rounded.round; visited = refl; others = rounded.others });
     order = rw none refl;
-    sends = λ server. rounded.sends server ∙ sym (add-zero (sent between.links server));
+    sends = λ server. rounded.sends server ∙ sym (add-zero (sent between.backend.links server));
     probes = λ server.
         rounded.round.probes server
-        ∙ ap (λ visits. probed between.links server + probes_in server visits) (sym (append-nil rounded.round.visits));
+        ∙ ap (λ visits. probed between.backend.links server + probes_in server visits) (sym (append-nil rounded.round.visits));
     memory = ap (list_any ran_out) (append-nil rounded.round.visits) ∙ sym rounded.round.memory;
     requests = ap capped (sym (add-zero at.requests));
   }

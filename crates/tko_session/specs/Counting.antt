@@ -5,7 +5,7 @@ use Rattle.tko_links.specs.declared.links.Outcome.TheVariants as outcome
 use Rattle.tko_route.specs.declared.attempt.Attempt.{Attempt}
 use Rattle.tko_route.specs.declared.attempt.Attempt.TheVariants as attempt
 use Rattle.tko_session.specs.declared.counts.Counts.{Counts}
-use Rattle.tko_session.specs.Io.{capped}
+use Rattle.tko_io.specs.Io.{capped}
 use Rattle.tko_session.specs.TrailEvents.{TrailEvent, Asked, Tried}
 
 -- nothing was counted

@@ -20,46 +20,48 @@ pub record LooksSome {H : Type 0} (steps : H → HealthItem → H → Type 0)
   pub parts : addresses ≡ addresses_in servers ++ unlooked
   pub looks : Gains steps old (looks_from 0 servers) new
 
-module _ {H L T M : Type 0} (steps : H → HealthItem → H → Type 0)
+module _ {H L T C : Type 0} (steps : H → HealthItem → H → Type 0)
     (exchanges : L → LinksItem → L → Type 0) (sent probed : L → ℕ → ℕ) where
   -- memory ran out at a request of this one key: between its attempts; or after them, so that its
   -- reply or its trail was lost
-  pub data IsKeyCut (request : Request) (key : List ℕ) (old new : Parts H L T M) : Type 0 where
+  pub data IsKeyCut (request : Request) (key : List ℕ) (old new : Parts H L T C) : Type 0 where
     attempts_cut : IsCutShort steps exchanges sent request key old new
         → IsKeyCut request key old new
-    reply_lost : (trail : List Attempt) (mid : Parts H L T M)
+    reply_lost : (trail : List Attempt) (mid : Parts H L T C)
         → IsTried steps exchanges sent probed request key old trail mid
         → new ≡ record mid { trails = new.trails } → IsKeyCut request key old new
 
   -- memory ran out before any of these keys was tried, or at the first of them
-  pub data IsFirstCut (request : Request) (keys : List (List ℕ)) (old new : Parts H L T M)
+  pub data IsFirstCut (request : Request) (keys : List (List ℕ)) (old new : Parts H L T C)
       : Type 0 where
     untried : new ≡ old → IsFirstCut request keys old new
     at_first : (key : List ℕ) (rest : List (List ℕ)) → keys ≡ key ∷ rest
         → IsKeyCut (request_for request key) key old new → IsFirstCut request keys old new
 
-module _ {H L T M : Type 0} (steps : H → HealthItem → H → Type 0)
+module _ {H L T C : Type 0} (steps : H → HealthItem → H → Type 0)
     (exchanges : L → LinksItem → L → Type 0) (sent probed : L → ℕ → ℕ)
     (records : T → TrailEvent → T → Type 0) where
   -- some keys of a request were routed, in order, each got a list of values, and then memory ran
   -- out
-  pub record AreKeysCut (request : Request) (old new : Parts H L T M) : Type 0 where
+  pub record AreKeysCut (request : Request) (old new : Parts H L T C) : Type 0 where
     pub routed : List RoutedKey
     pub left : List (List ℕ)
-    pub mid : Parts H L T M
+    pub mid : Parts H L T C
     pub keys : request_keys request ≡ keys_in routed ++ left
     pub each : Gains (IsKeyRouted steps exchanges sent records request) old routed mid
     pub values : All HasValues routed
     pub last : IsFirstCut steps exchanges sent probed request left mid new
 
   -- memory ran out in the answer to a request that was recorded
-  pub data IsAnswerCut (request : Request) (old new : Parts H L T M) : Type 0 where
+  pub data IsAnswerCut (request : Request) (old new : Parts H L T C) : Type 0 where
     at_keys : AreKeysCut request old new → IsAnswerCut request old new
-    in_status : request ≡ StatsTko → LooksSome steps old.config.addresses old.health new.health
-        → new ≡ record old { health = new.health } → IsAnswerCut request old new
+    in_status : request ≡ StatsTko
+        → LooksSome steps old.config.addresses old.backend.health new.backend.health
+        → new ≡ record old { backend = record old.backend { health = new.backend.health } }
+        → IsAnswerCut request old new
 
   -- a request was cut short: memory ran out while it was recorded, or in its answer
-  pub data IsRequestCut (request : Request) (old new : Parts H L T M) : Type 0 where
+  pub data IsRequestCut (request : Request) (old new : Parts H L T C) : Type 0 where
     unrecorded : new ≡ record old { trails = new.trails } → IsRequestCut request old new
     recorded : (told : T) → records old.trails (Asked request) told
         → IsAnswerCut request (record old { trails = told }) new → IsRequestCut request old new

@@ -4,10 +4,7 @@ use Rattle.std.specs.List.{list_any}
 use Rattle.tko_model.specs.Records.{HealthItem}
 use Rattle.tko_links.specs.Links.{LinksItem}
 use Rattle.tko_session.specs.declared.parts.Parts.{Parts}
-use Rattle.tko_session.specs.declared.probers.ProbeSlot.{ProbeSlot}
-use Rattle.tko_session.specs.declared.probers.ProbeSlot.TheVariants.{Quiet, Marked, Probing}
-use Rattle.tko_session.specs.Probers.{ProbersState}
-use Rattle.tko_session.specs.Round.{IsRound, Visit, ran_out}
+use Rattle.tko_backend.specs.Round.{IsRound, Visit, ran_out}
 use Rattle.tko_session.specs.TrailEvents.{TrailEvent}
 use Rattle.tko_session.specs.Turns.{Turn, IsTurn, is_request}
 
@@ -66,28 +63,30 @@ owed_from (Some owed) (event ∷ events) = owed_from (owed_then owed event) even
 abbrev pub owed_after : Bool → List Event → Option Bool
 owed_after owed events = owed_from (Some owed) events
 
-module _ {H L T M : Type 0} (steps : H → HealthItem → H → Type 0) (grants : H → ℕ → Type 0)
+module _ {H L T C : Type 0} (steps : H → HealthItem → H → Type 0) (grants : H → ℕ → Type 0)
     (exchanges : L → LinksItem → L → Type 0) (sent probed : L → ℕ → ℕ)
-    (records : T → TrailEvent → T → Type 0) (reads : M → ℕ → M → Type 0) where
+    (records : T → TrailEvent → T → Type 0) (reads : C → ℕ → C → Type 0) where
   -- a round with these visits
-  pub record IsRoundOf (visits : List Visit) (old new : Parts H L T M) : Type 0 where
+  pub record IsRoundOf (visits : List Visit) (old new : Parts H L T C) : Type 0 where
     pub short : Bool
-    pub round : IsRound steps grants exchanges probed reads old short new
+    pub round : IsRound steps grants exchanges probed reads old.backend short new.backend
     pub visited : round.visits ≡ visits
+    pub others : new ≡ record old { backend = new.backend }
 
   -- what an event changes
-  abbrev pub IsEvent : Parts H L T M → Event → Parts H L T M → Type 0
+  abbrev pub IsEvent : Parts H L T C → Event → Parts H L T C → Type 0
   IsEvent old (Answer turn) new = IsTurn steps exchanges sent records old turn new
   IsEvent old (RoundAfter visits) new = IsRoundOf visits old new
   IsEvent old (IdleRound visits) new = IsRoundOf visits old new
 
 -- a round was run, in which memory ran out or did not, and nothing was sent to a server but its
 -- probes
-pub record Rounded {H L T M : Type 0} (steps : H → HealthItem → H → Type 0)
+pub record Rounded {H L T C : Type 0} (steps : H → HealthItem → H → Type 0)
     (grants : H → ℕ → Type 0) (exchanges : L → LinksItem → L → Type 0) (sent probed : L → ℕ → ℕ)
-    (reads : M → ℕ → M → Type 0) (short : Bool) (old new : Parts H L T M) : Type 0 where
-  pub round : IsRound steps grants exchanges probed reads old short new
-  pub sends : (server : ℕ) → sent new.links server ≡ sent old.links server
+    (reads : C → ℕ → C → Type 0) (short : Bool) (old new : Parts H L T C) : Type 0 where
+  pub round : IsRound steps grants exchanges probed reads old.backend short new.backend
+  pub others : new ≡ record old { backend = new.backend }
+  pub sends : (server : ℕ) → sent new.backend.links server ≡ sent old.backend.links server
 
 -- nothing was done, for which no memory is needed
 pub record NoneRun {W : Type 0} (short : Bool) (old new : W) : Type 0 where
@@ -95,19 +94,8 @@ pub record NoneRun {W : Type 0} (short : Bool) (old new : W) : Type 0 where
   pub same : new ≡ old
 
 -- a round was run where one was owed, and else nothing was done; memory ran out or did not
-pub record IsRun {H L T M : Type 0} (steps : H → HealthItem → H → Type 0)
+pub record IsRun {H L T C : Type 0} (steps : H → HealthItem → H → Type 0)
     (grants : H → ℕ → Type 0) (exchanges : L → LinksItem → L → Type 0) (sent probed : L → ℕ → ℕ)
-    (reads : M → ℕ → M → Type 0) (owes short : Bool) (old new : Parts H L T M) : Type 0 where
+    (reads : C → ℕ → C → Type 0) (owes short : Bool) (old new : Parts H L T C) : Type 0 where
   pub ran : MatchBool owes (Rounded steps grants exchanges sent probed reads short old new)
       (NoneRun short old new)
-
--- no server waits for its prober
-abbrev pub AreBegun : List ProbeSlot → Type 0
-AreBegun [] = Unit {0}
-AreBegun (Quiet ∷ slots) = AreBegun slots
-AreBegun (Marked ∷ slots) = ⊥
-AreBegun (Probing prober ∷ slots) = AreBegun slots
-
--- each server that the session marked has its prober
-pub record NoneMarked (probers : ProbersState) : Type 0 where
-  pub begun : AreBegun probers.slots

@@ -3,15 +3,9 @@ pub mod Counting
 pub mod Cuts
 pub mod Events
 pub mod Faults
-pub mod Io
-pub mod Moments
-pub mod Pieces
-pub mod Probers
 pub mod Replies
-pub mod Round
 pub mod Served
 pub mod SessionState
 pub mod Status
-pub mod Tape
 pub mod TrailEvents
 pub mod Turns

@@ -15,10 +15,10 @@ use Rattle.tko_session.specs.declared.parts.Parts.{Parts}
 use Rattle.tko_session.specs.declared.session.Progress.{Progress}
 use Rattle.tko_session.specs.declared.session.Progress.TheVariants as progress
 use Rattle.tko_session.specs.Events.{Event, NoneShort, idle_rounds, owed_after, turns_of, visits_of}
-use Rattle.tko_session.specs.Io.{capped}
+use Rattle.tko_io.specs.Io.{capped}
 use Rattle.tko_session.specs.TrailEvents.{TrailEvent}
 use Rattle.tko_session.specs.Replies.{RoutedKey, trails_in}
-use Rattle.tko_session.specs.Round.{probes_in}
+use Rattle.tko_backend.specs.Round.{probes_in}
 use Rattle.tko_session.specs.Turns.{Turn, Becomes, is_request}
 
 -- how far the input was read, the replies that wait to be written, the number of requests, and
@@ -121,33 +121,34 @@ pause_of true = progress.Quit
 pause_of false = progress.NeedsInput
 
 -- the health, the links and the probers have the servers of the configuration
-pub record Reaches {H L T M : Type 0} (servers : H → ℕ) (linked : L → ℕ)
-    (parts : Parts H L T M) : Type 0 where
-  pub health : servers parts.health ≡ length parts.config.addresses
-  pub links : linked parts.links ≡ length parts.config.addresses
-  pub probers : length parts.probers.slots ≡ length parts.config.addresses
+pub record Reaches {H L T C : Type 0} (servers : H → ℕ) (linked : L → ℕ)
+    (parts : Parts H L T C) : Type 0 where
+  pub health : servers parts.backend.health ≡ length parts.config.addresses
+  pub links : linked parts.backend.links ≡ length parts.config.addresses
+  pub probers : length parts.backend.probers.slots ≡ length parts.config.addresses
 
 -- how often each server was sent to
-abbrev pub sent_by : {H L T M : Type 0} → (L → ℕ → ℕ) → Parts H L T M → ℕ → ℕ
-sent_by sent parts server = sent parts.links server
+abbrev pub sent_by : {H L T C : Type 0} → (L → ℕ → ℕ) → Parts H L T C → ℕ → ℕ
+sent_by sent parts server = sent parts.backend.links server
 
 -- how often each server was probed
-abbrev pub probed_by : {H L T M : Type 0} → (L → ℕ → ℕ) → Parts H L T M → ℕ → ℕ
-probed_by probed parts server = probed parts.links server
+abbrev pub probed_by : {H L T C : Type 0} → (L → ℕ → ℕ) → Parts H L T C → ℕ → ℕ
+probed_by probed parts server = probed parts.backend.links server
 
 -- a request was recorded and answered: one more, its reply is at the end of the outbox, and its
 -- round is owed
-pub record Replied {H L T M : Type 0} (steps : H → HealthItem → H → Type 0)
+pub record Replied {H L T C : Type 0} (steps : H → HealthItem → H → Type 0)
     (exchanges : L → LinksItem → L → Type 0) (sent probed : L → ℕ → ℕ)
     (records : T → TrailEvent → T → Type 0)
-    (old : SessionState) (before : Parts H L T M) (request : Request)
-    (new : SessionState) (after : Parts H L T M) : Type 0 where
+    (old : SessionState) (before : Parts H L T C) (request : Request)
+    (new : SessionState) (after : Parts H L T C) : Type 0 where
   pub routed : List RoutedKey
   pub text : List ℕ
   pub becomes : Becomes steps exchanges sent records before (item.Request request) routed text after
   pub sends : (server : ℕ)
-      → sent after.links server ≡ sent before.links server + sends_to server (trails_in routed)
-  pub probes : (server : ℕ) → probed after.links server ≡ probed before.links server
+      → sent after.backend.links server
+      ≡ sent before.backend.links server + sends_to server (trails_in routed)
+  pub probes : (server : ℕ) → probed after.backend.links server ≡ probed before.backend.links server
   pub reading : new.reading ≡ old.reading
   pub outbox : new.outbox ≡ old.outbox ++ text
   pub requests : capped new.requests ≡ capped (old.requests + 1)

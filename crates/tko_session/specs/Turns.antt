@@ -11,7 +11,7 @@ use Rattle.tko_pools.specs.Configs.{Configuration, targets_of}
 use Rattle.tko_route.specs.declared.attempt.Attempt.{Attempt}
 use Rattle.tko_route.specs.Trail.{IsTrail, Attempts, Way, way}
 use Rattle.tko_session.specs.declared.parts.Parts.{Parts}
-use Rattle.tko_session.specs.Probers.{noted}
+use Rattle.tko_backend.specs.Probers.{noted}
 use Rattle.tko_session.specs.Replies.{IsReply, RoutedKey, version_text, written}
 use Rattle.tko_session.specs.Status.{IsStatus}
 use Rattle.tko_session.specs.TrailEvents.{TrailEvent, Asked, Tried}
@@ -51,35 +51,35 @@ abbrev pub way_of : Configuration → Request → List ℕ → List Attempt → 
 way_of config request key trail =
     way (targets_of config key) config.failover_exptime request trail
 
-module _ {H L T M : Type 0} (steps : H → HealthItem → H → Type 0)
+module _ {H L T C : Type 0} (steps : H → HealthItem → H → Type 0)
     (exchanges : L → LinksItem → L → Type 0) (sent : L → ℕ → ℕ)
     (records : T → TrailEvent → T → Type 0) where
   -- a key of a request took this trail over the targets of the key; the trail was recorded, and the
   -- servers that its failures marked are going to be probed
-  pub record IsKeyRouted (request : Request) (old : Parts H L T M) (routed : RoutedKey)
-      (new : Parts H L T M) : Type 0 where
+  pub record IsKeyRouted (request : Request) (old : Parts H L T C) (routed : RoutedKey)
+      (new : Parts H L T C) : Type 0 where
     pub tried : IsTrail (targets_of old.config routed.key) routed.trail
     pub attempts : Attempts (record { steps = steps; exchanges = exchanges; sent = sent })
-        (old.health, old.links)
+        (old.backend.health, old.backend.links)
         (way_of old.config (request_for request routed.key) routed.key routed.trail)
-        (new.health, new.links)
+        (new.backend.health, new.backend.links)
     pub recorded : records old.trails (Tried routed.trail) new.trails
     pub config : new.config ≡ old.config
-    pub probers : new.probers ≡ noted routed.trail old.probers
-    pub moments : new.moments ≡ old.moments
+    pub probers : new.backend.probers ≡ noted routed.trail old.backend.probers
+    pub clock : new.backend.clock ≡ old.backend.clock
 
   -- a request without a key is answered by the proxy itself
-  abbrev pub AnswersItself : Request → Parts H L T M → List ℕ → Parts H L T M → Type 0
+  abbrev pub AnswersItself : Request → Parts H L T C → List ℕ → Parts H L T C → Type 0
   AnswersItself Version old text new = (text ≡ version_text) × (new ≡ old)
   AnswersItself Quit old text new = (text ≡ []) × (new ≡ old)
   AnswersItself StatsTko old text new =
-      IsStatus steps old.config.addresses old.health text new.health
-      × (new ≡ record old { health = new.health })
+      IsStatus steps old.config.addresses old.backend.health text new.backend.health
+      × (new ≡ record old { backend = record old.backend { health = new.backend.health } })
   AnswersItself _ old text new = ⊥
 
   -- the keys of a request were routed, one after another, and gave this text
-  pub record AnswersByKeys (request : Request) (old : Parts H L T M) (routed : List RoutedKey)
-      (text : List ℕ) (new : Parts H L T M) : Type 0 where
+  pub record AnswersByKeys (request : Request) (old : Parts H L T C) (routed : List RoutedKey)
+      (text : List ℕ) (new : Parts H L T C) : Type 0 where
     pub some : 0 < length (request_keys request)
     pub each : Gains (IsKeyRouted request) old routed new
     pub reply : List ℕ
@@ -87,19 +87,19 @@ module _ {H L T M : Type 0} (steps : H → HealthItem → H → Type 0)
     pub is_written : text ≡ written request reply
 
   -- what becomes of a request once it was recorded
-  pub data Answers (request : Request) (old : Parts H L T M) (routed : List RoutedKey)
-      (text : List ℕ) (new : Parts H L T M) : Type 0 where
+  pub data Answers (request : Request) (old : Parts H L T C) (routed : List RoutedKey)
+      (text : List ℕ) (new : Parts H L T C) : Type 0 where
     itself : routed ≡ [] → AnswersItself request old text new
         → Answers request old routed text new
     by_keys : AnswersByKeys request old routed text new → Answers request old routed text new
 
   -- a fault gives its text and changes nothing; a request is recorded, and then answered
-  abbrev pub Becomes : Parts H L T M → Item → List RoutedKey → List ℕ → Parts H L T M → Type 0
+  abbrev pub Becomes : Parts H L T C → Item → List RoutedKey → List ℕ → Parts H L T C → Type 0
   Becomes old (item.Fault fault) routed text new =
       (routed ≡ []) × (text ≡ fault_text fault) × (new ≡ old)
   Becomes old (item.Request request) routed text new =
       (told : T) × records old.trails (Asked request) told
       × Answers request (record old { trails = told }) routed text new
 
-  abbrev pub IsTurn : Parts H L T M → Turn → Parts H L T M → Type 0
+  abbrev pub IsTurn : Parts H L T C → Turn → Parts H L T C → Type 0
   IsTurn old turn new = Becomes old turn.item turn.routed turn.text new

@@ -18,10 +18,10 @@ use tko_text::{Key, Keys, Request};
 const VERSION: &[u8] = b"VERSION tkoproxy 1\r\n";
 
 /// Answers a request, and puts its reply at the end of the outbox.
-pub(crate) fn answer<R: IoRuntime, H: Health, L: Links, T: Trails, M>(
+pub(crate) fn answer<R: IoRuntime, H: Health, L: Links, T: Trails, C>(
     rt: &R,
     alloc: Global,
-    parts: &mut Parts<H, L, T, M>,
+    parts: &mut Parts<H, L, T, C>,
     targets: &mut Vec<usize>,
     outbox: &mut Outbox,
     request: Request,
@@ -38,7 +38,7 @@ pub(crate) fn answer<R: IoRuntime, H: Health, L: Links, T: Trails, M>(
         Request::Version => outbox.append(VERSION),
         Request::Quit => Ok(()),
         Request::StatsTko => {
-            outbox.append_status(rt, &mut parts.health, parts.config.addresses())
+            outbox.append_status(rt, &mut parts.backend.health, parts.config.addresses())
         }
         Request::Get { keys } => answer_keys(rt, alloc, parts, targets, outbox, keys, false),
         Request::Gets { keys } => answer_keys(rt, alloc, parts, targets, outbox, keys, true),
@@ -47,10 +47,10 @@ pub(crate) fn answer<R: IoRuntime, H: Health, L: Links, T: Trails, M>(
 }
 
 /// Answers a retrieval.
-fn answer_keys<R: IoRuntime, H: Health, L: Links, T: Trails, M>(
+fn answer_keys<R: IoRuntime, H: Health, L: Links, T: Trails, C>(
     rt: &R,
     alloc: Global,
-    parts: &mut Parts<H, L, T, M>,
+    parts: &mut Parts<H, L, T, C>,
     targets: &mut Vec<usize>,
     outbox: &mut Outbox,
     keys: Keys,
@@ -72,10 +72,10 @@ fn answer_keys<R: IoRuntime, H: Health, L: Links, T: Trails, M>(
 }
 
 /// Routes a request of one key.
-fn answer_key<R: IoRuntime, H: Health, L: Links, T: Trails, M>(
+fn answer_key<R: IoRuntime, H: Health, L: Links, T: Trails, C>(
     rt: &R,
     alloc: Global,
-    parts: &mut Parts<H, L, T, M>,
+    parts: &mut Parts<H, L, T, C>,
     targets: &mut Vec<usize>,
     outbox: &mut Outbox,
     request: &mut Request,
@@ -98,10 +98,10 @@ fn answer_key<R: IoRuntime, H: Health, L: Links, T: Trails, M>(
 
 /// Routes keys one after another, each as a request of its own, until one gets no list of values:
 /// its reply is then that of all.
-fn answer_each<R: IoRuntime, H: Health, L: Links, T: Trails, M>(
+fn answer_each<R: IoRuntime, H: Health, L: Links, T: Trails, C>(
     rt: &R,
     alloc: Global,
-    parts: &mut Parts<H, L, T, M>,
+    parts: &mut Parts<H, L, T, C>,
     targets: &mut Vec<usize>,
     outbox: &mut Outbox,
     keys: Vec<Key>,
@@ -131,10 +131,10 @@ fn answer_each<R: IoRuntime, H: Health, L: Links, T: Trails, M>(
 /// Routes the next of several keys, and puts its values at the end of the outbox. If its response
 /// is no list of values, that takes the place of all replies after those that waited before the
 /// first key.
-fn answer_next<R: IoRuntime, H: Health, L: Links, T: Trails, M>(
+fn answer_next<R: IoRuntime, H: Health, L: Links, T: Trails, C>(
     rt: &R,
     alloc: Global,
-    parts: &mut Parts<H, L, T, M>,
+    parts: &mut Parts<H, L, T, C>,
     targets: &mut Vec<usize>,
     outbox: &mut Outbox,
     waiting: usize,

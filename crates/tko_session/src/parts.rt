@@ -1,32 +1,47 @@
 //! What a session works on.
-ghost use Rattle.std.specs.Prelude.{◌≡◌, ◌∷◌, [], List, ℕ, IfOk, OnErr, OnOk};
+ghost use Rattle.std.specs.Prelude.{◌≡◌, ◌∷◌, [], List, ℕ, IfOk, OnErr, OnOk, is_err};
+ghost use Rattle.tko_backend.specs.Round.{IsRound};
 ghost use Rattle.tko_pools.specs.Configs.{AreServers, targets_of};
 ghost use Rattle.tko_session.specs.Answering.{IsCutShort, IsTried};
 ghost use Rattle.tko_session.specs.SessionState.{Reaches};
 ghost use Rattle.tko_session.specs.Turns.{request_keys};
 
-use crate::probers::Probers;
 use crate::requests::first_key;
 use std::alloc::Global;
+use tko_backend::{Backend, Clock};
 use tko_bytes::NoMemory;
 use tko_links::{IoRuntime, Links};
 use tko_pools::Config;
 use tko_route::{Health, Routed, route};
 use tko_text::Request;
 
-/// The health of the servers, the links to them, what records the trails, the configuration, which
-/// chooses the targets of each key, the probers of marked servers, and their clock.
+/// What the worker has of the servers, what records the trails, and the configuration, which
+/// chooses the targets of each key.
 #[derive(Drop)]
-pub struct Parts<H, L, T, M> {
-    pub health: H,
-    pub links: L,
+pub struct Parts<H, L, T, C> {
+    pub backend: Backend<H, L, C>,
     pub trails: T,
     pub config: Config,
-    pub probers: Probers,
-    pub moments: M,
 }
 
-impl<H: Health, L: Links, T, M> Parts<H, L, T, M> {
+/// One round of the probers by itself. If memory runs out in a probe, the probe has failed, and the
+/// round goes on to the other servers before it returns `NoMemory`.
+pub fn round<R: IoRuntime, H: Health, L: Links, T, C: Clock>(
+    rt: &R,
+    parts: &mut Parts<H, L, T, C>,
+) -> Result<(), NoMemory>
+    requires reach { Reaches H.servers L.servers parts.old }
+    ensures round { IsRound H.steps H.grants L.exchanges L.probed C.reads
+        parts.old.backend (is_err result) parts.new.backend }
+    ensures sends { (server : ℕ)
+        → L.sent parts.new.backend.links server ≡ L.sent parts.old.backend.links server }
+    ensures others { parts.new ≡ record parts.old { backend = parts.new.backend } }
+    ensures reach { Reaches H.servers L.servers parts.new }
+{
+    parts.backend.round(rt)
+}
+
+impl<H: Health, L: Links, T, C> Parts<H, L, T, C> {
     /// Sends a request of one key to one target of the key after another, until one answers. The
     /// targets are put into a list, in place of what it held. The servers that the attempts marked
     /// are going to be probed, also where memory ran out.
@@ -50,18 +65,18 @@ impl<H: Health, L: Links, T, M> Parts<H, L, T, M> {
         match route(
             rt,
             alloc,
-            &mut self.health,
-            &mut self.links,
+            &mut self.backend.health,
+            &mut self.backend.links,
             targets,
             request,
             exptime,
         ) {
             Ok(routed) => {
-                self.probers.note(routed.trail.attempts());
+                self.backend.probers.note(routed.trail.attempts());
                 Ok(routed)
             }
             Err(fault) => {
-                self.probers.note(fault.trail.attempts());
+                self.backend.probers.note(fault.trail.attempts());
                 Err(NoMemory)
             }
         }

@@ -1,40 +1,40 @@
 //! One session over its two ends: a thin loop that moves bytes.
 ghost use Rattle.std.specs.Prelude.{◌≡◌, ◌≢◌, ◌<◌, ℕ, [], false, Err, IfOk, OnOk, OnErr, IsErrOf};
 ghost use Rattle.tko_text.specs.Reading.{Never};
-ghost use Rattle.tko_session.specs.Io.{capped};
+ghost use Rattle.tko_io.specs.Io.{capped};
 ghost use Rattle.tko_session.specs.Cuts.{IsRequestCut};
-ghost use Rattle.tko_session.specs.Events.{IsEvent, NoneMarked};
+ghost use Rattle.tko_backend.specs.Probers.{NoneMarked};
+ghost use Rattle.tko_session.specs.Events.{IsEvent};
 ghost use Rattle.tko_session.specs.SessionState.{Reaches, fed_state, pause_of, probed_by, sent_by};
 ghost use Rattle.tko_session.specs.Served.{CameTooLong, Delivered, DeliveredPart, IsCalm, Served, StoppedByLine, StoppedByRead, StoppedByWrite, StoppedEarly};
 
-use crate::{
-    Inlet, Moments, Outlet, Parts, Piece, Progress, Report, Session, SessionFault, Trails,
-    piece_buffer, read_piece, write_all,
-};
+use crate::{Parts, Progress, Report, Session, SessionFault, Trails, round};
 use std::alloc::Global;
+use tko_backend::Clock;
+use tko_io::{Inlet, Outlet, Piece, piece_buffer, read_piece, write_all};
 use tko_links::{IoRuntime, Links};
 use tko_route::Health;
 
 /// Serves one client, from the first byte of its input to the end or to `quit`.
-pub fn serve<R: IoRuntime, I: Inlet, O: Outlet, H: Health, L: Links, T: Trails, M: Moments>(
+pub fn serve<R: IoRuntime, I: Inlet, O: Outlet, H: Health, L: Links, T: Trails, C: Clock>(
     rt: &R,
     alloc: Global,
     reader: &mut I,
     writer: &mut O,
-    parts: &mut Parts<H, L, T, M>,
+    parts: &mut Parts<H, L, T, C>,
 ) -> Result<Report, SessionFault>
     requires reach { Reaches H.servers L.servers parts.old }
     ensures ok { IfOk result (λ report. Served I.gives I.idles O.takes
-        (IsEvent H.steps H.grants L.exchanges L.sent L.probed T.records M.reads)
+        (IsEvent H.steps H.grants L.exchanges L.sent L.probed T.records C.reads)
         (sent_by L.sent) (probed_by L.probed) I.is_ended
         reader.old writer.old parts.old report reader.new writer.new parts.new) }
     ensures read { IsErrOf result SessionFault.Read → StoppedByRead I.gives I.idles O.takes
-        (IsEvent H.steps H.grants L.exchanges L.sent L.probed T.records M.reads)
+        (IsEvent H.steps H.grants L.exchanges L.sent L.probed T.records C.reads)
         (sent_by L.sent) (probed_by L.probed)
         reader.old writer.old parts.old reader.new writer.new parts.new }
     ensures write { (written : ℕ) → IsErrOf result (SessionFault.Write written)
         → StoppedByWrite I.gives I.idles O.takes
-        (IsEvent H.steps H.grants L.exchanges L.sent L.probed T.records M.reads)
+        (IsEvent H.steps H.grants L.exchanges L.sent L.probed T.records C.reads)
         (sent_by L.sent) (probed_by L.probed)
         (IsRequestCut H.steps L.exchanges L.sent L.probed T.records)
         reader.old writer.old parts.old written reader.new writer.new parts.new }
@@ -42,16 +42,16 @@ pub fn serve<R: IoRuntime, I: Inlet, O: Outlet, H: Health, L: Links, T: Trails, 
         → CameTooLong I.gives reader.old reader.new }
     ensures answered { IsErrOf result SessionFault.LineTooLong
         → StoppedByLine I.gives I.idles O.takes
-        (IsEvent H.steps H.grants L.exchanges L.sent L.probed T.records M.reads)
+        (IsEvent H.steps H.grants L.exchanges L.sent L.probed T.records C.reads)
         (sent_by L.sent) (probed_by L.probed)
         reader.old writer.old parts.old reader.new writer.new parts.new }
     ensures memory { IsErrOf result SessionFault.Memory → StoppedEarly I.gives I.idles O.takes
-        (IsEvent H.steps H.grants L.exchanges L.sent L.probed T.records M.reads)
+        (IsEvent H.steps H.grants L.exchanges L.sent L.probed T.records C.reads)
         (sent_by L.sent) (probed_by L.probed)
         (IsRequestCut H.steps L.exchanges L.sent L.probed T.records)
         reader.old writer.old parts.old reader.new writer.new parts.new }
     // Each server that the session marked gets its prober, also where it ends by a fault.
-    ensures begun { NoneMarked parts.old.probers → NoneMarked parts.new.probers }
+    ensures begun { NoneMarked parts.old.backend.probers → NoneMarked parts.new.backend.probers }
     // An end that failed ends the session, and is the fault that it ends with.
     ensures calm_reader { OnOk result (I.failures reader.new ≡ I.failures reader.old) }
     ensures calm_writer { OnOk result (O.failures writer.new ≡ O.failures writer.old) }
@@ -71,7 +71,7 @@ pub fn serve<R: IoRuntime, I: Inlet, O: Outlet, H: Health, L: Links, T: Trails, 
     for _ in rt.forever() {
         match read_piece(rt, reader, &mut buffer) {
             Piece::Failed => return Err(SessionFault::Read),
-            Piece::Idle => parts.round(rt)?,
+            Piece::Idle => round(rt, parts)?,
             Piece::Bytes(count) => {
                 let ended = count == 0;
                 if ended {
@@ -97,12 +97,12 @@ pub fn serve<R: IoRuntime, I: Inlet, O: Outlet, H: Health, L: Links, T: Trails, 
 
 /// Gives a piece to the session, and writes the replies to all that it completes, also where the
 /// session then ends. Returns whether `quit` ended it.
-fn serve_piece<R: IoRuntime, O: Outlet, H: Health, L: Links, T: Trails, M: Moments>(
+fn serve_piece<R: IoRuntime, O: Outlet, H: Health, L: Links, T: Trails, C: Clock>(
     rt: &R,
     alloc: Global,
     session: &mut Session,
     writer: &mut O,
-    parts: &mut Parts<H, L, T, M>,
+    parts: &mut Parts<H, L, T, C>,
     piece: &[u8],
     written: &mut u64,
 ) -> Result<bool, SessionFault>
@@ -111,17 +111,17 @@ fn serve_piece<R: IoRuntime, O: Outlet, H: Health, L: Links, T: Trails, M: Momen
     requires owes { session.old.owes ≡ false }
     requires reads { session.old.reading.after ≢ Never }
     ensures ok { IfOk result (λ quit. Delivered O.takes
-        (IsEvent H.steps H.grants L.exchanges L.sent L.probed T.records M.reads)
+        (IsEvent H.steps H.grants L.exchanges L.sent L.probed T.records C.reads)
         (sent_by L.sent) (probed_by L.probed) 0 (pause_of quit)
         (fed_state session.old piece.now) writer.old written.old parts.old
         session.new writer.new written.new parts.new) }
     ensures too_long { IsErrOf result SessionFault.LineTooLong → Delivered O.takes
-        (IsEvent H.steps H.grants L.exchanges L.sent L.probed T.records M.reads)
+        (IsEvent H.steps H.grants L.exchanges L.sent L.probed T.records C.reads)
         (sent_by L.sent) (probed_by L.probed) 0 Progress.LineTooLong
         (fed_state session.old piece.now) writer.old written.old parts.old
         session.new writer.new written.new parts.new }
     ensures err { OnErr result (DeliveredPart O.takes
-        (IsEvent H.steps H.grants L.exchanges L.sent L.probed T.records M.reads)
+        (IsEvent H.steps H.grants L.exchanges L.sent L.probed T.records C.reads)
         (IsRequestCut H.steps L.exchanges L.sent L.probed T.records) 0
         (fed_state session.old piece.now) writer.old written.old parts.old
         writer.new written.new parts.new) }
@@ -134,7 +134,7 @@ fn serve_piece<R: IoRuntime, O: Outlet, H: Health, L: Links, T: Trails, M: Momen
     ensures failed { (n : ℕ) → IsErrOf result (SessionFault.Write n)
         → O.failures writer.old < O.failures writer.new }
     ensures never_read { result ≢ Err SessionFault.Read }
-    ensures begun { NoneMarked parts.old.probers → NoneMarked parts.new.probers }
+    ensures begun { NoneMarked parts.old.backend.probers → NoneMarked parts.new.backend.probers }
     ensures reach { Reaches H.servers L.servers parts.new }
 {
     session.take(piece)?;
@@ -152,24 +152,24 @@ fn serve_piece<R: IoRuntime, O: Outlet, H: Health, L: Links, T: Trails, M: Momen
 /// Answers items until the replies reach their bound, a round is owed or no item is left, writes
 /// the replies, and then runs the owed round, since a probe may take long. The round is run after a
 /// fault too. A write error takes precedence over running out of memory.
-fn deliver<R: IoRuntime, O: Outlet, H: Health, L: Links, T: Trails, M: Moments>(
+fn deliver<R: IoRuntime, O: Outlet, H: Health, L: Links, T: Trails, C: Clock>(
     rt: &R,
     alloc: Global,
     session: &mut Session,
     writer: &mut O,
-    parts: &mut Parts<H, L, T, M>,
+    parts: &mut Parts<H, L, T, C>,
     written: &mut u64,
 ) -> Result<Progress, SessionFault>
     requires reach { Reaches H.servers L.servers parts.old }
     requires outbox { session.old.outbox ≡ [] }
     requires owes { session.old.owes ≡ false }
     ensures ok { IfOk result (λ progress. Delivered O.takes
-        (IsEvent H.steps H.grants L.exchanges L.sent L.probed T.records M.reads)
+        (IsEvent H.steps H.grants L.exchanges L.sent L.probed T.records C.reads)
         (sent_by L.sent) (probed_by L.probed) 0 progress
         session.old writer.old written.old parts.old
         session.new writer.new written.new parts.new) }
     ensures err { OnErr result (DeliveredPart O.takes
-        (IsEvent H.steps H.grants L.exchanges L.sent L.probed T.records M.reads)
+        (IsEvent H.steps H.grants L.exchanges L.sent L.probed T.records C.reads)
         (IsRequestCut H.steps L.exchanges L.sent L.probed T.records) 0
         session.old writer.old written.old parts.old writer.new written.new parts.new) }
     ensures calm { OnOk result (O.failures writer.new ≡ O.failures writer.old) }
@@ -179,7 +179,7 @@ fn deliver<R: IoRuntime, O: Outlet, H: Health, L: Links, T: Trails, M: Moments>(
     ensures failed { (n : ℕ) → IsErrOf result (SessionFault.Write n)
         → O.failures writer.old < O.failures writer.new }
     ensures never_read { result ≢ Err SessionFault.Read }
-    ensures begun { NoneMarked parts.old.probers → NoneMarked parts.new.probers }
+    ensures begun { NoneMarked parts.old.backend.probers → NoneMarked parts.new.backend.probers }
     ensures never_too_long { result ≢ Err SessionFault.LineTooLong }
     ensures reach { Reaches H.servers L.servers parts.new }
 {

@@ -4,15 +4,16 @@ ghost use Rattle.std.specs.Option.{option_copied};
 ghost use Rattle.tko_text.specs.Reading.{Emits, NeedsMore, Never, fed};
 ghost use Rattle.tko_text.specs.Requests.{fault_text};
 ghost use Rattle.tko_session.specs.Cuts.{IsRequestCut};
-ghost use Rattle.tko_session.specs.Events.{IsEvent, IsRun, NoneMarked};
-ghost use Rattle.tko_session.specs.Probers.{AreQuiet};
+ghost use Rattle.tko_session.specs.Events.{IsEvent, IsRun};
+ghost use Rattle.tko_backend.specs.Probers.{AreQuiet, NoneMarked};
 ghost use Rattle.tko_session.specs.SessionState.{Answered, AnsweredPart, Reaches, Replied, fed_state, fresh, probed_by, progress_after, progress_of, reply_bound, sent_by};
 
 use crate::answering::answer;
 use crate::outbox::Outbox;
-use crate::{Moments, Parts, Trails};
+use crate::{Parts, Trails, round};
 use std::alloc::Global;
 use std::marker::Model;
+use tko_backend::Clock;
 use tko_bytes::NoMemory;
 use tko_links::{IoRuntime, Links};
 use tko_route::Health;
@@ -127,27 +128,27 @@ impl Session {
     /// Answers the items that are decided, in order, until none is left, until the replies that
     /// wait reach their bound, or until a round is owed that may take long. The round after a
     /// request is run at once while no prober is at work.
-    pub fn answer<R: IoRuntime, H: Health, L: Links, T: Trails, M: Moments>(
+    pub fn answer<R: IoRuntime, H: Health, L: Links, T: Trails, C: Clock>(
         &mut self,
         rt: &R,
         alloc: Global,
-        parts: &mut Parts<H, L, T, M>,
+        parts: &mut Parts<H, L, T, C>,
     ) -> Result<Progress, NoMemory>
         requires reach { Reaches H.servers L.servers parts.old }
         requires owes { self.old.owes ≡ false }
         ensures ok { IfOk result (λ progress. Answered
-            (IsEvent H.steps H.grants L.exchanges L.sent L.probed T.records M.reads)
+            (IsEvent H.steps H.grants L.exchanges L.sent L.probed T.records C.reads)
             (sent_by L.sent) (probed_by L.probed) progress
             self.old parts.old self.new parts.new) }
         ensures full { result ≡ Ok Progress.More → self.new.owes ≡ false
             → reply_bound ≤ length self.new.outbox }
         ensures err { OnErr result (AnsweredPart
-            (IsEvent H.steps H.grants L.exchanges L.sent L.probed T.records M.reads)
+            (IsEvent H.steps H.grants L.exchanges L.sent L.probed T.records C.reads)
             (IsRequestCut H.steps L.exchanges L.sent L.probed T.records)
             self.old parts.old self.new parts.new) }
-        ensures busy { OnOk result (self.new.owes ≡ true → ¬ AreQuiet parts.new.probers) }
-        ensures begun { NoneMarked parts.old.probers → self.new.owes ≡ false
-            → NoneMarked parts.new.probers }
+        ensures busy { OnOk result (self.new.owes ≡ true → ¬ AreQuiet parts.new.backend.probers) }
+        ensures begun { NoneMarked parts.old.backend.probers → self.new.owes ≡ false
+            → NoneMarked parts.new.backend.probers }
         ensures reach { Reaches H.servers L.servers parts.new }
     {
         for _ in rt.forever() {
@@ -168,47 +169,47 @@ impl Session {
     }
 
     /// Runs the round that is owed, if one is.
-    pub fn run_owed_round<R: IoRuntime, H: Health, L: Links, T, M: Moments>(
+    pub fn run_owed_round<R: IoRuntime, H: Health, L: Links, T, C: Clock>(
         &mut self,
         rt: &R,
-        parts: &mut Parts<H, L, T, M>,
+        parts: &mut Parts<H, L, T, C>,
     ) -> Result<(), NoMemory>
         requires reach { Reaches H.servers L.servers parts.old }
-        ensures round { IsRun H.steps H.grants L.exchanges L.sent L.probed M.reads self.old.owes
+        ensures round { IsRun H.steps H.grants L.exchanges L.sent L.probed C.reads self.old.owes
             (is_err result) parts.old parts.new }
         ensures none_owed { self.new ≡ record self.old { owes = false } }
-        ensures begun { self.old.owes ≡ true → NoneMarked parts.new.probers }
+        ensures begun { self.old.owes ≡ true → NoneMarked parts.new.backend.probers }
         ensures reach { Reaches H.servers L.servers parts.new }
     {
         if !self.owes {
             return Ok(());
         }
         self.owes = false;
-        parts.round(rt)
+        round(rt, parts)
     }
 
     /// Answers the next item, if one is decided.
-    fn answer_next<R: IoRuntime, H: Health, L: Links, T: Trails, M: Moments>(
+    fn answer_next<R: IoRuntime, H: Health, L: Links, T: Trails, C: Clock>(
         &mut self,
         rt: &R,
         alloc: Global,
-        parts: &mut Parts<H, L, T, M>,
+        parts: &mut Parts<H, L, T, C>,
     ) -> Result<Progress, NoMemory>
         requires reach { Reaches H.servers L.servers parts.old }
         requires owes { self.old.owes ≡ false }
         requires room { length self.old.outbox < reply_bound }
         ensures ok { IfOk result (λ progress. Answered
-            (IsEvent H.steps H.grants L.exchanges L.sent L.probed T.records M.reads)
+            (IsEvent H.steps H.grants L.exchanges L.sent L.probed T.records C.reads)
             (sent_by L.sent) (probed_by L.probed) progress
             self.old parts.old self.new parts.new) }
         ensures more { result ≡ Ok Progress.More → ¬ NeedsMore self.old.reading }
         ensures err { OnErr result (AnsweredPart
-            (IsEvent H.steps H.grants L.exchanges L.sent L.probed T.records M.reads)
+            (IsEvent H.steps H.grants L.exchanges L.sent L.probed T.records C.reads)
             (IsRequestCut H.steps L.exchanges L.sent L.probed T.records)
             self.old parts.old self.new parts.new) }
-        ensures busy { OnOk result (self.new.owes ≡ true → ¬ AreQuiet parts.new.probers) }
-        ensures begun { NoneMarked parts.old.probers → self.new.owes ≡ false
-            → NoneMarked parts.new.probers }
+        ensures busy { OnOk result (self.new.owes ≡ true → ¬ AreQuiet parts.new.backend.probers) }
+        ensures begun { NoneMarked parts.old.backend.probers → self.new.owes ≡ false
+            → NoneMarked parts.new.backend.probers }
         ensures reach { Reaches H.servers L.servers parts.new }
     {
         match self.next()? {
@@ -216,7 +217,7 @@ impl Session {
             Some(Item::Fault(fault)) => self.answer_fault(fault),
             Some(Item::Request(request)) => {
                 let progress = self.answer_request(rt, alloc, parts, request)?;
-                if !parts.probers.is_quiet() {
+                if !parts.backend.probers.is_quiet() {
                     return Ok(progress);
                 }
                 self.run_owed_round(rt, parts)?;
@@ -254,11 +255,11 @@ impl Session {
     }
 
     /// Records a request and answers it, and then owes its round.
-    fn answer_request<R: IoRuntime, H: Health, L: Links, T: Trails, M>(
+    fn answer_request<R: IoRuntime, H: Health, L: Links, T: Trails, C>(
         &mut self,
         rt: &R,
         alloc: Global,
-        parts: &mut Parts<H, L, T, M>,
+        parts: &mut Parts<H, L, T, C>,
         request: Request,
     ) -> Result<Progress, NoMemory>
         requires reach { Reaches H.servers L.servers parts.old }

@@ -3,7 +3,7 @@
 ghost use Rattle.std.specs.Prelude.{◌≡◌, IfOk, length};
 ghost use Rattle.tko_session.specs.SessionState.{Reaches};
 
-use crate::{Kept, Listed, Parts, Probers, Stop, Taped, round, serve};
+use crate::{Backend, Kept, ListedClock, Parts, Probers, Stop, Taped, round, serve};
 use std::alloc::Global;
 use std::net::{Net, TcpStream};
 use std::sync::Wait;
@@ -15,8 +15,6 @@ use tko_pools::Config;
 use tko_prober::Delays;
 use tko_route::{Attempt, Health, PlainHealth};
 
-mod clocks;
-
 /// The first failure marks the server.
 const SETTINGS: Settings = Settings {
     servers: 1,
@@ -27,7 +25,7 @@ const SETTINGS: Settings = Settings {
     opening_stamp: 0,
 };
 
-type OneServer = Parts<PlainHealth, Scripted, Kept, Listed>;
+type OneServer = Parts<PlainHealth, Scripted, Kept, ListedClock>;
 
 fn delays() -> Result<Delays, Fail> {
     Ok(Delays::new(10_000, 60_000).ok_or("delays")?)
@@ -64,12 +62,14 @@ fn one_server(alloc: Global, answers: &str, moments: &[u64]) -> Result<OneServer
         ⟦<PlainHealth as Health>⟧.servers ⟦<Scripted as Links>⟧.servers parts) }
 {
     Ok(Parts {
-        health: PlainHealth::new(Plain::open(alloc, SETTINGS)?, 0),
-        links: Scripted::new(alloc, 1, scripts(alloc, answers)?)?,
+        backend: Backend {
+            health: PlainHealth::new(Plain::open(alloc, SETTINGS)?, 0),
+            links: Scripted::new(alloc, 1, scripts(alloc, answers)?)?,
+            probers: Probers::new(alloc, delays()?, 1)?,
+            clock: ListedClock::new(moments.to_vec(alloc)?),
+        },
         trails: Kept::new(alloc),
         config: config(alloc)?,
-        probers: Probers::new(alloc, delays()?, 1)?,
-        moments: Listed::new(moments.to_vec(alloc)?),
     })
 }
 
@@ -78,10 +78,13 @@ fn look_at(alloc: Global, parts: &OneServer) -> Result<String, Fail>
     requires { Reaches ⟦<PlainHealth as Health>⟧.servers ⟦<Scripted as Links>⟧.servers parts.now }
 {
     for target in &parts.config.targets(alloc, b"a")? {
-        let (sends, probes) = (parts.links.sends(*target), parts.links.probes(*target));
+        let (sends, probes) = (
+            parts.backend.links.sends(*target),
+            parts.backend.links.probes(*target),
+        );
         let (mark, quiet) = (
-            parts.health.tracker().mark(*target),
-            parts.probers.is_quiet(),
+            parts.backend.health.tracker().mark(*target),
+            parts.backend.probers.is_quiet(),
         );
         return Ok(format!(in alloc; "{sends} {probes} {mark:?} {quiet}")?);
     }
@@ -224,6 +227,7 @@ fn a_server_without_an_own_mark_is_not_probed(rt: HostRuntime) -> Result<(), Fai
     let alloc = rt.alloc();
     let mut parts = one_server(alloc, "VERSION 1.6\r\n", DUE)?;
     parts
+        .backend
         .probers
         .note(&[Attempt::Sent(0, Outcome::Timeout, Reply::TookSoft)]);
     let given = run(&rt, alloc, blank(alloc), blank(alloc), parts)?;

@@ -56,8 +56,9 @@ abbrev pub lost_try : Settings → Call → Decision
 lost_try s call =
     if s.tries == (call.lost + 1) then Answers reply.Contended else Goes (call.lost + 1) Start
 
--- a call that is to put this mark, with this reply, in the place of what it found: a soft mark needs
--- a slot first, the thread's own soft mark is loosened first, and any other is exchanged at once
+-- a call that is to put this mark, with this reply, in the place of what it found: a soft mark
+-- needs a slot first, the thread's own soft mark is loosened first, and any other is exchanged at
+-- once
 abbrev pub puts : Call → ServerState → Mark → Reply → Decision
 puts call found mark answer =
     if is_soft mark
@@ -71,8 +72,8 @@ abbrev pub sets_out : Call → ServerState → Reply → Option Mark → Decisio
 sets_out call found answer None = Answers answer
 sets_out call found answer (Some mark) = puts call found mark answer
 
--- the first look found the server like this, where the sequential tracker makes a soft mark if there
--- is room for one more
+-- the first look found the server like this, where the sequential tracker makes a soft mark if
+-- there is room for one more
 abbrev pub from_start : Settings → Call → ServerState → Decision
 from_start s call found =
     let given = transition s true call.number call.op found.mark found.stamp in

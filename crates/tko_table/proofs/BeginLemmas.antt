@@ -19,7 +19,7 @@ use Rattle.tko_steps.proofs.CoreLemmas.{IsCore-after_begin}
 use Rattle.tko_model.specs.Tracker.{server_at}
 use Rattle.tko_table.specs.declared.pass.Pass.{Pass}
 use Rattle.tko_table.specs.History.{Begins, changes_in}
-use Rattle.tko_table.specs.Passes.{IsTold, OwnsItsMarks, TellsItsChanges, is_marked_by, pending}
+use Rattle.tko_table.specs.Passes.{StandsIn, OwnsItsMarks, HasItsChanges, is_marked_by, pending}
 use Rattle.tko_table.specs.Rule.{IsKept, IsPlanned, core_in, joined, shared_in, states_of}
 use Rattle.tko_table.proofs.JoinedLemmas.{IsOneOf, one-joined}
 
@@ -33,10 +33,10 @@ module _ (s : Settings) (words : List ℕ) (views : List (List Pass)) (id : ℕ)
   one = one-joined views id before rest pass there
 
   -- a call that begins has made no change
-  begins-told : (number : ℕ) → pass.state ≡ Idle number → TellsItsChanges kept.history (with_state pass (InCall (begun_by number op server) Start))
+  begins-told : (number : ℕ) → pass.state ≡ Idle number → HasItsChanges kept.history (with_state pass (InCall (begun_by number op server) Start))
   begins-told number stands =
-      let mine = subst (TellsItsChanges kept.history) (one.at pass) (kept.told.mine one.place pass one.inside) in
-      let told = subst (λ drew. IsTold drew kept.history pass) (ap number_of stands) mine in
+      let mine = subst (HasItsChanges kept.history) (one.at pass) (kept.told.mine one.place pass one.inside) in
+      let told = subst (λ drew. StandsIn drew kept.history pass) (ap number_of stands) mine in
       (told.0 ∙ ap (λ state. changes_in number pass.mine ++ pending state) stands, told.1)
 
   begun-Idle : (number : ℕ) → pass.state ≡ Idle number
@@ -76,8 +76,8 @@ module _ (s : Settings) (words : List ℕ) (views : List (List Pass)) (id : ℕ)
           planned = subst (All (λ (at : Pass). IsPlanned s at.state)) (sym (one.sets new))
               (All-set (λ (at : Pass). IsPlanned s at.state) passes one.place new tt kept.told.planned);
           drawn = kept.told.drawn;
-          mine = subst (All (TellsItsChanges kept.history)) (sym (one.sets new))
-              (All-set (TellsItsChanges kept.history) passes one.place new (begins-told number stands) kept.told.mine);
+          mine = subst (All (HasItsChanges kept.history)) (sym (one.sets new))
+              (All-set (HasItsChanges kept.history) passes one.place new (begins-told number stands) kept.told.mine);
         };
       }
 

@@ -30,7 +30,7 @@ use Rattle.tko_table.specs.declared.pass.Change.{Change}
 use Rattle.tko_table.specs.declared.pass.Made.{Made}
 use Rattle.tko_table.specs.declared.pass.Pass.{Pass}
 use Rattle.tko_table.specs.History.{Begins, change_by, change_of, changes_in, is_change, made_by, made_with}
-use Rattle.tko_table.specs.Passes.{IsTold, changes_by, mine_after, pending, pending_at}
+use Rattle.tko_table.specs.Passes.{StandsIn, changes_by, mine_after, pending, pending_at}
 use Rattle.tko_table.specs.Rule.{IsPlannedAt, Puts}
 
 -- ---- replies
@@ -313,7 +313,7 @@ changes-drawn enrolled call phase won less =
 
 -- other threads' changes add nothing to a thread's own
 pub told-other : (drew : Option ℕ) (history changes : List Change) (pass : Pass) → ((number : ℕ) → drew ≡ Some number → made_by number changes ≡ [])
-    → IsTold drew history pass → IsTold drew (history ++ changes) pass
+    → StandsIn drew history pass → StandsIn drew (history ++ changes) pass
 told-other None history changes pass none told = told
 told-other (Some number) history changes pass none told =
     let same : made_by number (history ++ changes) ≡ made_by number history =
@@ -338,7 +338,7 @@ no-more one (change ∷ other) e = absurd (omega (arith, e, length-append one (c
 
 -- a pass that sees more of the history tells the same
 pub told-seen : (drew : Option ℕ) (history seen : List Change) (pass new : Pass) → new.state ≡ pass.state → new.mine ≡ pass.mine → new.seen ≡ seen
-    → Begins pass.seen history → Begins seen history → length pass.seen ≤ length seen → IsTold drew history pass → IsTold drew history new
+    → Begins pass.seen history → Begins seen history → length pass.seen ≤ length seen → StandsIn drew history pass → StandsIn drew history new
 told-seen None history seen pass new state mine sees begins sees_all le told = mine ∙ told
 told-seen (Some number) history seen pass new state mine sees begins sees_all le told =
     let rest = longer pass.seen seen begins.rest sees_all.rest history begins.is sees_all.is le in

@@ -23,7 +23,7 @@ use Rattle.tko_table.specs.declared.pass.Change.{Change}
 use Rattle.tko_table.specs.declared.pass.Pass.{Pass}
 use Rattle.tko_table.specs.Closing.{IsDone, IsLeft, Left}
 use Rattle.tko_table.specs.History.{Begins}
-use Rattle.tko_table.specs.Passes.{OwnsItsMarks, TellsItsChanges, is_marked_by}
+use Rattle.tko_table.specs.Passes.{OwnsItsMarks, HasItsChanges, is_marked_by}
 use Rattle.tko_table.specs.Rule.{IsKept, core_in, health_in, health_place, joined, shared_in, states_of}
 use Rattle.tko_table.proofs.JoinLemmas.{taken-out}
 use Rattle.tko_table.proofs.SharedLemmas.{health-get, server-there}
@@ -146,7 +146,7 @@ module _ (s : Settings) (words : List ℕ) (views : List (List Pass)) (id : ℕ)
           history = kept-first.history;
           replays = told.replays;
           seen = on-view (λ (pass : Pass). Begins pass.seen kept-first.history) told.seen;
-          mine = on-view (TellsItsChanges kept-first.history) told.mine;
+          mine = on-view (HasItsChanges kept-first.history) told.mine;
           drawn = All-weaker (λ (change : Change). change.number < (shared_in words).enrolled) (λ (change : Change). change.number < s.threads)
               (λ change less. omega (arith, less, enrolled_le)) kept-first.history told.drawn;
           unmarked = unmarked-all;

@@ -22,7 +22,7 @@ use Rattle.tko_steps.proofs.ThreadLemmas.{enrolled-lt}
 use Rattle.tko_table.specs.declared.pass.Change.{Change}
 use Rattle.tko_table.specs.declared.pass.Pass.{Pass}
 use Rattle.tko_table.specs.History.{Begins, Replays, changes_in}
-use Rattle.tko_table.specs.Passes.{IsTold, OwnsItsMarks, TellsItsChanges, count_enrolled, enrol_first, enrolled_pass, is_marked_by}
+use Rattle.tko_table.specs.Passes.{StandsIn, OwnsItsMarks, HasItsChanges, count_enrolled, enrol_first, enrolled_pass, is_marked_by}
 use Rattle.tko_table.specs.Rule.{IsKept, IsPlanned, core_in, enrolment_place, joined, shared_in, states_of}
 use Rattle.tko_table.specs.Steps.{Enrolled}
 use Rattle.tko_table.proofs.AllowsLemmas.{Rule, Seat}
@@ -187,9 +187,9 @@ module _ (s : Settings) (words : List ℕ) (views : List (List Pass)) (id : ℕ)
       let owned : OwnsItsMarks servers pass =
       subst (OwnsItsMarks servers) (one.at pass) (kept.core.owned one.place pass one.inside) in
       let no_call : pass.mine ≡ [] =
-      subst (λ drew. IsTold drew kept.history pass) (ap number_of waits)
-      (subst (TellsItsChanges kept.history) (one.at pass) (kept.told.mine one.place pass one.inside)) in
-      let told : TellsItsChanges kept.history new =
+      subst (λ drew. StandsIn drew kept.history pass) (ap number_of waits)
+      (subst (HasItsChanges kept.history) (one.at pass) (kept.told.mine one.place pass one.inside)) in
+      let told : HasItsChanges kept.history new =
       (none-made number kept.history kept.told.drawn ∙ ap (λ mine. changes_in number mine ++ []) (sym no_call), refl) in
       let owned_now : OwnsItsMarks servers new = λ at.
       owned at ∙ ap (λ state. is_marked_by (number_of state) (server_at servers at).mark) waits
@@ -215,8 +215,8 @@ module _ (s : Settings) (words : List ℕ) (views : List (List Pass)) (id : ℕ)
               (sym (ap (λ (it : Shared). it.enrolled) shared))
               (All-weaker (λ (change : Change). change.number < number) (λ (change : Change). change.number < number + 1)
               (λ change less. omega (arith, less)) kept.history kept.told.drawn);
-          mine = subst (All (TellsItsChanges kept.history)) (sym (one.sets new))
-              (All-set (TellsItsChanges kept.history) passes one.place new told kept.told.mine);
+          mine = subst (All (HasItsChanges kept.history)) (sym (one.sets new))
+              (All-set (HasItsChanges kept.history) passes one.place new told kept.told.mine);
         };
       }
 

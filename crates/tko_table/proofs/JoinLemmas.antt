@@ -15,7 +15,7 @@ use Rattle.tko_steps.specs.Invariant.{IsCore}
 use Rattle.tko_table.specs.declared.pass.Change.{Change}
 use Rattle.tko_table.specs.declared.pass.Pass.{Pass}
 use Rattle.tko_table.specs.History.{Begins}
-use Rattle.tko_table.specs.Passes.{OwnsItsMarks, TellsItsChanges, longest_seen, raised, with_seen}
+use Rattle.tko_table.specs.Passes.{OwnsItsMarks, HasItsChanges, longest_seen, raised, with_seen}
 use Rattle.tko_table.specs.Rule.{IsKept, IsPlanned, core_in, joined, shared_in, states_of}
 use Rattle.tko_table.proofs.AllowsLemmas.{Rule, there-lt}
 use Rattle.tko_table.proofs.ChangeLemmas.{told-seen}
@@ -116,16 +116,16 @@ each-raised P history (pass ∷ passes) keeps all =
 
 -- each pass then tells the same
 each-told : (history seen : List Change) (passes : List Pass) → Begins seen history → All (λ (pass : Pass). length pass.seen ≤ length seen) passes
-    → All (λ (pass : Pass). Begins pass.seen history) passes → All (TellsItsChanges history) passes
-    → All (TellsItsChanges history) (map (with_seen seen) passes)
-each-told history seen [] sees_all long sees told = All-nil (TellsItsChanges history)
+    → All (λ (pass : Pass). Begins pass.seen history) passes → All (HasItsChanges history) passes
+    → All (HasItsChanges history) (map (with_seen seen) passes)
+each-told history seen [] sees_all long sees told = All-nil (HasItsChanges history)
 each-told history seen (pass ∷ passes) sees_all long sees told =
     let Long : Pass → Type 0 = λ (it : Pass). length it.seen ≤ length seen in
     let Sees : Pass → Type 0 = λ (it : Pass). Begins it.seen history in
-    All-cons (TellsItsChanges history) (with_seen seen pass) (map (with_seen seen) passes)
+    All-cons (HasItsChanges history) (with_seen seen pass) (map (with_seen seen) passes)
     (told-seen (number_of pass.state) history seen pass (with_seen seen pass) refl refl refl (All-head Sees pass passes sees) sees_all
-    (All-head Long pass passes long) (All-head (TellsItsChanges history) pass passes told))
-    (each-told history seen passes sees_all (All-tail Long pass passes long) (All-tail Sees pass passes sees) (All-tail (TellsItsChanges history) pass passes told))
+    (All-head Long pass passes long) (All-head (HasItsChanges history) pass passes told))
+    (each-told history seen passes sees_all (All-tail Long pass passes long) (All-tail Sees pass passes sees) (All-tail (HasItsChanges history) pass passes told))
 
 kept-raised : (s : Settings) (words : List ℕ) (views : List (List Pass)) (id : ℕ) (view : List Pass) (history : List Change) (kept : IsKept s words views)
     → get_elem? views id ≡ some view → Begins history kept.history → All (λ (pass : Pass). length pass.seen ≤ length history) view → IsKept s words (set views id (map (with_seen history) view))
@@ -138,7 +138,7 @@ kept-raised s words views id view history kept there begins long =
     let Under : Pass → Type 0 = λ pass. pass.settings ≡ s in
     let Sees : Pass → Type 0 = λ pass. Begins pass.seen kept.history in
     let Plans : Pass → Type 0 = λ pass. IsPlanned s pass.state in
-    let Tells : Pass → Type 0 = TellsItsChanges kept.history in
+    let Tells : Pass → Type 0 = HasItsChanges kept.history in
     record {
       core = record {
         valid = kept.core.valid;

@@ -29,7 +29,7 @@ use Rattle.tko_steps.proofs.ThreadLemmas.{number-lt, number-once}
 use Rattle.tko_table.specs.declared.pass.Change.{Change}
 use Rattle.tko_table.specs.declared.pass.Pass.{Pass}
 use Rattle.tko_table.specs.History.{Begins, Replays, change_by, changes_in, made_by}
-use Rattle.tko_table.specs.Passes.{IsTold, OwnsItsMarks, TellsItsChanges, after_step, changes_by, decided_after, is_marked_by, mine_after, owns, pending}
+use Rattle.tko_table.specs.Passes.{StandsIn, OwnsItsMarks, HasItsChanges, after_step, changes_by, decided_after, is_marked_by, mine_after, owns, pending}
 use Rattle.tko_table.specs.Rule.{IsKept, IsPlanned, IsPlannedAt, core_in, health_in, joined, shared_in, states_of}
 use Rattle.tko_table.specs.Steps.{Takes}
 use Rattle.tko_table.proofs.ChangeLemmas.{changes-drawn, made-changes, made_by-append, other-changes, sure-from, told-next, told-other}
@@ -189,10 +189,10 @@ module _ (s : Settings) (words new_words : List ℕ) (views : List (List Pass)) 
   knows : IsPhase s call.number (server_at (shared_in words).servers call.server) phase
   knows = (knows_at (core_in s words (joined views)) one.place call kept.core.core inside phase stands_in).2
 
-  mine_before : IsTold (Some call.number) kept.history pass
+  mine_before : StandsIn (Some call.number) kept.history pass
   mine_before =
-      let mine = subst (TellsItsChanges kept.history) (one.at pass) (kept.told.mine one.place pass one.inside) in
-      subst (λ drew. IsTold drew kept.history pass) named mine
+      let mine = subst (HasItsChanges kept.history) (one.at pass) (kept.told.mine one.place pass one.inside) in
+      subst (λ drew. StandsIn drew kept.history pass) named mine
 
   abbrev changes : List Change
   changes = changes_by call phase (is_done it)
@@ -212,12 +212,12 @@ module _ (s : Settings) (words new_words : List ℕ) (views : List (List Pass)) 
       ∙ ap (λ more. made_by call.number kept.history ++ more) (sym (made-changes call phase (is_done it)))
       ∙ sym (made_by-append call.number kept.history changes)
 
-  mine_now : TellsItsChanges history_after pass_after
-  mine_now = subst (λ drew. IsTold drew history_after pass_after) (sym named_after) (sym told_after, refl)
+  mine_now : HasItsChanges history_after pass_after
+  mine_now = subst (λ drew. StandsIn drew history_after pass_after) (sym named_after) (sym told_after, refl)
 
-  mine_each : All (TellsItsChanges history_after) (set (joined views) one.place pass_after)
+  mine_each : All (HasItsChanges history_after) (set (joined views) one.place pass_after)
   mine_each =
-      each-set (TellsItsChanges kept.history) (TellsItsChanges history_after) (joined views) one.place call.number (shared_in words).enrolled
+      each-set (HasItsChanges kept.history) (HasItsChanges history_after) (joined views) one.place call.number (shared_in words).enrolled
       pass pass_after one.inside one.at named kept.core.core.numbers mine_now
       (λ other apart told.
       told-other (number_of other.state) kept.history changes other
@@ -258,7 +258,7 @@ module _ (s : Settings) (words new_words : List ℕ) (views : List (List Pass)) 
           planned = subst (All (λ (at : Pass). IsPlanned s at.state)) (sym to)
               (All-set (λ (at : Pass). IsPlanned s at.state) (joined views) one.place pass_after planned_after kept.told.planned);
           drawn = drawn_after;
-          mine = subst (All (TellsItsChanges history_after)) (sym to) mine_each;
+          mine = subst (All (HasItsChanges history_after)) (sym to) mine_each;
         };
       }
 

@@ -10,7 +10,7 @@ use Rattle.tko_model.specs.Tracker.{after, changed, opened, reply_of, server_at,
 use Rattle.tko_steps.specs.Legal.{tracker_in}
 use Rattle.tko_steps.proofs.LegalLemmas.{IsNotNewer}
 use Rattle.tko_table.specs.declared.pass.Change.{Change}
-use Rattle.tko_table.specs.History.{Leads, Replays}
+use Rattle.tko_table.specs.History.{HasChangeOf, Leads, Replays}
 
 -- one change further
 abbrev next_from : Settings → List ServerState → Change → List ServerState
@@ -117,3 +117,34 @@ replays-last s history change servers last was is =
       reply = made.0;
       left = record { leads = subst (Leads s (opened s).servers (history ++ change ∷ [])) made.1 is.leads };
     }
+
+-- ---- a change of one server
+
+changed-other : (servers : List ServerState) (server : ℕ) (change : Option Mark) (at : ℕ) → (at ≡ server → ⊥)
+    → server_at (changed servers server change) at ≡ server_at servers at
+changed-other servers server None at apart = refl
+changed-other servers server (Some mark) at apart =
+    let none : ServerState = record { mark = Up 0; stamp = 0 } in
+    let new : ServerState = record { mark = mark; stamp = (server_at servers server).stamp + 1 } in
+    get_or-set_other servers server at new none apart
+
+-- where a server is another at the end of a history, it was changed
+changed-within : (s : Settings) (first last : List ServerState) (history : List Change) (server : ℕ) → Leads s first history last
+    → (server_at last server ≡ server_at first server → ⊥) → HasChangeOf server history
+changed-within s first last [] server leads differs = absurd (differs (ap (λ it. server_at it server) leads))
+changed-within s first last (change ∷ history) server leads differs =
+    ⊎_elim
+    (λ (same : server ≡ change.server). record { earlier = []; change = change; later = history; among = refl; on = sym same })
+    (λ (apart : server ≡ change.server → ⊥).
+    let it = transition_on (tracker_in s first) change.number change.op change.server in
+    let kept : server_at (next_from s first change) server ≡ server_at first server = changed-other first change.server it.change server apart in
+    let rest = changed-within s (next_from s first change) last history server leads.1 (λ same. differs (same ∙ kept)) in
+    record { earlier = change ∷ rest.earlier; change = rest.change; later = rest.later; among = ap (λ more. change ∷ more) rest.among; on = rest.on })
+    (cases_eq server change.server)
+
+pub replays-changed : (s : Settings) (beginning since : List Change) (then now : List ServerState) (server : ℕ) → Replays s beginning then
+    → Replays s (beginning ++ since) now → (server_at now server ≡ server_at then server → ⊥) → HasChangeOf server since
+replays-changed s beginning since then now server was is differs =
+    let both = leads-halves s (opened s).servers now beginning since is.leads in
+    let same : both.middle ≡ then = leads-once s (opened s).servers both.middle then beginning both.earlier was.leads in
+    changed-within s both.middle now since server both.later (λ e. differs (e ∙ ap (λ it. server_at it server) same))

@@ -13,7 +13,7 @@ use Rattle.tko_steps.proofs.CoreLemmas.{IsCore-opened_core}
 use Rattle.tko_table.specs.declared.pass.Change.{Change}
 use Rattle.tko_table.specs.declared.pass.Pass.{Pass}
 use Rattle.tko_table.specs.History.{Begins}
-use Rattle.tko_table.specs.Passes.{OwnsItsMarks, TellsItsChanges, new_pass, new_passes}
+use Rattle.tko_table.specs.Passes.{OwnsItsMarks, HasItsChanges, new_pass, new_passes}
 use Rattle.tko_table.specs.Rule.{IsKept, IsOpened, IsPlanned, core_in, shared_in, states_of}
 
 map-replicate : {A B : Type 0} (f : A → B) (n : ℕ) (x : A) → map f (replicate n x) ≡ replicate n (f x)
@@ -61,6 +61,6 @@ opened-kept s words ranges is_opened =
         planned = subst (All (λ (at : Pass). IsPlanned s at.state)) (sym same)
             (All-replicate (λ (at : Pass). IsPlanned s at.state) s.threads (new_pass s) tt);
         drawn = All-nil (λ (change : Change). change.number < (shared_in words).enrolled);
-        mine = subst (All (TellsItsChanges [])) (sym same) (All-replicate (TellsItsChanges []) s.threads (new_pass s) refl);
+        mine = subst (All (HasItsChanges [])) (sym same) (All-replicate (HasItsChanges []) s.threads (new_pass s) refl);
       };
     }

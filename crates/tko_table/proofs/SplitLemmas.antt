@@ -10,7 +10,7 @@ use Rattle.tko_model.specs.declared.settings.Settings.{Settings}
 use Rattle.tko_steps.proofs.JoinedLemmas.{core-permuted}
 use Rattle.tko_table.specs.declared.pass.Pass.{Pass}
 use Rattle.tko_table.specs.History.{Begins}
-use Rattle.tko_table.specs.Passes.{OwnsItsMarks, TellsItsChanges}
+use Rattle.tko_table.specs.Passes.{OwnsItsMarks, HasItsChanges}
 use Rattle.tko_table.specs.Rule.{IsKept, IsPlanned, joined, shared_in, states_of}
 use Rattle.tko_table.proofs.AllowsLemmas.{Rule}
 
@@ -32,7 +32,7 @@ kept-permuted s words views others same kept =
         seen = All-permutation (λ (pass : Pass). Begins pass.seen kept.history) (joined views) (joined others) same kept.told.seen;
         planned = All-permutation (λ (pass : Pass). IsPlanned s pass.state) (joined views) (joined others) same kept.told.planned;
         drawn = kept.told.drawn;
-        mine = All-permutation (TellsItsChanges kept.history) (joined views) (joined others) same kept.told.mine;
+        mine = All-permutation (HasItsChanges kept.history) (joined views) (joined others) same kept.told.mine;
       };
     }
 

@@ -7,7 +7,7 @@ use Rattle.tko_steps.specs.Steps.{is_marked_state}
 use Rattle.tko_table.specs.declared.pass.Change.{Change}
 use Rattle.tko_table.specs.declared.pass.Pass.{Pass}
 use Rattle.tko_table.specs.History.{Begins, Replays}
-use Rattle.tko_table.specs.Passes.{TellsItsChanges, owns}
+use Rattle.tko_table.specs.Passes.{HasItsChanges, owns}
 
 -- the thread of the pass makes no call, and owns no server
 pub record IsDone (pass : Pass) : Type 0 where
@@ -27,7 +27,7 @@ pub record IsLeft (s : Settings) (passes : List Pass) (shared : Shared) : Type 0
   pub history : List Change
   pub replays : Replays s history shared.servers
   pub seen : All (λ pass. Begins pass.seen history) passes
-  pub mine : All (TellsItsChanges history) passes
+  pub mine : All (HasItsChanges history) passes
   pub drawn : All (λ change. change.number < s.threads) history
   pub unmarked : All (λ server. is_marked_state server.mark ≡ false) shared.servers
   pub firm : shared.slots.firm ≡ 0

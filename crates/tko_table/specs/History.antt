@@ -38,6 +38,14 @@ pub record Begins (seen history : List Change) : Type 0 where
   pub rest : List Change
   pub is : history ≡ seen ++ rest
 
+-- one of these changes is of this server
+pub record HasChangeOf (server : ℕ) (changes : List Change) : Type 0 where
+  pub earlier : List Change
+  pub change : Change
+  pub later : List Change
+  pub among : changes ≡ earlier ++ change ∷ later
+  pub on : change.server ≡ server
+
 -- Whose change is whose.
 
 -- whether a call with this reply changed its server

@@ -120,14 +120,14 @@ after_step pass call phase read history =
 -- the changes by a thread of this number are those of its answered calls, in their order, and the
 -- one that its call under way has made; and it has seen them. A thread without a number made no
 -- call
-abbrev pub IsTold : Option ℕ → List Change → Pass → Type 0
-IsTold None history pass = pass.mine ≡ []
-IsTold (Some number) history pass =
+abbrev pub StandsIn : Option ℕ → List Change → Pass → Type 0
+StandsIn None history pass = pass.mine ≡ []
+StandsIn (Some number) history pass =
     (made_by number history ≡ changes_in number pass.mine ++ pending pass.state)
     × (made_by number pass.seen ≡ made_by number history)
 
-abbrev pub TellsItsChanges : List Change → Pass → Type 0
-TellsItsChanges history pass = IsTold (number_of pass.state) history pass
+abbrev pub HasItsChanges : List Change → Pass → Type 0
+HasItsChanges history pass = StandsIn (number_of pass.state) history pass
 
 -- the pass owns exactly the servers whose marks name its number
 abbrev pub OwnsItsMarks : List ServerState → Pass → Type 0

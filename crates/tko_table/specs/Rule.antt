@@ -19,7 +19,7 @@ use Rattle.tko_steps.specs.Invariant.{IsCore}
 use Rattle.tko_table.specs.declared.pass.Change.{Change}
 use Rattle.tko_table.specs.declared.pass.Pass.{Pass}
 use Rattle.tko_table.specs.History.{Begins, Replays, is_change}
-use Rattle.tko_table.specs.Passes.{OwnsItsMarks, TellsItsChanges}
+use Rattle.tko_table.specs.Passes.{OwnsItsMarks, HasItsChanges}
 
 -- the words in their order: the soft word, the enrolment word, the health word of each server
 abbrev pub soft_place : ℕ
@@ -109,7 +109,7 @@ pub record IsToldHalf
     pub seen : All (λ pass. Begins pass.seen history) passes
     pub planned : All (λ pass. IsPlanned s pass.state) passes
     pub drawn : All (λ change. change.number < shared.enrolled) history
-    pub mine : All (TellsItsChanges history) passes
+    pub mine : All (HasItsChanges history) passes
 
 -- the rule, in two halves that share what the words hold
 pub record IsKept (s : Settings) (words : List ℕ) (views : List (List Pass)) : Type 0 where

@@ -9,9 +9,9 @@ use Rattle.tko_table.specs.declared.pass.Change.{Change}
 use Rattle.tko_table.specs.declared.pass.Pass.{Pass}
 use Rattle.tko_table.specs.Closing.{IsDone, IsLeft, Left}
 use Rattle.tko_table.specs.History.{changes_in}
-use Rattle.tko_table.specs.Passes.{IsTold, TellsItsChanges, longest_seen, pending, raised, with_seen}
+use Rattle.tko_table.specs.Passes.{StandsIn, HasItsChanges, longest_seen, pending, raised, with_seen}
 use Rattle.tko_table.specs.Steps.{view_of}
-use Rattle.tko_tracker.specs.Closing.{AreJoined, AreSame, IsFinal, IsSame, TellsAll}
+use Rattle.tko_tracker.specs.Closing.{AreJoined, AreSame, IsFinal, IsSame, HasItsCalls}
 use Rattle.tko_tracker.specs.Seated.{HasIdlePass, IsOf, Seated, TrackerId, first_pass, seated}
 
 -- ---- passes that stay the same
@@ -137,19 +137,19 @@ gathered-all passes left view gathered none =
 
 -- ---- what is left
 
-told-of : (history : List Change) (old : Seated) (new : Pass) → IsSame old.pass new → TellsItsChanges history new → TellsAll history old
+told-of : (history : List Change) (old : Seated) (new : Pass) → IsSame old.pass new → HasItsChanges history new → HasItsCalls history old
 told-of history old new same told number idle =
     let state : new.state ≡ Idle number = same.state ∙ idle in
-    let tells = subst (λ drew. IsTold drew history new) (ap number_of state) told in
+    let tells = subst (λ drew. StandsIn drew history new) (ap number_of state) told in
     tells.0 ∙ (λ i. changes_in number (same.mine i) ++ pending (state i)) ∙ append-nil (changes_in number old.pass.mine)
 
-tell-all : (history : List Change) (passes : List Seated) (view : List Pass) → AreSame (map pass_of passes) view → All (TellsItsChanges history) view
-    → All (TellsAll history) passes
-tell-all history [] view same told = All-nil (TellsAll history)
+tell-all : (history : List Change) (passes : List Seated) (view : List Pass) → AreSame (map pass_of passes) view → All (HasItsChanges history) view
+    → All (HasItsCalls history) passes
+tell-all history [] view same told = All-nil (HasItsCalls history)
 tell-all history (pass ∷ passes) [] same told = absurd same
 tell-all history (pass ∷ passes) (new ∷ view) same told =
-    All-cons (TellsAll history) pass passes (told-of history pass new same.0 (All-head (TellsItsChanges history) new view told))
-    (tell-all history passes view same.1 (All-tail (TellsItsChanges history) new view told))
+    All-cons (HasItsCalls history) pass passes (told-of history pass new same.0 (All-head (HasItsChanges history) new view told))
+    (tell-all history passes view same.1 (All-tail (HasItsChanges history) new view told))
 
 pub final-is : (tracker : TrackerId) (passes : List Seated) (view : List Pass) (left : Left) → AreJoined passes view
     → left.settings ≡ tracker.settings → IsLeft tracker.settings view left.shared → IsFinal tracker passes left

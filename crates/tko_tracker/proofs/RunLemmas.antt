@@ -15,7 +15,7 @@ use Rattle.tko_model.specs.Ranges.{IsWithinRanges}
 use Rattle.tko_model.specs.Tracker.{on_others, on_own_hard, on_own_soft, stays, transition}
 use Rattle.tko_steps.specs.declared.phase.Call.{Call}
 use Rattle.tko_steps.specs.declared.phase.Phase.{Phase}
-use Rattle.tko_steps.specs.declared.phase.Phase.TheVariants.{Start}
+use Rattle.tko_steps.specs.declared.phase.Phase.TheVariants.{Start, Read, AtThreshold, Limit, Reserving, Holding, Firming, Losing, Loosening, Loosened, Emptied}
 use Rattle.tko_steps.specs.declared.phase.ThreadState.TheVariants.{Idle, InCall}
 use Rattle.tko_steps.specs.declared.table.Decision.{Decision}
 use Rattle.tko_steps.specs.declared.table.Decision.TheVariants.{Goes, Answers}
@@ -28,15 +28,16 @@ use Rattle.tko_steps.specs.Steps.{begun_by, in_call, is_done, state_after}
 use Rattle.tko_steps.specs.Table.{action_of, next_of, sets_out}
 use Rattle.tko_steps.proofs.OwnLemmas.{act_step}
 use Rattle.tko_table.specs.declared.pass.Pass.{Pass}
-use Rattle.tko_table.specs.History.{changes_in, made_by, made_with, place_of_answer}
-use Rattle.tko_table.specs.Passes.{owned_after, owns}
+use Rattle.tko_table.specs.History.{Replays, changes_in, made_by, made_with, place_of_answer}
+use Rattle.tko_table.specs.Passes.{changes_by, owned_after, owns}
 use Rattle.tko_table.specs.Steps.{IsSound}
 use Rattle.tko_tracker.specs.Tries.{HasTried, Taken, and_steps, own_step, own_steps}
 use Rattle.tko_tracker.specs.Calls.{Called, GoesOn, IsStep, IsTaken, Leads, answers_owner, can_answer, owned_left}
 use Rattle.tko_tracker.specs.Running.{CanCall, IsReady, Ran, Stepped}
 use Rattle.tko_tracker.specs.History.{Adds, IsAnsweredAt}
 use Rattle.tko_tracker.proofs.AddsLemmas.{HasAdded, HasAddedAfter, HasEnded, added-next, added-none}
-use Rattle.tko_tracker.proofs.KnowsLemmas.{Knows, KnowsAfter, knows-next, left}
+use Rattle.tko_tracker.proofs.KnowsLemmas.{Knows, KnowsAfter, KnowsAt, knows-next, left}
+use Rattle.tko_tracker.proofs.LookLemmas.{IsOwn, SeenAfter, SeenAt, exchange-lost, look-changed, seen-next}
 use Rattle.tko_tracker.proofs.TryLemmas.{KnowsAnywhere, TriedAfter, begins-anywhere, slot-held, tried-next, turn-is}
 
 -- the call of the pass that the view had first, at this phase
@@ -60,6 +61,7 @@ pub record IsUnderWay
     -- its own steps so far, the newest first
     pub own : List OwnStep
     pub tried : KnowsAnywhere s call own phase
+    pub seen : SeenAt s call.number call.server now.seen phase
     -- what follows makes a whole call
     pub rest : (steps : List Taken) (answer : Reply) (after : Pass) →
         Leads now call phase steps answer after → HasTried s answer (and_steps own steps) → Called first op server answer after
@@ -85,6 +87,7 @@ begins s number op server view ranges can =
       added = added-none s can.pass (begun_by number op server);
       own = [];
       tried = begins-anywhere s (begun_by number op server) refl;
+      seen = tt;
       rest = λ steps answer after leads tried.
           record {
             number = number;
@@ -176,8 +179,35 @@ module _ (s : Settings) (ranges : IsWithinRanges s) (number : ℕ) (op : Op) (se
   abbrev thread : ℕ
   thread = step.takes.is_found.thread
 
+  found-here : Replays s (at.now.seen ++ step.takes.between) core.shared.servers
+  found-here = subst (λ it. Replays it (at.now.seen ++ step.takes.between) core.shared.servers) at.settings step.takes.found
+
   abbrev taken : Taken
   taken = record { read = read; step = act_step core thread call phase; after = mid }
+
+  seen-here : SeenAt at.now.settings call.number call.server at.now.seen phase
+  seen-here = subst (λ it. SeenAt it call.number call.server at.now.seen phase) (sym at.settings) at.seen
+
+  own-here : (it : Phase) → KnowsAt call.op call.server at.first.owned at.now.owned it → IsOwn s call core.shared at.now.seen step.takes.between found-here step.takes.others it
+  own-here Start knows = tt
+  own-here (Read found mark answer) knows = tt
+  own-here (AtThreshold found) knows = tt
+  own-here (Limit found) knows = tt
+  own-here (Reserving found slots) knows = tt
+  own-here (Holding found) knows = tt
+  own-here Firming knows = tt
+  own-here Losing knows = tt
+  own-here (Loosening found mark answer) knows = knows.3
+  own-here (Loosened found mark answer) knows = tt
+  own-here (Emptied answer) knows = tt
+
+  seen-mid : SeenAfter s call.number call.server mid.seen (next_of s call phase read)
+  seen-mid =
+      let next = seen-next s call core.shared at.now.seen step.takes.between found-here step.takes.others phase (own-here phase at.knows.at) at.seen in
+      let P : Observed → Type 0 = λ it.
+      SeenAfter s call.number call.server ((at.now.seen ++ step.takes.between) ++ changes_by call phase (is_done it)) (next_of s call phase it) in
+      let here : (at.now.seen ++ step.takes.between) ++ changes_by call phase (is_done read) ≡ mid.seen = sym (ap (λ (it : Pass). it.seen) step.takes.knows) in
+      subst (λ it. SeenAfter s call.number call.server it (next_of s call phase read)) here (subst P (sym step.takes.reads) next)
 
   is-taken : IsTaken at.now call phase taken
   is-taken =
@@ -186,6 +216,13 @@ module _ (s : Settings) (ranges : IsWithinRanges s) (number : ℕ) (op : Op) (se
         step = step;
         turn = turn-is core thread call phase found.inside found.stands;
         held = λ e. slot-held at.now.settings core thread call phase found.is found.stands e;
+        lost = λ expected mark is lost.
+            exchange-lost at.now.settings call core.shared at.now.seen step.takes.between step.takes.found step.takes.others phase read expected mark
+            seen-here step.takes.reads (λ marked. step.sure expected mark is marked) is lost;
+        changed = λ expected then is_limit is other.
+            look-changed at.now.settings call core.shared at.now.seen step.takes.between step.takes.found step.takes.others expected then read
+            (subst (SeenAt at.now.settings call.number call.server at.now.seen) is_limit seen-here)
+            (step.takes.reads ∙ ap (λ it. seen_by core.shared call.server (action_of call.number it)) is_limit) is other;
       }
 
   follows-is : follows core call phase ≡ next_of s call phase read
@@ -231,6 +268,7 @@ module _ (s : Settings) (ranges : IsWithinRanges s) (number : ℕ) (op : Op) (se
           added = subst (HasAddedAfter s at.first mid call) is added-mid;
           own = own_step taken ∷ at.own;
           tried = subst (TriedAfter s call (own_step taken ∷ at.own)) is tried-mid;
+          seen = subst (SeenAfter s call.number call.server mid.seen) is seen-mid;
           rest = λ steps answer end leads tried. leads-mid (Goes lost next) is steps answer end leads tried;
         },
         both.1,

@@ -1,5 +1,5 @@
 -- A call: the steps that it takes, one after another, from its begin to its answer.
-use Rattle.std.specs.Prelude.{◌≡◌, ℕ, Bool, true, false, if◌then◌else◌, List, [], ◌∷◌}
+use Rattle.std.specs.Prelude.{◌≡◌, ℕ, Bool, true, false, if◌then◌else◌, List, [], ◌∷◌, ◌++◌}
 use Rattle.tko_model.specs.declared.mark.Op.{Op}
 use Rattle.tko_model.specs.declared.mark.Op.TheVariants.{LookUp, SoftFailure, HardFailure, Success, Release}
 use Rattle.tko_model.specs.declared.mark.Mark.{Mark}
@@ -8,7 +8,7 @@ use Rattle.tko_model.specs.declared.mark.Reply.TheVariants as reply
 use Rattle.tko_model.specs.declared.state.ServerState.{ServerState}
 use Rattle.tko_steps.specs.declared.phase.Call.{Call}
 use Rattle.tko_steps.specs.declared.phase.Phase.{Phase}
-use Rattle.tko_steps.specs.declared.phase.Phase.TheVariants.{Start}
+use Rattle.tko_steps.specs.declared.phase.Phase.TheVariants.{Start, Limit}
 use Rattle.tko_steps.specs.declared.phase.ThreadState.TheVariants.{Idle}
 use Rattle.tko_steps.specs.declared.table.Action.TheVariants.{Exchange}
 use Rattle.tko_steps.specs.declared.table.Decision.{Decision}
@@ -17,11 +17,11 @@ use Rattle.tko_steps.specs.declared.table.Observed.{Observed}
 use Rattle.tko_steps.specs.declared.table.Observed.TheVariants as seen
 use Rattle.tko_steps.specs.Lost.{IsSlotOfOther, finds_no_slot}
 use Rattle.tko_steps.specs.Steps.{begun_by, is_marked_state}
-use Rattle.tko_steps.specs.Table.{action_of, next_of}
+use Rattle.tko_steps.specs.Table.{action_of, next_of, same_server}
 use Rattle.tko_table.specs.declared.pass.Pass.{Pass}
 use Rattle.tko_table.specs.Passes.{without}
 use Rattle.tko_table.specs.Steps.{Takes}
-use Rattle.tko_tracker.specs.Tries.{HasTried, IsTurn, Taken, own_steps}
+use Rattle.tko_tracker.specs.Tries.{HasTried, IsChangedByOthers, IsTurn, Taken, own_steps}
 
 -- the replies that an operation may get
 abbrev pub can_answer : Op → Reply → Bool
@@ -97,6 +97,27 @@ pub record IsTaken (before : Pass) (call : Call) (phase : Phase) (taken : Taken)
   pub turn : IsTurn step.takes.core step.takes.is_found.thread taken.step
   pub held : finds_no_slot before.settings taken.step ≡ true →
       IsSlotOfOther step.takes.core step.takes.is_found.thread
+  -- where it is an exchange of the server's word that is lost, or a second look that finds another
+  -- word than the first, other threads changed the server since it was as expected
+  pub lost : (found : ServerState) (mark : Mark) →
+      action_of call.number phase ≡ Exchange found mark →
+      taken.read ≡ seen.Done false →
+      IsChangedByOthers
+      before.settings
+      call.number
+      call.server
+      found
+      (before.seen ++ step.takes.between)
+  pub changed : (found now : ServerState) →
+      phase ≡ Limit found →
+      taken.read ≡ seen.Server now →
+      same_server found now ≡ false →
+      IsChangedByOthers
+      before.settings
+      call.number
+      call.server
+      found
+      (before.seen ++ step.takes.between)
 
 -- a call goes on, or ends with a reply
 abbrev pub GoesOn : Call → Decision → (Call → Phase → Type 0) → (Reply → Type 0) → Type 0

@@ -29,8 +29,8 @@ pub record HoldsEachOnce (threads : ℕ) (passes : List Seated) : Type 0 where
   pub each : (number : ℕ) → number < threads → count_of number passes ≡ 1
 
 -- the changes by the thread of this pass are, in order, those of the calls that it made
-abbrev pub TellsAll : List Change → Seated → Type 0
-TellsAll history it =
+abbrev pub HasItsCalls : List Change → Seated → Type 0
+HasItsCalls history it =
     (number : ℕ) →
     it.pass.state ≡ Idle number → made_by number history ≡ changes_in number it.pass.mine
 
@@ -40,7 +40,7 @@ pub record IsFinal (tracker : TrackerId) (passes : List Seated) (left : Left) : 
   pub settings : left.settings ≡ tracker.settings
   pub history : List Change
   pub replays : Replays tracker.settings history left.shared.servers
-  pub mine : All (TellsAll history) passes
+  pub mine : All (HasItsCalls history) passes
   pub drawn : All (λ change. change.number < tracker.settings.threads) history
   pub unmarked :
       All (λ (server : ServerState). is_marked_state server.mark ≡ false) left.shared.servers

@@ -62,7 +62,7 @@ impl Final {
         self.words.server(server).mark
     }
 
-    /// How many changes the server had, counted from the opening stamp.
+    /// The server's stamp: the opening stamp plus the number of changes of its mark.
     pub fn stamp(&self, server: usize) -> u64
         requires { server < self.now.settings.servers }
         ensures { result ≡ (server_at self.now.shared.servers server).stamp }

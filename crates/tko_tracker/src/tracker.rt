@@ -27,8 +27,8 @@ impl Model for Tracker {
     } };
 }
 
-/// The opened tracker, whose servers are all up, and a pass for each thread; the pass at each place
-/// has that number.
+/// The opened tracker, whose servers are all up at the opening stamp, and a pass for each thread;
+/// the pass at each place has that number.
 pub fn open(alloc: Global, settings: Settings) -> Result<(Tracker, Vec<IdlePass>), OpenFault>
     ensures ok { IfOk result (λ made. made.0.settings ≡ settings) }
     ensures count { IfOk result (λ made. length made.1.items ≡ settings.threads) }

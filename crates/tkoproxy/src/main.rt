@@ -12,7 +12,7 @@ use std::thread::Threads;
 use std::time::Clock;
 use std::{env, io};
 use tko_cli::command;
-use tko_session::Piped;
+use tko_io::Piped;
 
 fn main(rt: HostRuntime) -> ExitCode {
     let status = match words_of(&rt) {

@@ -14,11 +14,11 @@ use std::sync::{Mutex, Wait};
 use std::test::Fail;
 use std::thread::Threads;
 use std::time::Clock;
+use tko_backend::{FrozenClock, Probers};
 use tko_desk::{Book, Share};
 use tko_events::Log;
 use tko_health::{Health, LockedSeating, Seating, SharedSeating};
 use tko_links::{Script, Scripted};
-use tko_session::{Probers, Still};
 use tko_tracker::{IdlePass, Named, Tracker, open};
 
 /// Each member has one client.
@@ -34,7 +34,7 @@ struct Shared<S> {
 }
 
 /// One of the two.
-type Overlapping<'a, P, S> = Member<'a, Visits<'a>, P, S, Gated<'a>, Still>;
+type Overlapping<'a, P, S> = Member<'a, Visits<'a>, P, S, Gated<'a>, FrozenClock>;
 
 impl<P: Drop, S: Seating<Idle = P>> Shared<S> {
     /// A member with one client for each seat. The first has the first of the two requests.
@@ -71,7 +71,7 @@ impl<P: Drop, S: Seating<Idle = P>> Shared<S> {
         alloc: Global,
         is_first: bool,
         share: &'a mut Share,
-    ) -> Result<WorkerParts<'a, S, Gated<'a>, Still>, Fail>
+    ) -> Result<WorkerParts<'a, S, Gated<'a>, FrozenClock>, Fail>
         requires servers { S.servers self.now.seating ≡ 1 }
         ensures equipped { IfOk result (λ parts.
             IsEquipped S.servers (λ links. length links.inner.sends) parts) }
@@ -88,7 +88,7 @@ impl<P: Drop, S: Seating<Idle = P>> Shared<S> {
             },
             config: config(alloc, "s:1")?,
             probers: Probers::new(alloc, delays()?, 1)?,
-            moments: Still,
+            clock: FrozenClock,
             account: Account {
                 book: &self.book,
                 share,

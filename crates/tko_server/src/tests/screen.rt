@@ -2,8 +2,8 @@
 
 use crate::{Next, Source};
 use std::sync::Mutex;
+use tko_io::{Outlet, Piped, Stop};
 use tko_links::IoRuntime;
-use tko_session::{Outlet, Piped, Stop};
 
 /// Where the replies to several clients go, one after another.
 #[derive(Drop)]

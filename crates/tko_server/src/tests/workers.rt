@@ -11,11 +11,11 @@ use std::net::{Net, TcpStream};
 use std::sync::{Mutex, Wait};
 use std::test::Fail;
 use std::time::Clock;
+use tko_backend::{ListedClock, Probers};
 use tko_desk::{Book, Kind, Numbers};
 use tko_events::Log;
 use tko_health::{LockedSeating, Seating, SharedSeating};
 use tko_links::{Script, Scripted};
-use tko_session::{Listed, Probers};
 use tko_tracker::{IdlePass, Named, Tracker, open};
 
 /// What one worker left.
@@ -71,7 +71,7 @@ fn work<R: Wait + Net<Stream = TcpStream> + Clock, P: Drop, S: Seating<Idle = P>
         links: Scripted::new(alloc, 1, scripts)?,
         config: config(alloc, "s:1")?,
         probers: Probers::new(alloc, delays()?, 1)?,
-        moments: Listed::new(moments),
+        clock: ListedClock::new(moments),
         account: Account {
             book: &book,
             share: &mut share,

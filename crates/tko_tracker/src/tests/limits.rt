@@ -20,8 +20,8 @@ const SETTINGS: Settings = Settings {
 /// From this stamp on an unmarked server takes no change.
 const WORN: u64 = 2_251_799_813_685_240;
 
-/// A thread makes these calls on server 0, each with its reply, and retires. Server 0 is up then, and
-/// this is its stamp.
+/// A thread makes these calls on server 0, each with its reply, and retires. Server 0 is up then,
+/// and this is its stamp.
 fn play(
     rt: &impl Abort,
     alloc: Global,

@@ -14,20 +14,18 @@ pub(super) struct Made {
     pub(super) end: u64,
 }
 
-impl Made {
-    /// Whether the call changed its server.
-    pub(super) fn is_change(&self) -> bool {
-        matches!(
-            self.reply,
-            Reply::Counted(_)
-                | Reply::TookSoft
-                | Reply::TookHard
-                | Reply::Hardened
-                | Reply::Reset(_)
-                | Reply::Unmarked(_)
-                | Reply::Released(_)
-        )
-    }
+/// Whether a call with this reply changed its server.
+pub(super) fn is_change(reply: Reply) -> bool {
+    matches!(
+        reply,
+        Reply::Counted(_)
+            | Reply::TookSoft
+            | Reply::TookHard
+            | Reply::Hardened
+            | Reply::Reset(_)
+            | Reply::Unmarked(_)
+            | Reply::Released(_)
+    )
 }
 
 /// How many calls of each thread stand in an order, and the mark that they leave.
@@ -109,9 +107,9 @@ fn add(points: &mut Vec<Point>, point: Point) -> Result<(), AllocError> {
     Ok(())
 }
 
-/// The mark after a call, if it may stand before the other thread's next call and its reply is that of
-/// the sequential tracker. A call that was answered Contended changed nothing, and lost its tries to a
-/// call beside it.
+/// The mark after a call, if it may stand before the other thread's next call and its reply is that
+/// of the sequential tracker. A call that was answered Contended changed nothing, and lost its
+/// tries to a call beside it.
 fn mark_after(
     settings: &Settings,
     mark: Mark,

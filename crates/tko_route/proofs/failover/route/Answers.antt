@@ -1,39 +1,59 @@
-use Rattle.std.proofs.Common.{◌≡◌, ℕ, subst, arith}
+use Rattle.std.proofs.Common.{◌≡◌, ◌++◌, ◌∷◌, Ok, length, map, refl, subst, arith}
 use Rattle.std.proofs.lemmas.Grind.{common_steps}
+use Rattle.tko_model.proofs.RecordLemmas.{gains_none}
 use Rattle.tko_text.specs.SentRequests.{without_noreply}
-use Rattle.tko_route.specs.Calls.{upstream}
+use Rattle.tko_route.specs.Calls.{Told, came, upstream}
+use Rattle.tko_route.specs.declared.routing.Stage.{Stage}
+use Rattle.tko_route.specs.Routing.{Reached, last_place}
 use Rattle.tko_route.specs.Trail.{form_at}
-use Rattle.tko_route.proofs.MadeLemmas.{is_cut, is_routed, made_sent}
-use Rattle.tko_route.proofs.TrailLemmas.{count_less}
+use Rattle.tko_route.proofs.MadeLemmas.{gains_told, is_cut, is_routed, made_sent}
 use Rattle.tko_route.proofs.failover.route.Goals as goal
+
+pub loop-stage-init : goal.loop-stage-init
+loop-stage-init g c =
+    let form = form_at c.args.exptime (without_noreply c.args.request.now) in
+    let on = c.in-Ok.ensures.calls form in (
+      (map Told on.items, on.is, gains_told (upstream g.H.Health g.L.Links) (gains_none (c.args.health.now, c.args.links.now)) on.gains),
+      c.begin.ensures.servers,
+      refl,
+      c.in-Ok.ensures.ok_request,
+      λ s. refl,
+    )
 
 pub returns-in-Done-clause-ok : goal.returns-in-Done-clause-ok
 returns-in-Done-clause-ok g c =
-    let so_far = c.loop-routed.invariant.0 in
-    is_routed (upstream g.H.Health g.L.Links) {old = (c.args.health.now, c.args.links.now)} so_far.2 (c.in-Done.ensures.calls _ so_far.0 so_far.1)
+    let form = form_at c.args.exptime (without_noreply c.args.request.now) in
+    let so_far = c.loop-stage.invariant.0 in
+    let at = subst (λ (s : Stage). Reached c.args.targets.now form so_far.0 s) c.in-Done.is so_far.1 in
+    is_routed (upstream g.H.Health g.L.Links) {old = (c.args.health.now, c.args.links.now)} so_far.2 at.0 at.1
 
 pub returns-in-Err-clause-err : goal.returns-in-Err-clause-err
 returns-in-Err-clause-err g c =
-    let so_far = c.loop-routed.invariant.0 in
-    let form = c.in-Away.ensures.request (without_noreply c.args.request.now) c.loop-routed.invariant.4 in
-    let on = c.in-Away.ensures.calls _ so_far.0 so_far.1 in
-    let awaited = on.is.0 in
+    let form = form_at c.args.exptime (without_noreply c.args.request.now) in
+    let so_far = c.loop-stage.invariant.0 in
+    let at = subst (λ (s : Stage). Reached c.args.targets.now form so_far.0 s) c.in-Away.is so_far.1 in
+    let form_is = subst (λ (s : Stage). c.loop-stage.request ≡ form (last_place s)) c.in-Away.is c.loop-stage.invariant.3 in
     rw (c.stop.ensures.trail, c.stop.ensures.sent) (is_cut (upstream g.H.Health g.L.Links) {old = (c.args.health.now, c.args.links.now)} so_far.2
-    (record { items = on.items; gains = on.gains; is = on.is.2 }) awaited.tried awaited.server on.is.1
-    (record { item = c.in-Err.ensures.record; spent = c.in-Err.ensures.spent; sends = c.in-Err.ensures.sends }) form)
+    at.2 at.0.tried at.0.server at.1
+    (record { item = c.in-Err.ensures.record; spent = c.in-Err.ensures.spent; sends = c.in-Err.ensures.sends }) form_is)
 
-pub loop-routed-preserved : goal.loop-routed-preserved
-loop-routed-preserved g c =
-    let so_far = c.loop-routed.invariant.0 in
-    let form = c.in-Away.ensures.request (without_noreply c.args.request.now) c.loop-routed.invariant.4 in
-    let on = c.in-Away.ensures.calls _ so_far.0 so_far.1 in
-    let P : ℕ → Type 0 = λ n. c.next.new.request ≡ form_at c.args.exptime (without_noreply c.args.request.now) n in (
-      made_sent (upstream g.H.Health g.L.Links) {old = (c.args.health.now, c.args.links.now)} so_far.2 (record { items = on.items; gains = on.gains; is = on.is.2 }) on.is.1
-          (record { item = c.in-Ok-exchange.ensures.record; spent = c.in-Ok-exchange.ensures.spent; sends = c.in-Ok-exchange.ensures.sends }) form
-          (c.record-routing.ensures.calls _),
-      c.record-routing.ensures.underway c.args.targets.now on.is.0,
+pub loop-stage-preserved : goal.loop-stage-preserved
+loop-stage-preserved g c =
+    let form = form_at c.args.exptime (without_noreply c.args.request.now) in
+    let so_far = c.loop-stage.invariant.0 in
+    let at = subst (λ (s : Stage). Reached c.args.targets.now form so_far.0 s) c.in-Away.is so_far.1 in
+    let form_is = subst (λ (s : Stage). c.loop-stage.request ≡ form (last_place s)) c.in-Away.is c.loop-stage.invariant.3 in
+    let on = c.answered-stage.ensures.calls form so_far.0 at.2 in
+    let item = came c.in-Away.waiting.server (form (length c.in-Away.waiting.attempts)) (Ok c.in-Ok-exchange.outcome) in (
+      (
+        so_far.0 ++ item ∷ map Told on.items,
+        on.is,
+        made_sent (upstream g.H.Health g.L.Links) {old = (c.args.health.now, c.args.links.now)} so_far.2 at.1
+            (record { item = c.in-Ok-exchange.ensures.record; spent = c.in-Ok-exchange.ensures.spent; sends = c.in-Ok-exchange.ensures.sends })
+            form_is on.gains,
+      ),
       cc,
       cc,
-      subst P (count_less c.record-routing.ensures.one) form,
+      c.answered-stage.ensures.request (without_noreply c.args.request.now) form_is,
       grind (arith, common_steps),
     )

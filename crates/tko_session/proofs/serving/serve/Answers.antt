@@ -2,8 +2,8 @@ use Rattle.std.proofs.Common.{◌≡◌, ◌<◌, ◌^◌, length, refl, ap, sym
 use Rattle.std.proofs.lemmas.List.{take_at}
 use Rattle.std.proofs.lemmas.Result.{err_from_is_err_and}
 use Rattle.tko_session.specs.declared.fault.SessionFault.TheVariants.{LineTooLong, Write}
-use Rattle.tko_session.specs.Io.{capped}
-use Rattle.tko_session.proofs.EventLemmas.{round-begun}
+use Rattle.tko_io.specs.Io.{capped}
+use Rattle.tko_backend.proofs.BegunLemmas.{round-begun}
 use Rattle.tko_session.proofs.ResultLemmas.{same_error}
 use Rattle.tko_session.proofs.ServedLemmas.{so_far_idle, so_far_none, so_far_more, so_far_read, so_far_reads, served, served_quit, came_too_long, stopped_at_once, stopped_by_line, stopped_by_read, stopped_early, stopped_idle}
 use Rattle.tko_session.proofs.serving.serve.Goals as goal
@@ -29,7 +29,7 @@ loop-preserved-in-Continue-branch-2 g c =
     let read = c.in-Idle.ensures in
     let round = c.in_ok-round-in-Idle.ensures in (
       so_far_idle {records = g.T.Trails.records} g.met.I.Inlet.goes_on c.loop.invariant.0 read.piece read.idles
-          (record { round = round.round; sends = round.sends }),
+          (record { round = round.round; others = round.others; sends = round.sends }),
       omega (arith, read.failures, c.loop.invariant.1),
       c.loop.invariant.2,
       round.reach,
@@ -42,7 +42,7 @@ returns-in_err-round-in-Idle-clause-memory g c = λ e.
     let read = c.in-Idle.ensures in
     let round = c.in_err-round-in-Idle.ensures in
     stopped_idle {records = g.T.Trails.records} g.met.I.Inlet.goes_on c.loop.invariant.0 read.piece read.idles
-    (record { round = round.round; sends = round.sends })
+    (record { round = round.round; others = round.others; sends = round.sends })
 
 pub returns-in_err-round-in-Idle-clause-begun : goal.returns-in_err-round-in-Idle-clause-begun
 returns-in_err-round-in-Idle-clause-begun g c = λ begun. round-begun c.in_err-round-in-Idle.ensures.round

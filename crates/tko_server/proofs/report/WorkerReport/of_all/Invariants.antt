@@ -1,6 +1,6 @@
 use Rattle.std.proofs.Common.{◌≡◌, ◌≤◌, ◌+◌, ◌||◌, drop}
 use Rattle.std.specs.List.{list_any, sum_by}
-use Rattle.tko_session.specs.Io.{capped}
+use Rattle.tko_io.specs.Io.{capped}
 use Rattle.tko_server.proofs.report.WorkerReport.of_all.Given as goal
 
 abbrev pub invariant-loop-one : goal.invariant-loop-one

@@ -1,4 +1,4 @@
-use Rattle.tko_session.proofs.EventLemmas.{round-begun}
+use Rattle.tko_backend.proofs.BegunLemmas.{round-begun}
 use Rattle.tko_session.proofs.session.Session.run_owed_round.Goals as goal
 
 pub returns-clause-begun : goal.returns-clause-begun

@@ -1,0 +1,227 @@
+-- Laws of rounds: what each visit is, and visits one after another.
+use Rattle.std.proofs.Common.{◌≡◌, ◌↔◌, ℕ, zero, suc, ◌+◌, Bool, true, false, ◌||◌, List, [], ◌∷◌, ◌++◌, Option, Some, None, Result, Ok, length, cond, set-set, refl, sym, ap, subst, ◌∙◌, add-one, zero-add, arith}
+use Rattle.std.specs.Prelude.{is_err}
+use Rattle.std.proofs.lemmas.List.{length-map, map-append, map-id}
+use Rattle.std.proofs.lemmas.List.Folds.{list_any-append}
+use Rattle.std.proofs.lemmas.List.FromFn.{map-range_with_len_more}
+use Rattle.std.proofs.lemmas.List.Sums.{sum_by-cons}
+use Rattle.tko_model.specs.declared.mark.Reply.{Reply}
+use Rattle.tko_model.specs.Records.{HealthItem, Lead, NoDuty}
+use Rattle.tko_model.proofs.RecordLemmas.{gains_none, gains_push}
+use Rattle.tko_links.specs.declared.links.NoMemory.{NoMemory}
+use Rattle.tko_links.specs.declared.links.Outcome.{Outcome}
+use Rattle.tko_links.specs.declared.links.Outcome.TheVariants as outcome
+use Rattle.tko_links.specs.Links.{LinksItem, WasProbed, is_counted, most_sends, part_of}
+use Rattle.tko_pools.specs.Configs.{numbers_below}
+use Rattle.tko_prober.specs.declared.prober.Prober.{Prober}
+use Rattle.tko_prober.specs.declared.prober.ProbeTurn.TheVariants.{Rest, Send}
+use Rattle.tko_prober.specs.Probes.{IsDue, asked_after, sent}
+use Rattle.tko_route.specs.Trail.{IsRecorded}
+use Rattle.tko_backend.specs.declared.backend.Backend.{Backend}
+use Rattle.tko_backend.specs.declared.probers.ProbeSlot.{ProbeSlot}
+use Rattle.tko_backend.specs.declared.probers.ProbeSlot.TheVariants.{Quiet, Probing}
+use Rattle.tko_backend.specs.Probers.{AreQuiet, ProbersState, begun_at, begun_slot, op_asked, probed_of, prober_of, slot_after, with_slot}
+use Rattle.tko_backend.specs.Round.{Absent, AreVisited, IsRound, IsVisit, IsVisited, Probed, Rested, Stopped, Visit, is_probe, probes_in, ran_out, visited}
+use Rattle.tko_backend.proofs.ProberLemmas.{begun-quiet, prober-quiet, set-prober}
+
+numbers_below-more : (count : ℕ) → numbers_below (count + 1) ≡ numbers_below count ++ count ∷ []
+numbers_below-more count =
+    sym (map-id (numbers_below (count + 1))) ∙ map-range_with_len_more (λ (n : ℕ). n) 0 count count (zero-add count)
+    ∙ ap (λ xs. xs ++ count ∷ []) (map-id (numbers_below count))
+
+or-false : (b : Bool) → (b || false) ≡ b
+or-false true = refl
+or-false false = refl
+
+-- a slot that was emptied first
+set_emptied : (probers : ProbersState) (server : ℕ) (slot : ProbeSlot)
+    → with_slot (with_slot probers server Quiet) server slot ≡ with_slot probers server slot
+set_emptied probers server slot =
+    ap (λ (slots : List ProbeSlot). record probers { slots = slots }) (set-set probers.slots server Quiet slot)
+
+pub rest_is_send : Rest ≡ Send → ⊥
+rest_is_send same = cc
+
+module _ {H L C : Type 0} {steps : H → HealthItem → H → Type 0} {grants : H → ℕ → Type 0}
+    {exchanges : L → LinksItem → L → Type 0} {probed : L → ℕ → ℕ} {reads : C → ℕ → C → Type 0} where
+  pub visited_absent : (moment : ℕ) (old : Backend H L C) (server : ℕ) (probers : ProbersState)
+      → prober_of old.probers server ≡ None → probers ≡ old.probers
+      → IsVisited steps grants exchanges probed reads moment old server false (record old { probers = probers })
+  visited_absent moment old server probers none same = record {
+    visit = Absent server;
+    at = refl;
+    is = (none, ap (λ (p : ProbersState). record old { probers = p }) same);
+    memory = refl;
+  }
+
+  pub visited_stopped : (moment : ℕ) (old : Backend H L C) (server : ℕ) (prober : Prober) (health : H) (probers : ProbersState)
+      → prober_of old.probers server ≡ Some prober → steps old.health (NoDuty server) health
+      → probers ≡ with_slot old.probers server Quiet
+      → IsVisited steps grants exchanges probed reads moment old server false (record old { health = health; probers = probers })
+  visited_stopped moment old server prober health probers has refused slot = record {
+    visit = Stopped server;
+    at = refl;
+    is = record {
+      prober = prober;
+      has = has;
+      refused = refused;
+      others = ap (λ (p : ProbersState). record old { health = health; probers = p }) slot;
+    };
+    memory = refl;
+  }
+
+  pub visited_rested : (moment : ℕ) (old : Backend H L C) (server : ℕ) (prober : Prober) (health : H) (probers : ProbersState)
+      → prober_of old.probers server ≡ Some prober → ¬ IsDue prober.stage moment → health ≡ old.health
+      → probers ≡ with_slot (with_slot old.probers server Quiet) server (Probing prober)
+      → IsVisited steps grants exchanges probed reads moment old server false (record old { health = health; probers = probers })
+  visited_rested moment old server prober health probers has early same slot =
+      let back : probers ≡ old.probers =
+      slot ∙ set_emptied old.probers server (Probing prober)
+      ∙ ap (λ (slots : List ProbeSlot). record old.probers { slots = slots }) (set-prober old.probers.slots server prober has) in
+      record {
+        visit = Rested server;
+        at = refl;
+        is = record {
+          prober = prober;
+          has = has;
+          early = early;
+          same = rw (same, back) refl;
+        };
+        memory = refl;
+      }
+
+  pub visited_probed : (moment : ℕ) (old : Backend H L C) (server : ℕ) (prober : Prober)
+      (came : Result Outcome NoMemory) (later : ℕ) (reply : Option Reply)
+      (short : Bool) (health : H) (links : L) (clock : C) (probers : ProbersState)
+      → prober_of old.probers server ≡ Some prober → IsDue prober.stage moment → grants old.health server
+      → WasProbed exchanges old.links server came links
+      → ((came ≡ Ok outcome.Spent) ↔ (probed old.links server ≡ most_sends))
+      → ((at : ℕ) → probed links at ≡ probed old.links at + part_of (is_counted came) server at)
+      → reads old.clock later clock
+      → IsRecorded steps old.health (record { server = server; op = op_asked (asked_after (probed_of came)); reply = reply }) health
+      → probers ≡ with_slot (with_slot old.probers server Quiet) server (slot_after (sent prober) later (probed_of came))
+      → short ≡ is_err came
+      → IsVisited steps grants exchanges probed reads moment old server short
+      (record old { health = health; links = links; probers = probers; clock = clock })
+  visited_probed moment old server prober came later reply short health links clock probers has due right probe spent counted read recorded slot ran =
+      let settled = slot ∙ set_emptied old.probers server (slot_after (sent prober) later (probed_of came)) in
+      record {
+        visit = Probed server came later reply;
+        at = refl;
+        is = record {
+          prober = prober;
+          has = has;
+          due = due;
+          right = right;
+          probe = probe;
+          spent = spent;
+          counted = counted;
+          read = read;
+          recorded = recorded;
+          others =
+              ap (λ (p : ProbersState). record old { health = health; links = links; probers = p; clock = clock }) settled;
+        };
+        memory = ran;
+      }
+
+  pub visited_none : (moment : ℕ) (at : Backend H L C) → AreVisited steps grants exchanges probed reads moment at 0 false at
+  visited_none moment at = record { visits = []; each = gains_none at; servers = refl; memory = refl }
+
+  pub visited_more : {moment : ℕ} {old mid new : Backend H L C} {count : ℕ} {short next : Bool}
+      → AreVisited steps grants exchanges probed reads moment old count short mid
+      → IsVisited steps grants exchanges probed reads moment mid count next new
+      → AreVisited steps grants exchanges probed reads moment old (count + 1) (short || next) new
+  visited_more {count} front last = record {
+    visits = front.visits ++ last.visit ∷ [];
+    each = gains_push front.each last.is;
+    servers =
+        map-append visited front.visits (last.visit ∷ []) ∙ rw (front.servers, last.at, numbers_below-more count) refl;
+    memory =
+        rw (list_any-append ran_out front.visits (last.visit ∷ []), front.memory, last.memory, or-false (ran_out last.visit))
+        refl;
+  }
+
+module _ {H L C : Type 0} (steps : H → HealthItem → H → Type 0) (grants : H → ℕ → Type 0)
+    (exchanges : L → LinksItem → L → Type 0) (probed : L → ℕ → ℕ) (reads : C → ℕ → C → Type 0) where
+  -- what a visit adds to the probes of a server
+  visit_probes : (moment : ℕ) (old new : Backend H L C) (visit : Visit)
+      → IsVisit steps grants exchanges probed reads moment old visit new → (server : ℕ)
+      → probed new.links server ≡ probed old.links server + cond (is_probe server visit) 1 0
+  visit_probes moment old new (Absent at) (none, same) server =
+      omega (arith, ap (λ (p : Backend H L C). probed p.links server) same)
+  visit_probes moment old new (Stopped at) is server =
+      omega (arith, ap (λ (p : Backend H L C). probed p.links server) is.others)
+  visit_probes moment old new (Rested at) is server =
+      omega (arith, ap (λ (p : Backend H L C). probed p.links server) is.same)
+  visit_probes moment old new (Probed at came later reply) is server = is.counted server
+
+  -- the probes of a server are those of the visits
+  probes_gained : (moment : ℕ) (old new : Backend H L C) (visits : List Visit)
+      → Lead (IsVisit steps grants exchanges probed reads moment) old visits new → (server : ℕ)
+      → probed new.links server ≡ probed old.links server + probes_in server visits
+  probes_gained moment old new [] same server = omega (arith, ap (λ (p : Backend H L C). probed p.links server) same)
+  probes_gained moment old new (visit ∷ visits) (mid, step, rest) server =
+      omega (
+        arith,
+        visit_probes moment old mid visit step server,
+        probes_gained moment mid new visits rest server,
+        sum_by-cons (λ (x : Visit). cond {A = ℕ} (is_probe server x) 1 0) visit visits,
+      )
+
+module _ {H L C : Type 0} {steps : H → HealthItem → H → Type 0} {grants : H → ℕ → Type 0}
+    {exchanges : L → LinksItem → L → Type 0} {probed : L → ℕ → ℕ} {reads : C → ℕ → C → Type 0} where
+  -- a moment was read, the probers began, and all servers were visited
+  pub round_of : (moment : ℕ) (old : Backend H L C) (clock : C) (short : Bool) (new : Backend H L C)
+      → reads old.clock moment clock
+      → AreVisited steps grants exchanges probed reads moment
+      (record old { clock = clock; probers = begun_at moment old.probers }) (length old.probers.slots) short new
+      → IsRound steps grants exchanges probed reads old short new
+  round_of moment old clock short new read all = record {
+    moment = moment;
+    clock = clock;
+    read = read;
+    visits = all.visits;
+    each = all.each;
+    servers = all.servers;
+    probes = probes_gained steps grants exchanges probed reads moment _ new all.visits all.each.leads;
+    memory = all.memory;
+  }
+
+  -- the same where the probers are given by an equation
+  pub round_after : (moment : ℕ) (old : Backend H L C) (clock : C) (probers : ProbersState) (short : Bool) (new : Backend H L C)
+      → reads old.clock moment clock → probers ≡ begun_at moment old.probers
+      → AreVisited steps grants exchanges probed reads moment
+      (record old { clock = clock; probers = probers }) (length probers.slots) short new
+      → IsRound steps grants exchanges probed reads old short new
+  round_after moment old clock probers short new read began all =
+      let len : length probers.slots ≡ length old.probers.slots =
+      ap (λ (p : ProbersState). length p.slots) began
+      ∙ length-map old.probers.slots (begun_slot old.probers.delays moment) in
+      let moved : AreVisited steps grants exchanges probed reads moment
+      (record old { clock = clock; probers = begun_at moment old.probers }) (length probers.slots) short new =
+      subst (λ (p : ProbersState). AreVisited steps grants exchanges probed reads moment
+      (record old { clock = clock; probers = p }) (length probers.slots) short new) began all in
+      round_of moment old clock short new read
+      (subst (λ n. AreVisited steps grants exchanges probed reads moment
+      (record old { clock = clock; probers = begun_at moment old.probers }) n short new) len moved)
+
+  visited_quiet : (moment : ℕ) (at : Backend H L C) → AreQuiet at.probers → (count : ℕ)
+      → AreVisited steps grants exchanges probed reads moment at count false at
+  visited_quiet moment at quiet zero = visited_none moment at
+  visited_quiet moment at quiet (suc count) =
+      let none = prober-quiet at.probers.slots count quiet in
+      let all = visited_more (visited_quiet moment at quiet count) (visited_absent moment at count at.probers none refl) in
+      subst (λ n. AreVisited steps grants exchanges probed reads moment at n false at) (add-one count) all
+
+  -- where no server is probed or going to be, a round reads its moment and changes nothing else
+  pub round_quiet : (moment : ℕ) (old : Backend H L C) (clock : C) → reads old.clock moment clock → AreQuiet old.probers
+      → IsRound steps grants exchanges probed reads old false (record old { clock = clock })
+  round_quiet moment old clock read quiet =
+      let at = record old { clock = clock; probers = begun_at moment old.probers } in
+      let same : begun_at moment old.probers ≡ old.probers =
+      ap (λ (slots : List ProbeSlot). record old.probers { slots = slots })
+      (begun-quiet old.probers.delays moment old.probers.slots quiet) in
+      let all = visited_quiet moment (record old { clock = clock }) quiet (length old.probers.slots) in
+      round_of moment old clock false (record old { clock = clock }) read
+      (subst (λ (p : ProbersState). AreVisited steps grants exchanges probed reads moment (record old { clock = clock; probers = p })
+      (length old.probers.slots) false (record old { clock = clock })) (sym same) all)

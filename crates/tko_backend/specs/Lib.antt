@@ -1,0 +1,4 @@
+pub mod Clocks
+pub mod Probers
+pub mod Round
+pub mod Servers

@@ -1,0 +1,3 @@
+pub mod Io
+pub mod Pieces
+pub mod Tape

@@ -1,0 +1,6 @@
+use Rattle.std.proofs.Common.{[]}
+use Rattle.tko_route.proofs.TrailLemmas.{makes_none}
+use Rattle.tko_route.proofs.routing.Stage.begin.Goals as goal
+
+pub returns-clause-calls : goal.returns-clause-calls
+returns-clause-calls g c = λ form. c.next.ensures.calls form [] (makes_none c.in_ok-routing.ensures.empty)

@@ -1,7 +1,0 @@
-use Rattle.std.proofs.Common.{◌≡◌, []}
-use Rattle.tko_session.proofs.pieces.read_piece.Given as goal
-
-abbrev pub invariant-loop : goal.invariant-loop
-invariant-loop g l =
-    g.I.Inlet.gives l.fn.reader [] l.reader × (g.I.Inlet.failures l.reader ≡ g.I.Inlet.failures l.fn.reader)
-    × (g.I.Inlet.idles l.reader ≡ g.I.Inlet.idles l.fn.reader)
