@@ -8,12 +8,13 @@ use std::alloc::Global;
 use std::net::TcpListener;
 use std::sync::Wait;
 use std::thread::Threads;
+use tko_backend::Clock;
 use tko_bytes::NoMemory;
 use tko_desk::Desk;
 use tko_events::{LoggedIdle, LoggedSeating};
 use tko_health::SharedSeating;
+use tko_io::{Inlet, Outlet};
 use tko_links::{IoRuntime, Links};
-use tko_session::{Inlet, Moments, Outlet};
 use tko_tracker::{IdlePass, Named};
 
 /// A member that has a pass of the tracker without a lock that `N` names.
@@ -57,7 +58,7 @@ pub(crate) fn work<
     O: Outlet + Drop + Send,
     C: Source<Reader = I, Writer = O> + Drop + Send,
     L: Links + Drop + Send,
-    M: Moments + Drop + Send,
+    M: Clock + Drop + Send,
 >(
     rt: &R,
     alloc: Global,

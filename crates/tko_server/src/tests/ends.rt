@@ -15,13 +15,14 @@ use std::sync::{Mutex, Wait};
 use std::test::Fail;
 use std::thread::Threads;
 use std::time::Clock;
+use tko_backend::{FrozenClock, Probers};
 use tko_desk::{Book, Desk, Share};
 use tko_events::{Log, LoggedIdle, LoggedSeating, WorkerLog};
 use tko_health::SharedSeating;
+use tko_io::{Stop, Taped};
 use tko_links::{IoRuntime, Scripted};
 use tko_model::{Mark, Settings};
 use tko_pools::Config;
-use tko_session::{Probers, Still, Stop, Taped};
 use tko_tracker::{IdlePass, Named, Tracker, close, open};
 
 /// Two servers and three threads.
@@ -121,7 +122,7 @@ type Ending<'a, 't, N> = Member<
     LoggedIdle<IdlePass>,
     LoggedSeating<SharedSeating<'t, N>>,
     Scarce,
-    Still,
+    FrozenClock,
 >;
 
 impl<'t, N: Named> Shared<'t, N> {
@@ -158,7 +159,7 @@ impl<'t, N: Named> Shared<'t, N> {
         alloc: Global,
         is_short: bool,
         share: &'a mut Share,
-    ) -> Result<WorkerParts<'a, LoggedSeating<SharedSeating<'t, N>>, Scarce, Still>, Fail>
+    ) -> Result<WorkerParts<'a, LoggedSeating<SharedSeating<'t, N>>, Scarce, FrozenClock>, Fail>
         requires servers { N.tracker.settings.servers ≡ 2 }
         ensures equipped { IfOk result (IsEquipped (λ _. N.tracker.settings.servers)
             (λ links. length links.inner.sends)) }
@@ -171,7 +172,7 @@ impl<'t, N: Named> Shared<'t, N> {
             },
             config: config_of_two(alloc)?,
             probers: Probers::new(alloc, delays()?, 2)?,
-            moments: Still,
+            clock: FrozenClock,
             account: Account {
                 book: &self.book,
                 share,
