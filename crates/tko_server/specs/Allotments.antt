@@ -1,5 +1,5 @@
 -- How many descriptors a server needs, and what fits into a limit.
-use Rattle.std.specs.Prelude.{◌≡◌, ◌<◌, ◌≤◌, ◌⊎◌, ◌+◌, ◌*◌, ℕ, min}
+use Rattle.std.specs.Prelude.{◌≡◌, ◌<◌, ◌≤◌, ◌⊎◌, ◌+◌, ◌-◌, ◌*◌, ◌^◌, ℕ, min}
 use Rattle.tko_server.specs.declared.allotment.Allotment.{Allotment}
 
 -- each worker has a connection to each server, a client, and two more while it looks up the name of
