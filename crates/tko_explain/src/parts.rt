@@ -52,7 +52,7 @@ pub(crate) fn names_in(alloc: Global, root: &Value) -> Result<Vec<&str>, NoMemor
 fn push_names<'a>(list: &'a [Value], names: &mut Vec<&'a str>) -> Result<(), NoMemory>
     ensures { OnOk result (map (λ name. name.now) names.new.items
         ≡ map (λ name. name.now) names.old.items
-            ++ map pool_named (texts_of (items_view list.now))) }
+        ++ map pool_named (texts_of (items_view list.now))) }
 {
     for value in list {
         names.push(pool_named(text_of(value)))?;

@@ -62,7 +62,7 @@ fn append_unread(
 ) -> Result<(), NoMemory>
     ensures { OnOk result (out.new.items ≡ out.old.items
         ++ ignored_text place.now (map (λ key. key.now) keys.now)
-            (members_view members.now.entries)) }
+        (members_view members.now.entries)) }
 {
     for (key, _) in members {
         append_key(alloc, out, place, keys, key.as_str())?;
