@@ -1,4 +1,5 @@
 pub mod Parts
 pub mod Printing
+pub mod Reasons
 pub mod Reports
 pub mod Warnings

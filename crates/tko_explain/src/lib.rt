@@ -1,11 +1,14 @@
 //! What a configuration's text says, for an operator to read.
 //!
 //! - `report`: what a configuration means, and what in it has no effect.
+//! - `reason`: why a text is no configuration.
 #![tactic(auto)]
 
 mod parts;
 mod printing;
+mod reasons;
 mod reporting;
 mod warnings;
 
+pub use reasons::reason;
 pub use reporting::report;

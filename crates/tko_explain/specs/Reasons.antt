@@ -1,0 +1,105 @@
+-- The line that says why a text is no configuration.
+use Rattle.std.specs.Prelude.{◌≡◌, ℕ, ◌==◌, Bool, ◌&&◌, not, if◌then◌else◌, List, [], ◌∷◌, ◌++◌, Option, Some, None, codes, decimal, length, option_map, string_bytes, take, unwrap_or, false}
+use Rattle.std.specs.List.{list_all, position_from}
+use Rattle.std.specs.Str.{IsUtf8, bytes_eq}
+use Rattle.json.specs.Print.{quoted}
+use Rattle.serde_json.specs.Data.{Data, null, boolean, number, string, array, object}
+use Rattle.serde_json.specs.Find.{as_object, get}
+use Rattle.serde_json.specs.Read.{read}
+use Rattle.tko_pools.specs.Addresses.{is_address}
+use Rattle.tko_pools.specs.Configs.{IsRoot}
+use Rattle.tko_pools.specs.Json.{Pool, child_prefix, pool_list, pools_of, text_of}
+use Rattle.tko_pools.specs.declared.fault.ConfigFault.{ConfigFault}
+use Rattle.tko_pools.specs.declared.fault.ConfigFault.TheVariants as fault
+use Rattle.tko_explain.specs.Parts.{list_in, members_in}
+
+-- the place of the first text that is no address, counted from 1
+abbrev pub bad_place : List (List ℕ) → Option ℕ
+bad_place texts = position_from (λ text. not (is_address text)) 1 texts
+
+-- a place in the list of a pool, or without one these words
+abbrev pub place_or : List ℕ → Option ℕ → List ℕ → List ℕ
+place_or name (Some place) others =
+    codes "pool " ++ quoted name ++ codes ", server " ++ decimal place ++ codes ": "
+place_or name None others = others
+
+-- where the first text stands that is no address
+abbrev pub place_text : List Pool → List ℕ
+place_text [] = []
+place_text (pool ∷ pools) = place_or pool.name (bad_place pool.servers) (place_text pools)
+
+-- the same in the object of pools of a configuration
+abbrev pub root_place_text : Data → List ℕ
+root_place_text root =
+    place_text (pools_of (members_in (unwrap_or (get (codes "pools") root) root)))
+
+-- why a text is no address
+abbrev pub address_text : List ℕ → List ℕ
+address_text text =
+    if length text == 0 then codes "it is empty or no text"
+    else quoted text ++ codes " is no address <host>:<port>"
+
+abbrev pub names_failover : Option Data → Bool
+names_failover kind =
+    unwrap_or (option_map (λ value. bytes_eq (text_of value) (codes "FailoverRoute")) kind) false
+
+abbrev pub is_child : List ℕ → Bool
+is_child text = bytes_eq (take (length child_prefix) text) child_prefix
+
+-- whether there is one or more, and each is the text of a child
+abbrev pub are_children : List (List ℕ) → Bool
+are_children texts = not (length texts == 0) && list_all is_child texts
+
+-- what is wrong with a route that is an object
+abbrev pub object_text : Data → List ℕ
+object_text route =
+    if not (names_failover (get (codes "type") route))
+    then codes "the route's type is not FailoverRoute"
+    else if not (are_children (list_in (codes "children") route))
+    then codes "the route's children are no list of one or more texts PoolRoute|<pool>"
+    else codes "the route's failover_exptime is no whole number from 0 to 2147483647"
+
+-- what is wrong with a route, if there is one
+abbrev pub route_text : Option Data → List ℕ
+route_text None = codes "there is no route"
+route_text (Some null) = codes "the route is neither a text nor an object"
+route_text (Some (boolean b)) = codes "the route is neither a text nor an object"
+route_text (Some (number n)) = codes "the route is neither a text nor an object"
+route_text (Some (array items)) = codes "the route is neither a text nor an object"
+route_text (Some (string text)) = codes "the route is a text, but not PoolRoute|<pool>"
+route_text (Some (object members)) = object_text (object members)
+
+-- what is wrong with this object, as a fault tells it
+abbrev pub flaw_text : Data → ConfigFault → List ℕ
+flaw_text root fault.Json = codes "the JSON is no object"
+flaw_text root fault.NoPools = codes "there is no object of pools"
+flaw_text root (fault.EmptyPool name) =
+    codes "pool " ++ quoted (string_bytes name) ++ codes " has no list of one or more servers"
+flaw_text root (fault.Address text) =
+    root_place_text root ++ address_text (string_bytes text)
+flaw_text root fault.Route = route_text (get (codes "route") root)
+flaw_text root (fault.NoSuchPool name) =
+    codes "the route names pool " ++ quoted (string_bytes name) ++ codes ", which is not there"
+flaw_text root fault.TooManyServers = codes "the route has more than 256 servers"
+flaw_text root fault.Memory = codes "memory ran out"
+
+-- a line of these words
+abbrev pub reason_line : List ℕ → List ℕ
+reason_line words = codes "config: " ++ words ++ codes "\n"
+
+-- what the reader of JSON says of a text that is none, with its line and column
+pub record IsNoJson (json line : List ℕ) : Type 0 where
+  pub none : IsUtf8 json → read json ≡ None
+  pub detail : List ℕ
+  pub is : line ≡ reason_line detail
+
+-- what is wrong with the value of a text
+pub record IsFlawOf (json : List ℕ) (cause : ConfigFault) (line : List ℕ) : Type 0 where
+  pub root : Data
+  pub reads : read json ≡ Some root
+  pub is : line ≡ reason_line (flaw_text root cause)
+
+-- the line says why a text is no configuration, where this is the fault
+pub data IsReasonOf (json : List ℕ) (cause : ConfigFault) (line : List ℕ) : Type 0 where
+  NoJson : IsNoJson json line → IsReasonOf json cause line
+  Flawed : IsFlawOf json cause line → IsReasonOf json cause line

@@ -1,0 +1,189 @@
+//! Why a text is no configuration, as a line. Where memory runs out, the buffer may hold a part of
+//! it.
+ghost use Rattle.std.specs.Prelude.{◌≡◌, ◌++◌, [], Some, IfOk, OnOk, option_map};
+ghost use Rattle.serde_json.specs.View.{items_view, members_view, view};
+ghost use Rattle.tko_explain.specs.Reasons.{IsReasonOf, address_text, are_children, bad_place, flaw_text, is_child, names_failover, object_text, place_or, place_text, reason_line, root_place_text, route_text};
+ghost use Rattle.tko_pools.specs.Json.{pools_of, texts_of};
+
+use crate::parts::{list_in, text_of};
+use crate::printing::append_around;
+use serde_json::{Map, Value};
+use std::alloc::Global;
+use tko_bytes::NoMemory;
+use tko_model::append_number;
+use tko_pools::{ConfigFault, is_address};
+
+const CHILD_PREFIX: &str = "PoolRoute|";
+
+/// The line that says why a text is no configuration, where this is its fault: with the pool, the
+/// place in its list and the text of an address, or with what `serde_json` says of a text that is
+/// no JSON.
+pub fn reason(alloc: Global, json: &[u8], fault: &ConfigFault) -> Result<Vec<u8>, NoMemory>
+    ensures { IfOk result (λ line. IsReasonOf json.now fault.now line.items) }
+{
+    match Value::from_slice(alloc, json) {
+        Ok(root) => {
+            let words = flaw_words(alloc, &root, fault)?;
+            reason_line(alloc, &words)
+        }
+        Err(error) if error.is_memory() => Err(NoMemory),
+        Err(error) => {
+            let words = format!(in alloc; "{error}")?;
+            reason_line(alloc, words.as_bytes())
+        }
+    }
+}
+
+/// A line of these words.
+fn reason_line(alloc: Global, words: &[u8]) -> Result<Vec<u8>, NoMemory>
+    ensures { IfOk result (λ line. line.items ≡ reason_line words.now) }
+{
+    let mut line = Vec::from_slice(alloc, b"config: ")?;
+    line.extend_from_slice(words)?;
+    line.extend_from_slice(b"\n")?;
+    Ok(line)
+}
+
+/// What is wrong with this object, as a fault tells it.
+fn flaw_words(alloc: Global, root: &Value, fault: &ConfigFault) -> Result<Vec<u8>, NoMemory>
+    ensures { IfOk result (λ words. words.items ≡ flaw_text (view root.now) fault.now) }
+{
+    let mut out = Vec::new(alloc);
+    match fault {
+        ConfigFault::Json => out.extend_from_slice(b"the JSON is no object")?,
+        ConfigFault::NoPools => out.extend_from_slice(b"there is no object of pools")?,
+        ConfigFault::EmptyPool(name) => {
+            let end = b" has no list of one or more servers";
+            append_around(alloc, &mut out, b"pool ", name.as_str(), b"", end)?;
+        }
+        ConfigFault::Address(text) => {
+            append_root_place(alloc, &mut out, root)?;
+            append_address(alloc, &mut out, text.as_str())?;
+        }
+        ConfigFault::Route => out.extend_from_slice(route_text(root.get("route")).as_bytes())?,
+        ConfigFault::NoSuchPool(name) => {
+            let (before, end) = (b"the route names pool ", b", which is not there");
+            append_around(alloc, &mut out, before, name.as_str(), b"", end)?;
+        }
+        ConfigFault::TooManyServers => {
+            out.extend_from_slice(b"the route has more than 256 servers")?;
+        }
+        ConfigFault::Memory => out.extend_from_slice(b"memory ran out")?,
+    }
+    Ok(out)
+}
+
+/// Appends where the first item of a pool's list stands that is no address.
+fn append_root_place(alloc: Global, out: &mut Vec<u8>, root: &Value) -> Result<(), NoMemory>
+    ensures { OnOk result (out.new.items ≡ out.old.items ++ root_place_text (view root.now)) }
+{
+    match root.get("pools").unwrap_or(root).as_object() {
+        Some(pools) => append_place(alloc, out, pools),
+        None => Ok(()),
+    }
+}
+
+fn append_place(
+    alloc: Global,
+    out: &mut Vec<u8>,
+    pools: &Map<String, Value>,
+) -> Result<(), NoMemory>
+    ensures { OnOk result (out.new.items
+        ≡ out.old.items ++ place_text (pools_of (members_view pools.now.entries))) }
+{
+    for (name, pool) in pools {
+        if let Some(place) = bad_place(list_in("servers", pool)) {
+            return append_server(alloc, out, name.as_str(), place);
+        }
+    }
+    Ok(())
+}
+
+/// Appends a place in the list of a pool.
+fn append_server(alloc: Global, out: &mut Vec<u8>, name: &str, place: usize) -> Result<(), NoMemory>
+    ensures { OnOk result
+        (out.new.items ≡ out.old.items ++ place_or name.now (Some place) []) }
+{
+    append_around(alloc, out, b"pool ", name, b"", b", server ")?;
+    append_number(out, b"", place as u64)?;
+    out.extend_from_slice(b": ")?;
+    Ok(())
+}
+
+/// The place of the first item of a list that is no address, counted from 1.
+fn bad_place(servers: &[Value]) -> Option<usize>
+    ensures { result ≡ bad_place (texts_of (items_view servers.now)) }
+{
+    for (index, value) in servers.iter().enumerate() {
+        if !is_address(text_of(value).as_bytes()) {
+            return Some(index + 1);
+        }
+    }
+    None
+}
+
+/// Appends why a text is no address.
+fn append_address(alloc: Global, out: &mut Vec<u8>, text: &str) -> Result<(), NoMemory>
+    ensures { OnOk result (out.new.items ≡ out.old.items ++ address_text text.now) }
+{
+    if text.is_empty() {
+        out.extend_from_slice(b"it is empty or no text")?;
+        return Ok(());
+    }
+    append_around(alloc, out, b"", text, b"", b" is no address <host>:<port>")
+}
+
+/// What is wrong with a route, if there is one.
+fn route_text(route: Option<&Value>) -> &'static str
+    ensures { result.now ≡ route_text (option_map (λ route. view route.now) route.entry) }
+{
+    let Some(route) = route else {
+        return "there is no route";
+    };
+    match route {
+        Value::String(_) => "the route is a text, but not PoolRoute|<pool>",
+        Value::Object(_) => object_text(route),
+        Value::Null | Value::Bool(_) | Value::Number(_) | Value::Array(_) =>
+            "the route is neither a text nor an object",
+    }
+}
+
+/// What is wrong with a route that is an object.
+fn object_text(route: &Value) -> &'static str
+    ensures { result.now ≡ object_text (view route.now) }
+{
+    if !names_failover(route.get("type")) {
+        "the route's type is not FailoverRoute"
+    } else if !are_children(list_in("children", route)) {
+        "the route's children are no list of one or more texts PoolRoute|<pool>"
+    } else {
+        "the route's failover_exptime is no whole number from 0 to 2147483647"
+    }
+}
+
+fn names_failover(kind: Option<&Value>) -> bool
+    ensures { result ≡ names_failover (option_map (λ kind. view kind.now) kind.entry) }
+{
+    match kind {
+        Some(value) => text_of(value) == "FailoverRoute",
+        None => false,
+    }
+}
+
+/// Whether there is one or more, and each is the text of a child.
+fn are_children(list: &[Value]) -> bool
+    ensures { result ≡ are_children (texts_of (items_view list.now)) }
+{
+    for value in list {
+        if !is_child(text_of(value)) {
+            return false;
+        }
+    }
+    !list.is_empty()
+}
+
+fn is_child(text: &str) -> bool
+    ensures { result ≡ is_child text.now }
+{
+    text.strip_prefix(CHILD_PREFIX).is_some()
+}
