@@ -8,34 +8,32 @@ use Rattle.tko_model.specs.declared.settings.SettingsFault.{SettingsFault}
 use Rattle.tko_pools.specs.Configs.{Refuses}
 use Rattle.tko_pools.specs.declared.fault.ConfigFault.{ConfigFault}
 use Rattle.tko_pools.specs.declared.fault.ConfigFault.TheVariants as config_fault
-use Rattle.tko_cli.specs.declared.fault.ConfigFlaw.{ConfigFlaw}
-use Rattle.tko_cli.specs.declared.fault.ConfigFlaw.TheVariants as flaw
 use Rattle.tko_cli.specs.declared.fault.Fault.TheVariants as fault
 use Rattle.tko_options.specs.declared.dry_options.DryOptions.{DryOptions}
 use Rattle.tko_cli.specs.Configured.{IsFlawed, NoConfig, json_in, scripted_names}
 use Rattle.tko_options.specs.Trackers.{dry_settings}
 use Rattle.tko_cli.specs.Faults.{fault_of_config}
 
-flawed : (options : DryOptions) (json : List ℕ) (cause : ConfigFault) (kind : ConfigFlaw)
-    → json_in options ≡ Some json → Refuses json cause → fault_of_config cause ≡ fault.Config kind
-    → IsFlawed options kind
-flawed options json cause kind given refuses named =
-    record { json = json; given = given; cause = cause; refuses = refuses; named = named }
+flawed : (options : DryOptions) (json : List ℕ) (cause : ConfigFault)
+    → json_in options ≡ Some json → Refuses json cause → fault_of_config cause ≡ fault.Config cause
+    → IsFlawed options cause
+flawed options json cause given refuses reason =
+    record { json = json; given = given; refuses = refuses; reason = reason }
 
 -- the JSON is no configuration
 pub config_refused : (options : DryOptions) (json : List ℕ) (cause : ConfigFault)
     → json_in options ≡ Some json → Refuses json cause → NoConfig options (fault_of_config cause)
-config_refused options json config_fault.Json given r = flawed options json config_fault.Json flaw.Json given r refl
-config_refused options json config_fault.NoPools given r = flawed options json config_fault.NoPools flaw.NoPools given r refl
+config_refused options json config_fault.Json given r = flawed options json config_fault.Json given r refl
+config_refused options json config_fault.NoPools given r = flawed options json config_fault.NoPools given r refl
 config_refused options json (config_fault.EmptyPool name) given r =
-    flawed options json (config_fault.EmptyPool name) flaw.EmptyPool given r refl
+    flawed options json (config_fault.EmptyPool name) given r refl
 config_refused options json (config_fault.Address text) given r =
-    flawed options json (config_fault.Address text) flaw.Address given r refl
-config_refused options json config_fault.Route given r = flawed options json config_fault.Route flaw.Route given r refl
+    flawed options json (config_fault.Address text) given r refl
+config_refused options json config_fault.Route given r = flawed options json config_fault.Route given r refl
 config_refused options json (config_fault.NoSuchPool name) given r =
-    flawed options json (config_fault.NoSuchPool name) flaw.NoSuchPool given r refl
+    flawed options json (config_fault.NoSuchPool name) given r refl
 config_refused options json config_fault.TooManyServers given r =
-    flawed options json config_fault.TooManyServers flaw.TooManyServers given r refl
+    flawed options json config_fault.TooManyServers given r refl
 config_refused options json config_fault.Memory given r = tt
 
 -- one more name

@@ -89,11 +89,12 @@ pub not_configured : {I O : Type 0} (gives : I → List ℕ → I → Type 0) (r
     (options : DryOptions) (old : I) (from : O) (scripts : List Script) (reason : Fault)
     → AllAsk (words_in options) scripts → NoConfig options reason
     → DryFails gives read_failures write_failures options old old from from reason
-not_configured gives read_failures write_failures options old from scripts (fault.Config flaw) asked flawed =
+not_configured gives read_failures write_failures options old from scripts (fault.Config cause) asked flawed =
     (record { scripts = scripts; asked = asked; flawed = flawed }, refl, refl)
 not_configured gives read_failures write_failures options old from scripts (fault.Settings name) asked unset =
     (outside_alone options name scripts asked unset, refl, refl)
 not_configured gives read_failures write_failures options old from scripts fault.Memory asked none = tt
+not_configured gives read_failures write_failures options old from scripts fault.ConfigFile asked none = absurd none
 not_configured gives read_failures write_failures options old from scripts fault.Read asked none = absurd none
 not_configured gives read_failures write_failures options old from scripts fault.Write asked none = absurd none
 not_configured gives read_failures write_failures options old from scripts fault.LineTooLong asked none = absurd none

@@ -1,9 +1,8 @@
 -- What was written for a fault.
-use Rattle.std.proofs.Common.{◌≡◌, ℕ, ◌<◌, List, inl, inr, refl, OnErr, OnOk, Result, Ok, Err}
+use Rattle.std.proofs.Common.{◌≡◌, ℕ, ◌<◌, List, refl, OnErr, OnOk, Result, Ok, Err}
 use Rattle.tko_cli.specs.declared.fault.Fault.{Fault}
-use Rattle.tko_cli.specs.declared.fault.Fault.TheVariants as fault
 use Rattle.tko_cli.specs.FaultLines.{IsFaultTold, AfterReason, AfterNotices, IsReasonTold, IsFaultWritten, Written, Failed, HasLine}
-use Rattle.tko_cli.specs.Reasons.{HasLineOf, LeftOut, IsReason}
+use Rattle.tko_cli.specs.Reasons.{HasLineOf, LeftOut}
 use Rattle.tko_cli.specs.Serving.{IsSilentOrBegun, Silent, Begun}
 
 -- what holds where it is Ok
@@ -17,27 +16,22 @@ on_err (Ok value) holds = tt
 on_err (Err error) holds = holds
 
 -- the line of a fault alone
-pub told_alone : {F : Type 0} (notes : F → List ℕ → F → Type 0) (faults : F → ℕ) (old new : F)
-    → IsFaultWritten notes faults old new → IsReasonTold notes faults old new
-told_alone notes faults old new told = record { middle = old; reason = LeftOut refl; line = told }
+pub told_alone : {F : Type 0} (notes : F → List ℕ → F → Type 0) (faults : F → ℕ) (reason : Fault) (old new : F)
+    → IsFaultWritten notes faults reason old new → IsReasonTold notes faults old new
+told_alone notes faults reason old new told = record { middle = old; fault = reason; reason = LeftOut refl; line = told }
 
 -- the line of a fault after what a server noted
 pub fault_told : {O F : Type 0} (takes : O → List ℕ → O → Type 0) (failures : O → ℕ) (notes : F → List ℕ → F → Type 0)
-    (faults : F → ℕ) (from to : O) (old middle new : F) → IsSilentOrBegun takes failures notes faults from to old middle
-    → IsFaultWritten notes faults middle new → IsFaultTold takes failures notes faults from to old new
-fault_told takes failures notes faults from to old middle new (Silent same) told =
-    AfterReason (record { middle = middle; reason = LeftOut same; line = told })
-fault_told takes failures notes faults from to old middle new (Begun begun noted) told =
-    AfterNotices middle begun noted told
-
-either_line : {O : Type 0} (takes : O → List ℕ → O → Type 0) (failures : O → ℕ) (reason : Fault) (old new : O)
-    → HasLine takes reason old new → IsFaultWritten takes failures old new
-either_line takes failures reason old new (inl went) = Written reason went
-either_line takes failures reason old new (inr went) = Written fault.Memory went
+    (faults : F → ℕ) (reason : Fault) (from to : O) (old middle new : F)
+    → IsSilentOrBegun takes failures notes faults from to old middle
+    → IsFaultWritten notes faults reason middle new → IsFaultTold takes failures notes faults from to old new
+fault_told takes failures notes faults reason from to old middle new (Silent same) told =
+    AfterReason (record { middle = middle; fault = reason; reason = LeftOut same; line = told })
+fault_told takes failures notes faults reason from to old middle new (Begun begun noted) told =
+    AfterNotices middle reason begun noted told
 
 pub is_fault_written : {O T E : Type 0} (takes : O → List ℕ → O → Type 0) (failures : O → ℕ) (reason : Fault) (old new : O)
     (result : Result T E) → OnOk result (HasLine takes reason old new) → OnErr result (failures old < failures new)
-    → IsFaultWritten takes failures old new
-is_fault_written takes failures reason old new (Ok value) line failed =
-    either_line takes failures reason old new line
+    → IsFaultWritten takes failures reason old new
+is_fault_written takes failures reason old new (Ok value) line failed = Written line
 is_fault_written takes failures reason old new (Err error) line failed = Failed failed

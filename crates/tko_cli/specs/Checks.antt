@@ -4,7 +4,6 @@ use Rattle.tko_explain.specs.Reports.{IsReport}
 use Rattle.tko_pools.specs.Configs.{Refuses}
 use Rattle.tko_pools.specs.declared.fault.ConfigFault.{ConfigFault}
 use Rattle.tko_cli.specs.Faults.{fault_of_config}
-use Rattle.tko_cli.specs.declared.fault.ConfigFlaw.{ConfigFlaw}
 use Rattle.tko_cli.specs.declared.fault.Fault.{Fault}
 use Rattle.tko_cli.specs.declared.fault.Fault.TheVariants as fault
 
@@ -15,16 +14,15 @@ pub record HasChecked {O : Type 0} (takes : O → List ℕ → O → Type 0) (js
   pub report : IsReport json keys printed
   pub went : takes from printed to
 
--- the text is no configuration, for this reason
-pub record IsRefusedText (json : List ℕ) (flaw : ConfigFlaw) : Type 0 where
-  pub cause : ConfigFault
+-- the text is no configuration, and this is the first reason against it
+pub record IsRefusedText (json : List ℕ) (cause : ConfigFault) : Type 0 where
   pub refuses : Refuses json cause
-  pub named : fault_of_config cause ≡ fault.Config flaw
+  pub reason : fault_of_config cause ≡ fault.Config cause
 
 -- why it fails: the text is no configuration, or memory ran out, and then nothing was written; or
 -- the outlet failed
 abbrev pub CheckFails : {O : Type 0} → (O → ℕ) → List ℕ → O → O → Fault → Type 0
-CheckFails failures json from to (fault.Config flaw) = IsRefusedText json flaw × (to ≡ from)
+CheckFails failures json from to (fault.Config cause) = IsRefusedText json cause × (to ≡ from)
 CheckFails failures json from to fault.Write = failures from < failures to
 CheckFails failures json from to fault.Memory = to ≡ from
 CheckFails failures json from to other = ⊥

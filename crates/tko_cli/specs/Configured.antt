@@ -4,7 +4,6 @@ use Rattle.tko_model.specs.Ranges.{first_fault}
 use Rattle.tko_model.specs.declared.settings.SettingsFault.{SettingsFault}
 use Rattle.tko_pools.specs.Configs.{Configuration, Means, Refuses, in_order, numbers_below}
 use Rattle.tko_pools.specs.declared.fault.ConfigFault.{ConfigFault}
-use Rattle.tko_cli.specs.declared.fault.ConfigFlaw.{ConfigFlaw}
 use Rattle.tko_cli.specs.declared.fault.Fault.{Fault}
 use Rattle.tko_cli.specs.declared.fault.Fault.TheVariants as fault
 use Rattle.tko_options.specs.declared.dry_options.DryOptions.{DryOptions}
@@ -30,12 +29,11 @@ pub record IsConfigured (options : DryOptions) (config : Configuration) : Type 0
   pub named : ConfigOf (json_in options) options.servers config
 
 -- the JSON is no configuration, for this reason
-pub record IsFlawed (options : DryOptions) (flaw : ConfigFlaw) : Type 0 where
+pub record IsFlawed (options : DryOptions) (cause : ConfigFault) : Type 0 where
   pub json : List ℕ
   pub given : json_in options ≡ Some json
-  pub cause : ConfigFault
   pub refuses : Refuses json cause
-  pub named : fault_of_config cause ≡ fault.Config flaw
+  pub reason : fault_of_config cause ≡ fault.Config cause
 
 -- without a configuration, this setting is the first one outside its range
 pub record IsUnset (options : DryOptions) (name : SettingsFault) : Type 0 where
@@ -44,7 +42,7 @@ pub record IsUnset (options : DryOptions) (name : SettingsFault) : Type 0 where
 
 -- why the options name no configuration
 abbrev pub NoConfig : DryOptions → Fault → Type 0
-NoConfig options (fault.Config flaw) = IsFlawed options flaw
+NoConfig options (fault.Config cause) = IsFlawed options cause
 NoConfig options (fault.Settings name) = IsUnset options name
 NoConfig options fault.Memory = Unit {0}
 NoConfig options _ = ⊥

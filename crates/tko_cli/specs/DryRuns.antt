@@ -18,8 +18,8 @@ use Rattle.tko_session.specs.Served.{CameTooLong, Served}
 use Rattle.tko_session.specs.SessionState.{probed_by, sent_by}
 use Rattle.tko_session.specs.TrailEvents.{Keeps}
 use Rattle.tko_pools.specs.Configs.{Configuration}
+use Rattle.tko_pools.specs.declared.fault.ConfigFault.{ConfigFault}
 use Rattle.tko_cli.specs.Configured.{IsConfigured, IsFlawed}
-use Rattle.tko_cli.specs.declared.fault.ConfigFlaw.{ConfigFlaw}
 use Rattle.tko_cli.specs.declared.fault.Fault.{Fault}
 use Rattle.tko_cli.specs.declared.fault.Fault.TheVariants as fault
 use Rattle.tko_options.specs.declared.dry_options.DryOptions.{DryOptions}
@@ -75,10 +75,10 @@ pub record Begins (options : DryOptions) (parts : DryParts) : Type 0 where
       (opened (dry_settings options (length parts.config.addresses))) parts
 
 -- every word of the list is good, the JSON is no configuration, and this is what is wrong with it
-pub record IsNoConfig (options : DryOptions) (flaw : ConfigFlaw) : Type 0 where
+pub record IsNoConfig (options : DryOptions) (cause : ConfigFault) : Type 0 where
   pub scripts : List Script
   pub asked : AllAsk (words_in options) scripts
-  pub flawed : IsFlawed options flaw
+  pub flawed : IsFlawed options cause
 
 -- every word of the list is good, so is the configuration, and this is the first setting that is
 -- outside its range
@@ -129,8 +129,8 @@ module _ {I O : Type 0} (gives : I → List ℕ → I → Type 0)
   abbrev pub DryFails : DryOptions → I → I → O → O → Fault → Type 0
   DryFails options old new from to (fault.Outcomes number) =
       (first_bad (words_in options) ≡ Some number) × (new ≡ old) × (to ≡ from)
-  DryFails options old new from to (fault.Config flaw) =
-      IsNoConfig options flaw × (new ≡ old) × (to ≡ from)
+  DryFails options old new from to (fault.Config cause) =
+      IsNoConfig options cause × (new ≡ old) × (to ≡ from)
   DryFails options old new from to (fault.Settings name) =
       IsOutside options name × (new ≡ old) × (to ≡ from)
   DryFails options old new from to fault.Read = read_failures old < read_failures new
@@ -139,6 +139,7 @@ module _ {I O : Type 0} (gives : I → List ℕ → I → Type 0)
   DryFails options old new from to fault.Memory = Unit {0}
   DryFails options old new from to (fault.Line number) = ⊥
   DryFails options old new from to fault.Check = ⊥
+  DryFails options old new from to fault.ConfigFile = ⊥
   DryFails options old new from to fault.Delays = ⊥
   DryFails options old new from to fault.Listen = ⊥
   DryFails options old new from to fault.Accept = ⊥

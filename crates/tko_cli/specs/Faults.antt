@@ -14,8 +14,6 @@ use Rattle.tko_session.specs.declared.fault.SessionFault.{SessionFault}
 use Rattle.tko_session.specs.declared.fault.SessionFault.TheVariants as session_fault
 use Rattle.tko_pools.specs.declared.fault.ConfigFault.{ConfigFault}
 use Rattle.tko_pools.specs.declared.fault.ConfigFault.TheVariants as config_fault
-use Rattle.tko_cli.specs.declared.fault.ConfigFlaw.{ConfigFlaw}
-use Rattle.tko_cli.specs.declared.fault.ConfigFlaw.TheVariants as flaw
 use Rattle.tko_cli.specs.declared.fault.Fault.{Fault}
 use Rattle.tko_cli.specs.declared.fault.Fault.TheVariants as fault
 use Rattle.tko_cli.specs.declared.outcomes.OutcomesFault.{OutcomesFault}
@@ -32,16 +30,16 @@ setting_name setting.Limit = codes "limit"
 setting_name setting.Tries = codes "tries"
 setting_name setting.Stamp = codes "stamp"
 
--- the word that names what is wrong with a configuration
-abbrev pub config_name : ConfigFlaw → List ℕ
-config_name flaw.Json = codes "json"
-config_name flaw.NoPools = codes "no-pools"
-config_name flaw.EmptyPool = codes "empty-pool"
-config_name flaw.Address = codes "address"
-config_name flaw.Route = codes "route"
-config_name flaw.NoSuchPool = codes "no-such-pool"
-config_name flaw.TooManyServers = codes "too-many-servers"
-config_name flaw.File = codes "file"
+-- the word that names why a text is no configuration
+abbrev pub config_name : ConfigFault → List ℕ
+config_name config_fault.Json = codes "json"
+config_name config_fault.NoPools = codes "no-pools"
+config_name (config_fault.EmptyPool name) = codes "empty-pool"
+config_name (config_fault.Address text) = codes "address"
+config_name config_fault.Route = codes "route"
+config_name (config_fault.NoSuchPool name) = codes "no-such-pool"
+config_name config_fault.TooManyServers = codes "too-many-servers"
+config_name config_fault.Memory = codes "memory"
 
 -- the line of a fault, without its LF
 abbrev pub fault_line : Fault → List ℕ
@@ -50,7 +48,8 @@ fault_line fault.Write = codes "fault: write"
 fault_line fault.LineTooLong = codes "fault: line too long"
 fault_line fault.Memory = codes "fault: memory"
 fault_line (fault.Settings name) = codes "fault: settings " ++ setting_name name
-fault_line (fault.Config kind) = codes "fault: config " ++ config_name kind
+fault_line (fault.Config cause) = codes "fault: config " ++ config_name cause
+fault_line fault.ConfigFile = codes "fault: config file"
 fault_line (fault.Outcomes number) = codes "fault: outcomes " ++ decimal number
 fault_line (fault.Line number) = codes "fault: schedule line " ++ decimal number
 fault_line fault.Check = codes "fault: check"
@@ -65,13 +64,13 @@ fault_of_outcomes outcomes_fault.Memory = fault.Memory
 
 -- of a configuration
 abbrev pub fault_of_config : ConfigFault → Fault
-fault_of_config config_fault.Json = fault.Config flaw.Json
-fault_of_config config_fault.NoPools = fault.Config flaw.NoPools
-fault_of_config (config_fault.EmptyPool name) = fault.Config flaw.EmptyPool
-fault_of_config (config_fault.Address text) = fault.Config flaw.Address
-fault_of_config config_fault.Route = fault.Config flaw.Route
-fault_of_config (config_fault.NoSuchPool name) = fault.Config flaw.NoSuchPool
-fault_of_config config_fault.TooManyServers = fault.Config flaw.TooManyServers
+fault_of_config config_fault.Json = fault.Config config_fault.Json
+fault_of_config config_fault.NoPools = fault.Config config_fault.NoPools
+fault_of_config (config_fault.EmptyPool name) = fault.Config (config_fault.EmptyPool name)
+fault_of_config (config_fault.Address text) = fault.Config (config_fault.Address text)
+fault_of_config config_fault.Route = fault.Config config_fault.Route
+fault_of_config (config_fault.NoSuchPool name) = fault.Config (config_fault.NoSuchPool name)
+fault_of_config config_fault.TooManyServers = fault.Config config_fault.TooManyServers
 fault_of_config config_fault.Memory = fault.Memory
 
 -- of opening a tracker

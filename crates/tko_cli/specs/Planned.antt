@@ -10,7 +10,6 @@ use Rattle.tko_server.specs.declared.patience.Patience.{Patience}
 use Rattle.tko_server.specs.declared.running.Options.{Options as Server}
 use Rattle.tko_options.specs.Trackers.{serve_settings}
 use Rattle.tko_cli.specs.Faults.{fault_of_config}
-use Rattle.tko_cli.specs.declared.fault.ConfigFlaw.{ConfigFlaw}
 use Rattle.tko_cli.specs.declared.fault.Fault.{Fault}
 use Rattle.tko_cli.specs.declared.fault.Fault.TheVariants as fault
 use Rattle.tko_cli.specs.declared.planned.Plan.{Plan}
@@ -46,10 +45,9 @@ pub record IsServerOf (plan : Plan) (options : ServeOptions) (allowed : Option �
   pub connections : server.connections ≡ options.connections
 
 -- this is what is wrong with the JSON
-pub record IsFlawedPlan (options : ServeOptions) (flaw : ConfigFlaw) : Type 0 where
-  pub cause : ConfigFault
+pub record IsFlawedPlan (options : ServeOptions) (cause : ConfigFault) : Type 0 where
   pub refuses : Refuses (string_bytes options.config) cause
-  pub named : fault_of_config cause ≡ fault.Config flaw
+  pub reason : fault_of_config cause ≡ fault.Config cause
 
 -- the JSON is a configuration, and this setting is the first one outside its range
 pub record IsUnsetPlan (options : ServeOptions) (name : SettingsFault) : Type 0 where
@@ -76,7 +74,7 @@ pub record HasNoAddress (options : ServeOptions) : Type 0 where
 
 -- why the options name nothing to run on: the first reason
 abbrev pub NoPlan : ServeOptions → Fault → Type 0
-NoPlan options (fault.Config flaw) = IsFlawedPlan options flaw
+NoPlan options (fault.Config cause) = IsFlawedPlan options cause
 NoPlan options (fault.Settings name) = IsUnsetPlan options name
 NoPlan options fault.Delays = HasBadDelays options
 NoPlan options fault.Listen = HasNoAddress options

@@ -1,6 +1,7 @@
 -- The line that says why in words, before the line of a fault.
 use Rattle.std.specs.Prelude.{◌≡◌, ◌<◌, ℕ, List, ◌++◌, None, codes}
-use Rattle.tko_cli.specs.declared.fault.ConfigFlaw.TheVariants as flaw
+use Rattle.tko_explain.specs.Reasons.{IsReasonOf}
+use Rattle.tko_pools.specs.declared.fault.ConfigFault.{ConfigFault}
 use Rattle.tko_cli.specs.declared.fault.Fault.{Fault}
 use Rattle.tko_cli.specs.declared.fault.Fault.TheVariants as fault
 use Rattle.tko_options.specs.declared.check_options.CheckOptions.{CheckOptions}
@@ -12,9 +13,12 @@ pub record IsFileReason (path line : List ℕ) : Type 0 where
   pub detail : List ℕ
   pub is : line ≡ codes "config: " ++ path ++ codes ": " ++ detail ++ codes "\n"
 
--- a line that says why
-pub data IsReason (line : List ℕ) : Type 0 where
-  OfFile : (path : List ℕ) → IsFileReason path line → IsReason line
+-- a line that says why a command ends with a fault: of which text the configuration is to be, or
+-- which file cannot be read. No other fault has one.
+abbrev pub IsReasonFor : Fault → List ℕ → Type 0
+IsReasonFor (fault.Config cause) line = (json : List ℕ) × IsReasonOf json cause line
+IsReasonFor fault.ConfigFile line = (path : List ℕ) × IsFileReason path line
+IsReasonFor other line = ⊥
 
 -- such a line was written, or nothing, or the outlet failed
 pub data HasLineOf {O : Type 0} (takes : O → List ℕ → O → Type 0) (failures : O → ℕ)
@@ -25,7 +29,7 @@ pub data HasLineOf {O : Type 0} (takes : O → List ℕ → O → Type 0) (failu
 
 -- the faults of a file that cannot be read
 abbrev pub IsFileFault : Fault → Type 0
-IsFileFault (fault.Config flaw.File) = Unit {0}
+IsFileFault fault.ConfigFile = Unit {0}
 IsFileFault fault.Memory = Unit {0}
 IsFileFault other = ⊥
 

@@ -40,6 +40,11 @@ pub data IsSilentOrBegun {O F : Type 0} (takes : O → List ℕ → O → Type 0
   Begun : HasBegun takes failures from to → HasNotices notes faults old new
       → IsSilentOrBegun takes failures notes faults from to old new
 
+-- the text is no configuration
+abbrev pub IsConfig : Fault → Type 0
+IsConfig (fault.Config cause) = Unit {0}
+IsConfig other = ⊥
+
 -- `ready` went out and nothing else
 pub record IsReady {O : Type 0} (takes : O → List ℕ → O → Type 0) (options : ServeOptions)
     (from to : O) : Type 0 where

@@ -1,9 +1,9 @@
 //! Which fault of the program each cause is.
 
+use crate::Fault;
 use crate::outcomes::OutcomesFault;
 use crate::reading::ReadFault;
 use crate::writing::WriteFault;
-use crate::{ConfigFlaw, Fault};
 use std::alloc::AllocError;
 use tko_bytes::NoMemory;
 use tko_model::{OpenFault, SettingsFault};
@@ -19,14 +19,8 @@ impl From<ConfigFault> for Fault {
 
     fn from(cause: ConfigFault) -> Fault {
         match cause {
-            ConfigFault::Json => Fault::Config(ConfigFlaw::Json),
-            ConfigFault::NoPools => Fault::Config(ConfigFlaw::NoPools),
-            ConfigFault::EmptyPool(_) => Fault::Config(ConfigFlaw::EmptyPool),
-            ConfigFault::Address(_) => Fault::Config(ConfigFlaw::Address),
-            ConfigFault::Route => Fault::Config(ConfigFlaw::Route),
-            ConfigFault::NoSuchPool(_) => Fault::Config(ConfigFlaw::NoSuchPool),
-            ConfigFault::TooManyServers => Fault::Config(ConfigFlaw::TooManyServers),
             ConfigFault::Memory => Fault::Memory,
+            cause => Fault::Config(cause),
         }
     }
 }

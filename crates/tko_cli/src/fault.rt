@@ -5,17 +5,20 @@ ghost use Rattle.tko_cli.specs.Faults.{config_name, setting_name};
 use std::error::Error;
 use std::fmt;
 use tko_model::SettingsFault;
+use tko_pools::ConfigFault;
 
 /// Why a command ended with status 1. It prints as the line that reports it, without its LF.
-#[derive(Clone, Copy, Debug, PartialEq, Eq)]
+#[derive(Debug, Drop)]
 pub enum Fault {
     Read,
     Write,
     LineTooLong,
     Memory,
     Settings(SettingsFault),
-    /// What is wrong with the configuration.
-    Config(ConfigFlaw),
+    /// Why the text is no configuration.
+    Config(ConfigFault),
+    /// The file of the configuration cannot be read.
+    ConfigFile,
     /// The number of the first bad word of `--outcomes`, counted from 1.
     Outcomes(usize),
     /// The number of a schedule's first bad line, counted from 1; 0 where the text is too long.
@@ -28,20 +31,6 @@ pub enum Fault {
     Listen,
     /// The listener failed.
     Accept,
-}
-
-/// What is wrong with a configuration, without the text in question.
-#[derive(Clone, Copy, Debug, PartialEq, Eq)]
-pub enum ConfigFlaw {
-    Json,
-    NoPools,
-    EmptyPool,
-    Address,
-    Route,
-    NoSuchPool,
-    TooManyServers,
-    /// Its file cannot be read.
-    File,
 }
 
 impl fmt::Display for Fault {
@@ -60,10 +49,11 @@ impl fmt::Display for Fault {
                 let name = setting_name(*setting);
                 write!(f, "fault: settings {name}")
             }
-            Fault::Config(flaw) => {
-                let name = config_name(*flaw);
+            Fault::Config(cause) => {
+                let name = config_name(cause);
                 write!(f, "fault: config {name}")
             }
+            Fault::ConfigFile => f.write_str("fault: config file"),
             Fault::Outcomes(number) => write!(f, "fault: outcomes {number}"),
             Fault::Line(number) => write!(f, "fault: schedule line {number}"),
             Fault::Check => f.write_str("fault: check"),
@@ -90,18 +80,18 @@ fn setting_name(setting: SettingsFault) -> &'static str
     }
 }
 
-/// The word that names what is wrong with a configuration.
-fn config_name(flaw: ConfigFlaw) -> &'static str
-    ensures { result.now ≡ config_name flaw }
+/// The word that names why a text is no configuration.
+fn config_name(cause: &ConfigFault) -> &'static str
+    ensures { result.now ≡ config_name cause.now }
 {
-    match flaw {
-        ConfigFlaw::Json => "json",
-        ConfigFlaw::NoPools => "no-pools",
-        ConfigFlaw::EmptyPool => "empty-pool",
-        ConfigFlaw::Address => "address",
-        ConfigFlaw::Route => "route",
-        ConfigFlaw::NoSuchPool => "no-such-pool",
-        ConfigFlaw::TooManyServers => "too-many-servers",
-        ConfigFlaw::File => "file",
+    match cause {
+        ConfigFault::Json => "json",
+        ConfigFault::NoPools => "no-pools",
+        ConfigFault::EmptyPool(_) => "empty-pool",
+        ConfigFault::Address(_) => "address",
+        ConfigFault::Route => "route",
+        ConfigFault::NoSuchPool(_) => "no-such-pool",
+        ConfigFault::TooManyServers => "too-many-servers",
+        ConfigFault::Memory => "memory",
     }
 }

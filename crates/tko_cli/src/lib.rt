@@ -18,13 +18,14 @@ mod outcomes;
 mod planned;
 mod program;
 mod reading;
+mod reasons;
 mod replay;
 mod serving;
 mod totals;
 mod trail_lines;
 mod writing;
 
-pub use fault::{ConfigFlaw, Fault};
+pub use fault::Fault;
 pub use program::command;
 
 #[cfg(test)]

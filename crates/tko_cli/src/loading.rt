@@ -1,9 +1,9 @@
 //! The file of a configuration.
-ghost use Rattle.std.specs.Prelude.{◌≡◌, ◌++◌, None, Ok, IfOk, IfErr, OnOk, OnErr, codes};
-ghost use Rattle.tko_cli.specs.Reasons.{HasLineOf, IsFileFault, IsLoadedCheck, IsLoadedDry, IsLoadedServer, IsReason};
+ghost use Rattle.std.specs.Prelude.{◌≡◌, ◌++◌, None, Ok, IfOk, IfErr, OnOk, codes};
+ghost use Rattle.tko_cli.specs.Reasons.{HasLineOf, IsFileFault, IsFileReason, IsLoadedCheck, IsLoadedDry, IsLoadedServer, IsReasonFor};
 
+use crate::Fault;
 use crate::writing::write_text;
-use crate::{ConfigFlaw, Fault};
 use std::alloc::Global;
 use std::fs::{File, Files};
 use std::io;
@@ -22,7 +22,8 @@ pub(crate) fn loaded_dry<R: IoRuntime + Files, F: Outlet>(
     ensures ok { IfOk result (IsLoadedDry options) }
     ensures kept { OnOk result (faults.new ≡ faults.old) }
     ensures err { IfErr result IsFileFault }
-    ensures told { OnErr result (HasLineOf F.takes F.failures IsReason faults.old faults.new) }
+    ensures told { IfErr result (λ fault.
+        HasLineOf F.takes F.failures (IsReasonFor fault) faults.old faults.new) }
 {
     if let Some(json) = load(rt, alloc, &options.config_file, faults)? {
         options.config = Some(json);
@@ -40,7 +41,8 @@ pub(crate) fn loaded_server<R: IoRuntime + Files, F: Outlet>(
     ensures ok { IfOk result (IsLoadedServer options) }
     ensures kept { OnOk result (faults.new ≡ faults.old) }
     ensures err { IfErr result IsFileFault }
-    ensures told { OnErr result (HasLineOf F.takes F.failures IsReason faults.old faults.new) }
+    ensures told { IfErr result (λ fault.
+        HasLineOf F.takes F.failures (IsReasonFor fault) faults.old faults.new) }
 {
     if let Some(json) = load(rt, alloc, &options.config_file, faults)? {
         options.config = json;
@@ -58,7 +60,8 @@ pub(crate) fn loaded_check<R: IoRuntime + Files, F: Outlet>(
     ensures ok { IfOk result (IsLoadedCheck options) }
     ensures kept { OnOk result (faults.new ≡ faults.old) }
     ensures err { IfErr result IsFileFault }
-    ensures told { OnErr result (HasLineOf F.takes F.failures IsReason faults.old faults.new) }
+    ensures told { IfErr result (λ fault.
+        HasLineOf F.takes F.failures (IsReasonFor fault) faults.old faults.new) }
 {
     if let Some(json) = load(rt, alloc, &options.config_file, faults)? {
         options.config = json;
@@ -77,7 +80,8 @@ fn load<R: IoRuntime + Files, F: Outlet>(
     ensures alone { path.now ≡ None → (result ≡ Ok None) }
     ensures kept { OnOk result (faults.new ≡ faults.old) }
     ensures err { IfErr result IsFileFault }
-    ensures told { OnErr result (HasLineOf F.takes F.failures IsReason faults.old faults.new) }
+    ensures told { IfErr result (λ fault.
+        HasLineOf F.takes F.failures (IsReasonFor fault) faults.old faults.new) }
 {
     let Some(path) = path else {
         return Ok(None);
@@ -87,7 +91,7 @@ fn load<R: IoRuntime + Files, F: Outlet>(
         Err(error) if error.kind() == io::ErrorKind::OutOfMemory => Err(Fault::Memory),
         Err(error) => {
             write_reason(rt, alloc, faults, path.as_str(), &error);
-            Err(Fault::Config(ConfigFlaw::File))
+            Err(Fault::ConfigFile)
         }
     }
 }
@@ -105,7 +109,7 @@ fn write_reason<R: IoRuntime, F: Outlet>(
     path: &str,
     error: &io::Error,
 )
-    ensures { HasLineOf F.takes F.failures IsReason faults.old faults.new }
+    ensures { HasLineOf F.takes F.failures (IsFileReason path.now) faults.old faults.new }
 {
     let Ok(detail) = format!(in alloc; "{error}") else {
         return;

@@ -6,6 +6,7 @@ use crate::Fault;
 use crate::checking::check;
 use crate::dry::dry;
 use crate::loading::{loaded_check, loaded_dry, loaded_server};
+use crate::reasons::write_config_reason;
 use crate::replay::replay;
 use crate::serving::serve;
 use crate::writing::{WriteFault, write_text};
@@ -16,6 +17,7 @@ use std::thread::Threads;
 use tko_io::{Inlet, Outlet};
 use tko_links::IoRuntime;
 use tko_options::{Asked, CheckOptions, DryOptions, Refusal, ServeOptions};
+use tko_pools::ConfigFault;
 
 const DONE: u8 = 0;
 
@@ -89,9 +91,17 @@ fn run_dry<R: IoRuntime + Files, I: Inlet, O: Outlet, F: Outlet>(
     match loaded_dry(rt, alloc, options, faults) {
         Ok(options) => {
             let done = dry(rt, alloc, &options, input, output);
-            status_of(rt, alloc, faults, done)
+            status_over(rt, alloc, faults, json_of(&options), done)
         }
         Err(fault) => fail(rt, alloc, faults, fault),
+    }
+}
+
+/// The text of the configuration, and the empty one where there is none.
+fn json_of(options: &DryOptions) -> &str {
+    match &options.config {
+        Some(json) => json.as_str(),
+        None => "",
     }
 }
 
@@ -109,8 +119,9 @@ fn run_check<R: IoRuntime + Files, O: Outlet, F: Outlet>(
 {
     match loaded_check(rt, alloc, options, faults) {
         Ok(options) => {
-            let done = check(rt, alloc, options.config.as_str(), &options.keys, output);
-            status_of(rt, alloc, faults, done)
+            let json = options.config.as_str();
+            let done = check(rt, alloc, json, &options.keys, output);
+            status_over(rt, alloc, faults, json, done)
         }
         Err(fault) => fail(rt, alloc, faults, fault),
     }
@@ -148,8 +159,45 @@ fn serve_loaded<
 {
     match serve(rt, alloc, options, output, faults) {
         Ok(()) => DONE,
+        Err(Fault::Config(cause)) => {
+            refuse_config(rt, alloc, faults, options.config.as_str(), cause)
+        }
         Err(fault) => fail(rt, alloc, faults, fault),
     }
+}
+
+/// The status of a command over this text of a configuration, which wrote nothing to `faults`. Its
+/// fault is reported, and before it why the text is no configuration.
+fn status_over<R: IoRuntime, F: Outlet>(
+    rt: &R,
+    alloc: Global,
+    faults: &mut F,
+    json: &str,
+    done: Result<(), Fault>,
+) -> u8
+    ensures status { result ≤ 1 }
+    ensures done { result ≡ 0 → faults.new ≡ faults.old }
+    ensures fault { result ≡ 1 → IsReasonTold F.takes F.failures faults.old faults.new }
+{
+    match done {
+        Err(Fault::Config(cause)) => refuse_config(rt, alloc, faults, json, cause),
+        done => status_of(rt, alloc, faults, done),
+    }
+}
+
+/// Reports why a text is no configuration, and then the fault. Returns its status.
+fn refuse_config<R: IoRuntime, F: Outlet>(
+    rt: &R,
+    alloc: Global,
+    faults: &mut F,
+    json: &str,
+    cause: ConfigFault,
+) -> u8
+    ensures status { result ≡ 1 }
+    ensures fault { IsReasonTold F.takes F.failures faults.old faults.new }
+{
+    write_config_reason(rt, alloc, faults, json, &cause);
+    fail(rt, alloc, faults, Fault::Config(cause))
 }
 
 /// Reports why the words were refused, and returns the status. A failure to report it is not
@@ -170,7 +218,7 @@ fn show<R: IoRuntime, O: Outlet>(rt: &R, outlet: &mut O, text: &str) -> Result<(
 /// Reports a fault and returns its status. A failure to report it is not reported.
 fn fail<R: IoRuntime, F: Outlet>(rt: &R, alloc: Global, faults: &mut F, fault: Fault) -> u8
     ensures status { result ≡ 1 }
-    ensures fault { IsFaultWritten F.takes F.failures faults.old faults.new }
+    ensures fault { IsFaultWritten F.takes F.failures fault faults.old faults.new }
 {
     let _ = write_fault(rt, alloc, faults, fault);
     FAILED

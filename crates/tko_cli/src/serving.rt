@@ -1,7 +1,7 @@
 //! The command `serve`: a server over TCP, and its totals.
 ghost use Rattle.std.specs.Prelude.{◌≡◌, IfOk, OnOk, IfErr, OnErr, bytes_eq, codes, is_some, string_bytes};
 ghost use Rattle.tko_cli.specs.Notices.{HasNotices};
-ghost use Rattle.tko_cli.specs.Serving.{HasServed, IsSilentOrBegun, ServeFails};
+ghost use Rattle.tko_cli.specs.Serving.{HasServed, IsConfig, IsSilentOrBegun, ServeFails};
 
 use crate::Fault;
 use crate::notice::{Notice, write_notice, write_notice_if};
@@ -38,6 +38,7 @@ pub(crate) fn serve<
     ensures noted { OnOk result (HasNotices F.takes F.failures faults.old faults.new) }
     ensures told { OnErr result (IsSilentOrBegun O.takes O.failures F.takes F.failures
         output.old output.new faults.old faults.new) }
+    ensures refused { IfErr result (λ fault. IsConfig fault → faults.new ≡ faults.old) }
 {
     let plan = plan_of(alloc, options)?;
     let logging = logging_of(rt, alloc, options, &plan)?;

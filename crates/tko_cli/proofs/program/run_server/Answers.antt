@@ -4,7 +4,7 @@ use Rattle.tko_cli.proofs.program.run_server.Goals as goal
 
 pub returns-in-Err-clause-fault : goal.returns-in-Err-clause-fault
 returns-in-Err-clause-fault g c =
-    λ is. AfterReason (told_with g.F.Outlet.takes g.F.Outlet.failures c.args.faults.now c.loaded_server.new.faults
+    λ is. AfterReason (told_with g.F.Outlet.takes g.F.Outlet.failures c.in-Err.fault c.args.faults.now c.loaded_server.new.faults
     c.fail.new.faults c.in-Err.ensures.told c.fail.ensures.fault)
 
 pub returns-in-Ok-clause-done : goal.returns-in-Ok-clause-done

@@ -7,6 +7,6 @@ returns-in-Ok-clause-done g c = λ is. Noted c.args.options.now c.in-Ok.ensures.
 
 pub returns-in-Err-clause-fault : goal.returns-in-Err-clause-fault
 returns-in-Err-clause-fault g c =
-    λ is. fault_told g.O.Outlet.takes g.O.Outlet.failures g.F.Outlet.takes g.F.Outlet.failures c.args.output.now
+    λ is. fault_told g.O.Outlet.takes g.O.Outlet.failures g.F.Outlet.takes g.F.Outlet.failures _ c.args.output.now
     c.serve.new.output c.args.faults.now c.serve.new.faults c.fail.new.faults c.in-Err.ensures.told
     c.fail.ensures.fault
