@@ -1,4 +1,4 @@
-use Rattle.std.proofs.Common.{◌∙◌, All, length, subst, sym}
+use Rattle.std.proofs.Common.{All, length, subst, sym}
 use Rattle.std.proofs.lemmas.List.Elements.{All-head, All-tail}
 use Rattle.tko_tracker.specs.Seated.{IsOf, Seated}
 use Rattle.tko_server.proofs.MemberLemmas.{one_more_ready}
@@ -9,7 +9,7 @@ loop-idle-preserved g c =
     let tracker = g.N.Named.tracker in
     let own : Seated → Type 0 = λ idle. IsOf tracker idle in
     let passes = subst (All own) c.in-Some.ensures.steps.0.0 c.loop-idle.invariant.2 in
-    let pass = subst own (sym (c.new.ensures ∙ c.idle.view_is)) (All-head own _ _ passes) in (
+    let pass = subst own (sym c.new.ensures) (All-head own _ _ passes) in (
       (tt, tt),
       tt,
       All-tail own _ _ passes,
