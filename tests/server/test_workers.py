@@ -160,7 +160,8 @@ class Faults(ServerTest):
         good = configuration(only=[self.memcached()])
         address = f"{HOST}:{free_port()}"
         for words, status, line in (
-                (["--listen", address, "--config", "{}"], 1, b"fault: config no-pools\n"),
+                (["--listen", address, "--config", "{}"], 1,
+                 b"config: there is no object of pools\nfault: config no-pools\n"),
                 (["--listen", address, "--config", good, "--threads", "65"], 1, b"fault: settings threads\n"),
                 (["--listen", address, "--config", good, "--threads", "0"], 1, b"fault: settings threads\n"),
                 (["--listen", address, "--config", good, "--first-delay", "0"], 1, b"fault: delays\n"),
