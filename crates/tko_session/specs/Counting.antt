@@ -6,7 +6,7 @@ use Rattle.tko_route.specs.declared.attempt.Attempt.{Attempt}
 use Rattle.tko_route.specs.declared.attempt.Attempt.TheVariants as attempt
 use Rattle.tko_session.specs.declared.counts.Counts.{Counts}
 use Rattle.tko_io.specs.Io.{capped}
-use Rattle.tko_session.specs.TrailEvents.{TrailEvent, Asked, Tried}
+use Rattle.tko_answer.specs.TrailEvents.{TrailEvent, Asked, Tried}
 
 -- nothing was counted
 abbrev pub no_counts : Counts

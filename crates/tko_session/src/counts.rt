@@ -1,7 +1,7 @@
 //! How many requests there were, and what became of them.
 ghost use Rattle.std.specs.Prelude.{◌≡◌, IsOk, count_by};
 ghost use Rattle.tko_session.specs.Counting.{counted, is_replied, is_sent, is_skipped, no_counts};
-ghost use Rattle.tko_session.specs.TrailEvents.{Asked, Tried};
+ghost use Rattle.tko_answer.specs.TrailEvents.{Asked, Tried};
 
 use crate::Trails;
 use tko_bytes::NoMemory;

@@ -1,0 +1,6 @@
+pub mod Answering
+pub mod Answers
+pub mod Cuts
+pub mod Replies
+pub mod Status
+pub mod TrailEvents
