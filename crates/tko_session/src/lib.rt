@@ -2,7 +2,7 @@
 //!
 //! - `Parts`: what a session works on: the `Backend` of its worker, the configuration, and
 //!   `Trails`, which records each request and each trail. `Kept` keeps the trails, and `Counts`
-//!   counts what is in them.
+//!   of tko_counts counts what is in them.
 //! - `round`: sends the probes that are due.
 //! - `Session`: one client's session between two pieces, and `Progress`, how far it answered. It
 //!   knows no socket.
@@ -12,7 +12,7 @@
 #![tactic(auto)]
 
 mod answering;
-mod counts;
+mod counting;
 mod fault;
 mod outbox;
 mod parts;
@@ -22,7 +22,6 @@ mod session;
 mod status_text;
 mod trails;
 
-pub use counts::Counts;
 pub use fault::SessionFault;
 pub use parts::{Parts, round};
 pub use serving::serve;
@@ -31,6 +30,7 @@ pub use status_text::status;
 pub use tko_backend::{
     Backend, Clock, FrozenClock, ListedClock, MonotonicClock, ProbeSlot, Probers,
 };
+pub use tko_counts::Counts;
 pub use tko_io::{Inlet, Outlet, Piped, Stop, Taped};
 pub use trails::{Kept, Trails};
 
