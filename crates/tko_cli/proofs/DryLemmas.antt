@@ -10,7 +10,8 @@ use Rattle.tko_model.specs.declared.settings.SettingsFault.{SettingsFault}
 use Rattle.tko_links.specs.declared.scripted.Script.{Script}
 use Rattle.tko_session.specs.declared.session.Report.{Report}
 use Rattle.tko_session.specs.Served.{Served}
-use Rattle.tko_session.specs.SessionState.{Reaches, probed_by, sent_by}
+use Rattle.tko_answer.specs.Answers.{Reaches}
+use Rattle.tko_session.specs.SessionState.{probed_by, sent_by}
 use Rattle.tko_pools.specs.Configs.{Configuration, in_order}
 use Rattle.tko_cli.specs.declared.fault.Fault.{Fault}
 use Rattle.tko_cli.specs.declared.fault.Fault.TheVariants as fault

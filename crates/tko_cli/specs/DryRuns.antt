@@ -9,14 +9,14 @@ use Rattle.tko_health.specs.Health.{OneThread, IsGranted, IsTrackerStep}
 use Rattle.tko_links.specs.Scripted.{ScriptedState, IsPlayed}
 use Rattle.tko_prober.specs.declared.delays.Delays.{Delays}
 use Rattle.tko_backend.specs.declared.clock.FrozenClock.{FrozenClock}
-use Rattle.tko_session.specs.declared.parts.Parts.{Parts}
+use Rattle.tko_answer.specs.declared.parts.Parts.{Parts}
 use Rattle.tko_session.specs.declared.session.Report.{Report}
 use Rattle.tko_session.specs.Events.{Event, IsEvent}
 use Rattle.tko_backend.specs.Clocks.{IsFrozen}
 use Rattle.tko_backend.specs.Probers.{no_probers}
 use Rattle.tko_session.specs.Served.{CameTooLong, Served}
 use Rattle.tko_session.specs.SessionState.{probed_by, sent_by}
-use Rattle.tko_session.specs.TrailEvents.{Keeps}
+use Rattle.tko_answer.specs.TrailEvents.{Keeps}
 use Rattle.tko_pools.specs.Configs.{Configuration}
 use Rattle.tko_pools.specs.declared.fault.ConfigFault.{ConfigFault}
 use Rattle.tko_cli.specs.Configured.{IsConfigured, IsFlawed}

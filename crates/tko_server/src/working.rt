@@ -3,7 +3,7 @@ ghost use Rattle.std.specs.Prelude.{◌≡◌, ◌≤◌, length};
 ghost use Rattle.tko_server.specs.Rounds.{IsRoundNoted};
 ghost use Rattle.tko_server.specs.Reports.{IsSessionCounted};
 ghost use Rattle.tko_server.specs.Workers.{IsEquipped};
-ghost use Rattle.tko_session.specs.SessionState.{Reaches};
+ghost use Rattle.tko_answer.specs.Answers.{Reaches};
 
 use crate::{Account, Next, Source, WorkerReport};
 use std::alloc::Global;

@@ -6,7 +6,7 @@ use Rattle.std.proofs.lemmas.List.Folds.{list_any-append}
 use Rattle.std.proofs.lemmas.List.Sums.{sum_by-append}
 use Rattle.tko_model.specs.Records.{HealthItem}
 use Rattle.tko_links.specs.Links.{LinksItem}
-use Rattle.tko_session.specs.declared.parts.Parts.{Parts}
+use Rattle.tko_answer.specs.declared.parts.Parts.{Parts}
 use Rattle.tko_session.specs.Events.{Event, IsRun, NoneShort, idle_rounds, is_idle_round, owed_after, owed_from, owed_then, turn_in, turns_of, visits_in, visits_of}
 use Rattle.tko_backend.specs.Probers.{NoneMarked}
 use Rattle.tko_backend.proofs.BegunLemmas.{round-begun}

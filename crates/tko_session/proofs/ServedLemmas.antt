@@ -3,7 +3,7 @@ use Rattle.std.proofs.Common.{◌≡◌, ◌≢◌, ℕ, Bool, true, ◌+◌, �
 use Rattle.tko_model.specs.Records.{HealthItem}
 use Rattle.tko_model.proofs.RecordLemmas.{gains_append, gains_none, gains_one}
 use Rattle.tko_links.specs.Links.{LinksItem}
-use Rattle.tko_session.specs.declared.parts.Parts.{Parts}
+use Rattle.tko_answer.specs.declared.parts.Parts.{Parts}
 use Rattle.std.specs.Prelude.{MatchBool}
 use Rattle.tko_text.specs.declared.item.Item.{Item}
 use Rattle.tko_text.specs.declared.request.Request.{Request}
@@ -17,7 +17,7 @@ use Rattle.tko_session.specs.declared.session.Report.{Report}
 use Rattle.tko_io.specs.Io.{Writes, capped}
 use Rattle.tko_io.proofs.WriteLemmas.{writes_append, writes_none}
 use Rattle.tko_session.specs.Events.{Event, IdleRound, IsEvent, IsRun, NoneRun, Rounded, turns_of}
-use Rattle.tko_session.specs.TrailEvents.{TrailEvent}
+use Rattle.tko_answer.specs.TrailEvents.{TrailEvent}
 use Rattle.tko_session.specs.SessionState.{SessionState, Answered, AnsweredPart, GoesOn, InSession, IsBehind, ProgressIs, fed_state, fresh, items_of, probed_by, sent_by, text_of, cut_short, no_more}
 use Rattle.tko_session.specs.Served.{CameTooLong, Delivered, DeliveredPart, EndsAt, Served, ServedSoFar, StoppedByLine, StoppedByRead, StoppedByWrite, StoppedEarly, Transcript, after_cut, at_end_of_input, at_once, at_quit}
 use Rattle.tko_session.proofs.EventLemmas.{idles-append, order-append}

@@ -17,11 +17,11 @@ use Rattle.tko_text.specs.declared.request.Request.{Request}
 use Rattle.tko_text.specs.declared.request.Request.TheVariants as asked
 use Rattle.tko_text.specs.Requests.{fault_text}
 use Rattle.tko_links.specs.Links.{LinksItem}
-use Rattle.tko_session.specs.declared.parts.Parts.{Parts}
-use Rattle.tko_session.specs.TrailEvents.{TrailEvent}
+use Rattle.tko_answer.specs.declared.parts.Parts.{Parts}
+use Rattle.tko_answer.specs.TrailEvents.{TrailEvent}
 use Rattle.tko_text.specs.Reading.{Reading, Gives, NeedsMore, Emits}
 use Rattle.tko_route.specs.Trail.{sends_in}
-use Rattle.tko_session.specs.Replies.{trails_in}
+use Rattle.tko_answer.specs.Replies.{trails_in, reply_bound, sends_to}
 use Rattle.tko_session.specs.Events.{Answer, Event, IdleRound, IsEvent, IsRun, NoneRun, RoundAfter, Rounded, turns_of}
 use Rattle.tko_backend.specs.Round.{probes_in, ran_out}
 use Rattle.tko_session.specs.Turns.{Turn, is_request}
@@ -30,7 +30,7 @@ use Rattle.tko_session.specs.declared.session.Progress.TheVariants.{More, NeedsI
 use Rattle.tko_session.specs.declared.session.Progress.TheVariants as progress
 use Rattle.tko_io.specs.Io.{capped}
 use Rattle.tko_io.proofs.WriteLemmas.{capped-more}
-use Rattle.tko_session.specs.SessionState.{SessionState, Turned, Answered, AnsweredPart, Replied, Continues, EndsWith, GoesOn, InSession, IsBehind, ProgressIs, BeginBelowBound, probed_by, progress_after, progress_of, reply_bound, sent_by, items_of, text_of, trails_of, requests_in, sends_to, line_too_long, quit, cut_short, no_more}
+use Rattle.tko_session.specs.SessionState.{SessionState, Turned, Answered, AnsweredPart, Replied, Continues, EndsWith, GoesOn, InSession, IsBehind, ProgressIs, BeginBelowBound, probed_by, progress_after, progress_of, sent_by, items_of, text_of, trails_of, requests_in, line_too_long, quit, cut_short, no_more}
 use Rattle.tko_text.proofs.GivesLemmas.{Gives-none, Gives-one, Gives-append}
 use Rattle.tko_session.proofs.EventLemmas.{idles-append, order-append, probes-append, short-append, turns-append}
 use Rattle.tko_session.proofs.NeverLemmas.{ends_reading}

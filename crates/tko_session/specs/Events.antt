@@ -3,9 +3,9 @@ use Rattle.std.specs.Prelude.{◌≡◌, ℕ, Bool, true, false, List, [], ◌�
 use Rattle.std.specs.List.{list_any}
 use Rattle.tko_model.specs.Records.{HealthItem}
 use Rattle.tko_links.specs.Links.{LinksItem}
-use Rattle.tko_session.specs.declared.parts.Parts.{Parts}
+use Rattle.tko_answer.specs.declared.parts.Parts.{Parts}
 use Rattle.tko_backend.specs.Round.{IsRound, Visit, ran_out}
-use Rattle.tko_session.specs.TrailEvents.{TrailEvent}
+use Rattle.tko_answer.specs.TrailEvents.{TrailEvent}
 use Rattle.tko_session.specs.Turns.{Turn, IsTurn, is_request}
 
 -- an item and what became of it, the round after a request, or the round at an idle turn of the

@@ -1,11 +1,5 @@
-pub mod Answering
-pub mod Counting
-pub mod Cuts
 pub mod Events
 pub mod Faults
-pub mod Replies
 pub mod Served
 pub mod SessionState
-pub mod Status
-pub mod TrailEvents
 pub mod Turns

@@ -10,7 +10,8 @@ use Rattle.tko_session.specs.declared.session.Report.{Report}
 use Rattle.tko_session.specs.Events.{Event, NoneShort, RoundAfter, idle_rounds, owed_after, turns_of, visits_of}
 use Rattle.tko_io.specs.Io.{Writes, capped}
 use Rattle.tko_backend.specs.Round.{Visit, probes_in}
-use Rattle.tko_session.specs.SessionState.{SessionState, Turned, EndsWith, GoesOn, InSession, ProgressIs, fresh, fed_state, line_too_long, quit, items_of, text_of, trails_of, requests_in, sends_to}
+use Rattle.tko_session.specs.SessionState.{SessionState, Turned, EndsWith, GoesOn, InSession, ProgressIs, fresh, fed_state, line_too_long, quit, items_of, text_of, trails_of, requests_in}
+use Rattle.tko_answer.specs.Replies.{sends_to}
 
 -- how a session comes to its end without a fault, after these items, and how many bytes of an item
 -- are then unfinished

@@ -1,5 +1,5 @@
 -- A session between two pieces, and the events that lead from one state to another.
-use Rattle.std.specs.Prelude.{◌≡◌, ◌≢◌, ◌<◌, ◌≤◌, ℕ, ◌+◌, Bool, true, false, List, [], ◌∷◌, ◌++◌, All, length, map, count_by, sum_by, flat_map, Some}
+use Rattle.std.specs.Prelude.{◌≡◌, ◌≢◌, ◌<◌, ◌≤◌, ℕ, ◌+◌, Bool, true, false, List, [], ◌∷◌, ◌++◌, All, length, map, count_by, flat_map, Some}
 use Rattle.tko_model.specs.Records.{Gains, HealthItem}
 use Rattle.tko_text.specs.declared.item.Item.{Item}
 use Rattle.tko_text.specs.declared.item.Item.TheVariants as item
@@ -10,14 +10,13 @@ use Rattle.tko_text.specs.declared.request.Request.TheVariants.{Quit}
 use Rattle.tko_text.specs.Reading.{Reading, Never, Emits, Gives, NeedsMore, start, fed}
 use Rattle.tko_route.specs.declared.attempt.Attempt.{Attempt}
 use Rattle.tko_links.specs.Links.{LinksItem}
-use Rattle.tko_route.specs.Trail.{sends_in}
-use Rattle.tko_session.specs.declared.parts.Parts.{Parts}
+use Rattle.tko_answer.specs.declared.parts.Parts.{Parts}
 use Rattle.tko_session.specs.declared.session.Progress.{Progress}
 use Rattle.tko_session.specs.declared.session.Progress.TheVariants as progress
 use Rattle.tko_session.specs.Events.{Event, NoneShort, idle_rounds, owed_after, turns_of, visits_of}
 use Rattle.tko_io.specs.Io.{capped}
-use Rattle.tko_session.specs.TrailEvents.{TrailEvent}
-use Rattle.tko_session.specs.Replies.{RoutedKey, trails_in}
+use Rattle.tko_answer.specs.TrailEvents.{TrailEvent}
+use Rattle.tko_answer.specs.Replies.{RoutedKey, reply_bound, sends_to, trails_in}
 use Rattle.tko_backend.specs.Round.{probes_in}
 use Rattle.tko_session.specs.Turns.{Turn, Becomes, is_request}
 
@@ -36,10 +35,6 @@ fresh = record { reading = start; outbox = []; requests = 0; owes = false }
 -- the same after these bytes came
 abbrev pub fed_state : SessionState → List ℕ → SessionState
 fed_state old piece = record old { reading = fed old.reading piece }
-
--- the number of bytes of replies that is enough to be written
-abbrev pub reply_bound : ℕ
-reply_bound = 65536
 
 -- the fault after which a session reads nothing more
 abbrev pub line_too_long : Item
@@ -62,10 +57,6 @@ trails_of turns = flat_map (λ turn. trails_in turn.routed) turns
 -- how many items are requests
 abbrev pub requests_in : List Item → ℕ
 requests_in items = count_by is_request items
-
--- how often these trails sent to a server
-abbrev pub sends_to : ℕ → List (List Attempt) → ℕ
-sends_to server trails = sum_by (sends_in server) trails
 
 -- the session goes on after an item
 pub record Continues (it : Item) : Type 0 where
@@ -119,13 +110,6 @@ progress_of _ = progress.More
 abbrev pub pause_of : Bool → Progress
 pause_of true = progress.Quit
 pause_of false = progress.NeedsInput
-
--- the health, the links and the probers have the servers of the configuration
-pub record Reaches {H L T C : Type 0} (servers : H → ℕ) (linked : L → ℕ)
-    (parts : Parts H L T C) : Type 0 where
-  pub health : servers parts.backend.health ≡ length parts.config.addresses
-  pub links : linked parts.backend.links ≡ length parts.config.addresses
-  pub probers : length parts.backend.probers.slots ≡ length parts.config.addresses
 
 -- how often each server was sent to
 abbrev pub sent_by : {H L T C : Type 0} → (L → ℕ → ℕ) → Parts H L T C → ℕ → ℕ

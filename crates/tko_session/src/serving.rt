@@ -2,10 +2,11 @@
 ghost use Rattle.std.specs.Prelude.{◌≡◌, ◌≢◌, ◌<◌, ℕ, [], false, Err, IfOk, OnOk, OnErr, IsErrOf};
 ghost use Rattle.tko_text.specs.Reading.{Never};
 ghost use Rattle.tko_io.specs.Io.{capped};
-ghost use Rattle.tko_session.specs.Cuts.{IsRequestCut};
+ghost use Rattle.tko_session.specs.Turns.{IsRequestCut};
 ghost use Rattle.tko_backend.specs.Probers.{NoneMarked};
 ghost use Rattle.tko_session.specs.Events.{IsEvent};
-ghost use Rattle.tko_session.specs.SessionState.{Reaches, fed_state, pause_of, probed_by, sent_by};
+ghost use Rattle.tko_answer.specs.Answers.{Reaches};
+ghost use Rattle.tko_session.specs.SessionState.{fed_state, pause_of, probed_by, sent_by};
 ghost use Rattle.tko_session.specs.Served.{CameTooLong, Delivered, DeliveredPart, IsCalm, Served, StoppedByLine, StoppedByRead, StoppedByWrite, StoppedEarly};
 
 use crate::{Parts, Progress, Report, Session, SessionFault, Trails, round};

@@ -3,16 +3,17 @@ ghost use Rattle.std.specs.Prelude.{◌≡◌, ◌≢◌, ◌≤◌, ◌<◌, �
 ghost use Rattle.std.specs.Option.{option_copied};
 ghost use Rattle.tko_text.specs.Reading.{Emits, NeedsMore, Never, fed};
 ghost use Rattle.tko_text.specs.Requests.{fault_text};
-ghost use Rattle.tko_session.specs.Cuts.{IsRequestCut};
+ghost use Rattle.tko_session.specs.Turns.{IsRequestCut};
 ghost use Rattle.tko_session.specs.Events.{IsEvent, IsRun};
 ghost use Rattle.tko_backend.specs.Probers.{AreQuiet, NoneMarked};
-ghost use Rattle.tko_session.specs.SessionState.{Answered, AnsweredPart, Reaches, Replied, fed_state, fresh, probed_by, progress_after, progress_of, reply_bound, sent_by};
+ghost use Rattle.tko_session.specs.SessionState.{Answered, AnsweredPart, Replied, fed_state, fresh, probed_by, progress_after, progress_of, sent_by};
+ghost use Rattle.tko_answer.specs.Answers.{Reaches};
+ghost use Rattle.tko_answer.specs.Replies.{reply_bound};
 
-use crate::answering::answer;
-use crate::outbox::Outbox;
 use crate::{Parts, Trails, round};
 use std::alloc::Global;
 use std::marker::Model;
+use tko_answer::{Outbox, answer};
 use tko_backend::Clock;
 use tko_bytes::NoMemory;
 use tko_links::{IoRuntime, Links};

@@ -2,7 +2,7 @@ use Rattle.std.proofs.Common.{[], ap, drop, subst, sym, take, ◌∙◌, append-
 use Rattle.std.proofs.lemmas.List.{take-append-drop}
 use Rattle.tko_io.specs.Io.{Writes}
 use Rattle.tko_session.proofs.EventLemmas.{begun_paid}
-use Rattle.tko_session.proofs.ResultLemmas.{either_way, on_err, on_errs}
+use Rattle.tko_answer.proofs.ResultLemmas.{either_way, on_err, on_errs}
 use Rattle.tko_session.proofs.ServedLemmas.{delivered_of, err_delivered, ok_delivered}
 use Rattle.tko_session.proofs.TurnLemmas.{answered_paid}
 use Rattle.tko_session.proofs.serving.deliver.Goals as goal

@@ -4,7 +4,7 @@ use Rattle.std.proofs.lemmas.Result.{err_from_is_err_and}
 use Rattle.tko_session.specs.declared.fault.SessionFault.TheVariants.{LineTooLong, Write}
 use Rattle.tko_io.specs.Io.{capped}
 use Rattle.tko_backend.proofs.BegunLemmas.{round-begun}
-use Rattle.tko_session.proofs.ResultLemmas.{same_error}
+use Rattle.tko_answer.proofs.ResultLemmas.{same_error}
 use Rattle.tko_session.proofs.ServedLemmas.{so_far_idle, so_far_none, so_far_more, so_far_read, so_far_reads, served, served_quit, came_too_long, stopped_at_once, stopped_by_line, stopped_by_read, stopped_early, stopped_idle}
 use Rattle.tko_session.proofs.serving.serve.Goals as goal
 

@@ -2,7 +2,8 @@ use Rattle.std.proofs.Common.{◌≡◌, ◌<◌, vec_len}
 use Rattle.tko_session.specs.declared.session.Progress.TheVariants.{NeedsInput}
 use Rattle.tko_backend.specs.Probers.{NoneMarked}
 use Rattle.tko_session.specs.Events.{IsEvent}
-use Rattle.tko_session.specs.SessionState.{Reaches, probed_by, sent_by}
+use Rattle.tko_answer.specs.Answers.{Reaches}
+use Rattle.tko_session.specs.SessionState.{probed_by, sent_by}
 use Rattle.tko_session.specs.Served.{ServedSoFar}
 use Rattle.tko_session.proofs.serving.serve.Given as goal
 

@@ -1,6 +1,6 @@
 use Rattle.std.proofs.Common.{refl, ◌∙◌}
 use Rattle.tko_session.specs.SessionState.{fed_state}
-use Rattle.tko_session.proofs.ResultLemmas.{on_err}
+use Rattle.tko_answer.proofs.ResultLemmas.{on_err}
 use Rattle.tko_session.proofs.ServedLemmas.{delivered_none, delivered_append, delivered_part, not_delivered, part_append}
 use Rattle.tko_session.proofs.serving.serve_piece.Goals as goal
 

@@ -2,7 +2,8 @@ use Rattle.std.proofs.Common.{◌≡◌}
 use Rattle.tko_session.specs.declared.session.Progress.TheVariants.{More}
 use Rattle.tko_backend.specs.Probers.{NoneMarked}
 use Rattle.tko_session.specs.Events.{IsEvent}
-use Rattle.tko_session.specs.SessionState.{Reaches, fed_state, probed_by, sent_by}
+use Rattle.tko_answer.specs.Answers.{Reaches}
+use Rattle.tko_session.specs.SessionState.{fed_state, probed_by, sent_by}
 use Rattle.tko_session.specs.Served.{Delivered}
 use Rattle.tko_session.proofs.serving.serve_piece.Given as goal
 

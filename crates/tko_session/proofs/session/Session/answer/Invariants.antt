@@ -2,7 +2,8 @@ use Rattle.tko_session.specs.declared.session.Progress.TheVariants.{More}
 use Rattle.std.proofs.Common.{◌≡◌, false, true}
 use Rattle.tko_session.specs.Events.{IsEvent}
 use Rattle.tko_backend.specs.Probers.{AreQuiet, NoneMarked}
-use Rattle.tko_session.specs.SessionState.{Answered, Reaches, probed_by, sent_by}
+use Rattle.tko_session.specs.SessionState.{Answered, probed_by, sent_by}
+use Rattle.tko_answer.specs.Answers.{Reaches}
 use Rattle.tko_session.proofs.session.Session.answer.Given as goal
 
 abbrev pub invariant-loop : goal.invariant-loop

@@ -1,6 +1,6 @@
 use Rattle.std.proofs.Common.{ap, ◌∙◌}
 use Rattle.tko_text.specs.Reading.{NeedsMore}
-use Rattle.tko_session.proofs.ResultLemmas.{both_ok, on_err, on_errs}
+use Rattle.tko_answer.proofs.ResultLemmas.{both_ok, on_err, on_errs}
 use Rattle.tko_session.proofs.TurnLemmas.{answered_fault, answered_open, answered_paid, answered_request, part_cut, part_none, part_paid}
 use Rattle.tko_session.proofs.session.Session.answer_next.Goals as goal
 
