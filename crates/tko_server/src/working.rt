@@ -9,11 +9,12 @@ use crate::{Account, Next, Source, WorkerReport};
 use std::alloc::Global;
 use std::sync::Wait;
 use tko_backend::{Backend, Clock, Probers};
+use tko_counts::{Counts, Kind};
 use tko_health::{Health, Seating};
 use tko_io::{Inlet, Outlet};
 use tko_links::{IoRuntime, Links};
 use tko_pools::Config;
-use tko_session::{Counts, Parts, Report, SessionFault, round, serve};
+use tko_session::{Parts, Report, SessionFault, round, serve};
 
 /// What a worker works with: the seat that it takes, the links, the configuration, the probers,
 /// their clock, and its account.
@@ -128,7 +129,8 @@ impl<H: Health, L: Links, M: Clock> Working<H, L, M> {
             self.parts.config.addresses().len(),
         );
         let more = probes.saturating_sub(self.probes);
-        if account.add(rt, &self.parts.trails, more) {
+        let counts = self.parts.trails.saturating_add(Kind::Probe, more);
+        if account.add(rt, &counts) {
             self.report.ledger_full = true;
         }
         self.parts.trails = Counts::new();

@@ -1,4 +1,3 @@
-pub mod Counting
 pub mod Events
 pub mod Faults
 pub mod Served

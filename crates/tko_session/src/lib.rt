@@ -5,21 +5,18 @@
 //! - `serve`: reads a piece from an `Inlet`, gives it to the session, writes the replies to an
 //!   `Outlet`, and runs the rounds.
 //! - `round`: sends the probes that are due.
-//! - `Counts`: what `Trails` count: requests, and what became of them.
 #![tactic(auto)]
 
-mod counts;
 mod fault;
 mod rounds;
 mod serving;
 mod session;
 
-pub use counts::Counts;
 pub use fault::SessionFault;
 pub use rounds::round;
 pub use serving::serve;
 pub use session::{Progress, Report, Session};
-pub use tko_answer::{Kept, Parts, Trails, status};
+pub use tko_answer::{Counts, Kept, Parts, Trails, status};
 pub use tko_backend::{
     Backend, Clock, FrozenClock, ListedClock, MonotonicClock, ProbeSlot, Probers,
 };

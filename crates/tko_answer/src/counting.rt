@@ -1,43 +1,16 @@
 //! How many requests there were, and what became of them.
 ghost use Rattle.std.specs.Prelude.{◌≡◌, IsOk, count_by};
-ghost use Rattle.tko_session.specs.Counting.{counted, is_replied, is_sent, is_skipped, no_counts};
+ghost use Rattle.tko_answer.specs.Counting.{counted, is_replied, is_sent, is_skipped};
 ghost use Rattle.tko_answer.specs.TrailEvents.{Asked, Tried};
 
 use crate::Trails;
 use tko_bytes::NoMemory;
+use tko_counts::{Counts, Kind};
 use tko_links::{IoRuntime, Outcome};
 use tko_route::{Attempt, Trail};
 use tko_text::Request;
 
-/// Counts requests and attempts. Each number stays at 2^64 - 1.
-#[derive(Clone, Copy, Debug, PartialEq, Eq)]
-pub struct Counts {
-    /// The items that are no faults.
-    pub requests: u64,
-    /// The requests that were sent to a server.
-    pub attempts: u64,
-    /// The targets that were passed over because of their marks.
-    pub skips: u64,
-    /// The requests that a server responded to.
-    pub replies: u64,
-    /// The routed requests that ended without a response.
-    pub no_server: u64,
-}
-
-impl Counts {
-    pub fn new() -> Counts
-        ensures { result ≡ no_counts }
-    {
-        Counts {
-            requests: 0,
-            attempts: 0,
-            skips: 0,
-            replies: 0,
-            no_server: 0,
-        }
-    }
-}
-
+/// Counts the requests and what became of them; probes are no part of a trail.
 impl Trails for Counts {
     ghost records = { λ old event new. new ≡ counted old event };
 
@@ -45,7 +18,7 @@ impl Trails for Counts {
         ensures counted { self.new ≡ counted self.old (Asked _request.now) }
         ensures ok { IsOk result }
     {
-        self.requests = self.requests.saturating_add(1);
+        *self = self.saturating_add(Kind::Request, 1);
         Ok(())
     }
 
@@ -56,10 +29,11 @@ impl Trails for Counts {
         let attempts = trail.attempts();
         let replies = replies_in(attempts);
         let unanswered = replies == 0;
-        self.attempts = self.attempts.saturating_add(sends_in(attempts));
-        self.skips = self.skips.saturating_add(skips_in(attempts));
-        self.replies = self.replies.saturating_add(replies);
-        self.no_server = self.no_server.saturating_add(u64::from(unanswered));
+        *self = self
+            .saturating_add(Kind::Attempt, sends_in(attempts))
+            .saturating_add(Kind::Skip, skips_in(attempts))
+            .saturating_add(Kind::Reply, replies)
+            .saturating_add(Kind::NoServer, u64::from(unanswered));
         Ok(())
     }
 }

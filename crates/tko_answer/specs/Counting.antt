@@ -1,16 +1,13 @@
 -- How many requests there were, and what became of them.
-use Rattle.std.specs.Prelude.{◌+◌, ◌==◌, Bool, true, false, List, count_by, if◌then◌else◌}
+use Rattle.std.specs.Prelude.{◌==◌, Bool, true, false, List, count_by, if◌then◌else◌}
+use Rattle.tko_counts.specs.Numbers.{saturated}
+use Rattle.tko_counts.specs.declared.counts.Counts.{Counts}
+use Rattle.tko_counts.specs.declared.kind.Kind.TheVariants as kind
 use Rattle.tko_links.specs.declared.links.Outcome.{Outcome}
 use Rattle.tko_links.specs.declared.links.Outcome.TheVariants as outcome
 use Rattle.tko_route.specs.declared.attempt.Attempt.{Attempt}
 use Rattle.tko_route.specs.declared.attempt.Attempt.TheVariants as attempt
-use Rattle.tko_session.specs.declared.counts.Counts.{Counts}
-use Rattle.tko_io.specs.Io.{capped}
 use Rattle.tko_answer.specs.TrailEvents.{TrailEvent, Asked, Tried}
-
--- nothing was counted
-abbrev pub no_counts : Counts
-no_counts = record { requests = 0; attempts = 0; skips = 0; replies = 0; no_server = 0 }
 
 -- the request was sent
 abbrev pub is_sent : Attempt → Bool
@@ -44,11 +41,9 @@ is_unanswered trail = count_by is_replied trail == 0
 
 -- one more request; or the attempts of one more routed request. Each number stays at 2^64 - 1
 abbrev pub counted : Counts → TrailEvent → Counts
-counted old (Asked request) = record old { requests = capped (old.requests + 1) }
-counted old (Tried trail) = record {
-  requests = old.requests;
-  attempts = capped (old.attempts + count_by is_sent trail);
-  skips = capped (old.skips + count_by is_skipped trail);
-  replies = capped (old.replies + count_by is_replied trail);
-  no_server = capped (old.no_server + (if is_unanswered trail then 1 else 0));
-}
+counted old (Asked request) = saturated kind.Request 1 old
+counted old (Tried trail) =
+    let sent = saturated kind.Attempt (count_by is_sent trail) old in
+    let skipped = saturated kind.Skip (count_by is_skipped trail) sent in
+    let replied = saturated kind.Reply (count_by is_replied trail) skipped in
+    saturated kind.NoServer (if is_unanswered trail then 1 else 0) replied
