@@ -1,4 +1,6 @@
 pub mod Counting
+pub mod Effects
+pub mod Ends
 pub mod Events
 pub mod Faults
 pub mod Served
