@@ -1,3 +1,5 @@
+pub mod Effects
+pub mod Ends
 pub mod Events
 pub mod Faults
 pub mod Served
