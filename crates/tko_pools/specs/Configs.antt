@@ -10,8 +10,7 @@ use Rattle.tko_pools.specs.Json.{pools_in, servers_named}
 use Rattle.tko_pools.specs.Numbering.{number_in, numbered}
 use Rattle.tko_pools.specs.declared.fault.ConfigFault.{ConfigFault}
 use Rattle.tko_pools.specs.declared.fault.ConfigFault.TheVariants as fault
-use Rattle.tko_pools.specs.Flaws.{Reports}
-use Rattle.tko_pools.specs.Reasons.{max_servers, reason_of}
+use Rattle.tko_pools.specs.Reasons.{Reports, max_servers, reason_of}
 use Rattle.tko_pools.specs.Routes.{RouteRead, default_exptime, route_in}
 
 -- the addresses in the order of their numbers, the numbers of each child's servers, and the

@@ -1,6 +1,5 @@
 pub mod Addresses
 pub mod Configs
-pub mod Flaws
 pub mod Hash
 pub mod Json
 pub mod Numbering

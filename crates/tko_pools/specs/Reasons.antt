@@ -1,9 +1,11 @@
 -- Why a JSON value is no configuration. Each reason is looked for after the ones above it.
-use Rattle.std.specs.Prelude.{ℕ, ◌==◌, nat_lt, not, if◌then◌else◌, List, [], ◌∷◌, length, Option, Some, None, option_map}
+use Rattle.std.specs.Prelude.{◌≡◌, ℕ, ◌==◌, nat_lt, not, if◌then◌else◌, List, [], ◌∷◌, length, Option, Some, None, option_map, string_bytes}
 use Rattle.std.specs.List.{find, flat_map}
 use Rattle.std.specs.Option.{is_none, option_or}
 use Rattle.serde_json.specs.Data.{Data}
 use Rattle.serde_json.specs.Find.{get}
+use Rattle.tko_pools.specs.declared.fault.ConfigFault.{ConfigFault}
+use Rattle.tko_pools.specs.declared.fault.ConfigFault.TheVariants as fault
 use Rattle.tko_pools.specs.Addresses.{is_address}
 use Rattle.tko_pools.specs.Json.{Pool, pool_list, pools_in, servers_named}
 use Rattle.tko_pools.specs.Numbering.{numbered}
@@ -68,3 +70,14 @@ pools_and_route_reason root (Some pools) =
 -- what is wrong with a configuration: the first reason that there is
 abbrev pub reason_of : Data → Option Reason
 reason_of root = pools_and_route_reason root (pools_in root)
+
+-- a fault reports this reason; only memory may take its place
+abbrev pub Reports : Option Reason → ConfigFault → Type 0
+Reports found fault.Json = ⊥
+Reports found fault.NoPools = found ≡ Some NoPools
+Reports found (fault.EmptyPool name) = found ≡ Some (EmptyPool (string_bytes name))
+Reports found (fault.Address text) = found ≡ Some (BadAddress (string_bytes text))
+Reports found fault.Route = found ≡ Some BadRoute
+Reports found (fault.NoSuchPool name) = found ≡ Some (NoSuchPool (string_bytes name))
+Reports found fault.TooManyServers = found ≡ Some TooManyServers
+Reports found fault.Memory = Unit {0}

@@ -2,14 +2,13 @@
 ghost use Rattle.std.specs.Prelude.{◌≡◌, ◌<◌, [], None, All, IfOk, IfErr, OnOk, OnErr, length, map, string_bytes};
 ghost use Rattle.serde_json.specs.View.{view};
 ghost use Rattle.tko_pools.specs.Configs.{IsMeaning, IsRoot, Means, Refuses, addresses_of, child_of, chosen_by, configuration};
-ghost use Rattle.tko_pools.specs.Flaws.{Reports};
 ghost use Rattle.tko_pools.specs.Json.{pool_list};
-ghost use Rattle.tko_pools.specs.Reasons.{children_reason, pools_reason, reason_of};
+ghost use Rattle.tko_pools.specs.Reasons.{Reports, children_reason, pools_reason, reason_of};
 
 mod copying;
 mod in_order;
 
-use crate::flaws::{Flaw, pools_flaw, unknown_child};
+use crate::flaws::{check_pools, unknown_child};
 use crate::json::{pools_in, servers_named};
 use crate::numbering::Addresses;
 use crate::route::Route;
@@ -68,9 +67,7 @@ impl Config {
         let Some(pools) = pools_in(root) else {
             return Err(ConfigFault::NoPools);
         };
-        if let Some(flaw) = pools_flaw(pools) {
-            return Err(ConfigFault::of(alloc, flaw));
-        }
+        check_pools(alloc, pools)?;
         match Route::of(alloc, root)? {
             Some(route) => Config::over(alloc, pools, &route),
             None => Err(ConfigFault::Route),
@@ -88,7 +85,7 @@ impl Config {
     {
         let names = route.children();
         if let Some(name) = unknown_child(pools, names) {
-            return Err(ConfigFault::of(alloc, Flaw::NoSuchPool(name)));
+            return Err(ConfigFault::NoSuchPool(String::from_str(alloc, name)?));
         }
         let addresses = addresses_of(alloc, pools, names)?;
         if addresses.len() > MAX_SERVERS {

@@ -1,7 +1,6 @@
 //! Why a text is no configuration.
 
-use crate::flaws::Flaw;
-use std::alloc::{AllocError, Global};
+use std::alloc::AllocError;
 use thiserror::Error;
 
 /// Why a text is no configuration, the first that applies in this order; only `Memory` may come in
@@ -41,33 +40,5 @@ impl From<AllocError> for ConfigFault {
 
     fn from(_: AllocError) -> ConfigFault {
         ConfigFault::Memory
-    }
-}
-
-impl ConfigFault {
-    ghost use Rattle.std.specs.Prelude.{Some};
-    ghost use Rattle.tko_pools.specs.Flaws.{Reports, reason_in};
-
-    /// The fault of a flaw, with a copy of its text.
-    pub(crate) fn of(alloc: Global, flaw: Flaw<'_>) -> ConfigFault
-        ensures { Reports (Some (reason_in flaw.entry)) result }
-    {
-        match flaw {
-            Flaw::NoPools => ConfigFault::NoPools,
-            Flaw::BadRoute => ConfigFault::Route,
-            Flaw::TooManyServers => ConfigFault::TooManyServers,
-            Flaw::EmptyPool(name) => match String::from_str(alloc, name) {
-                Ok(name) => ConfigFault::EmptyPool(name),
-                Err(_) => ConfigFault::Memory,
-            },
-            Flaw::BadAddress(text) => match String::from_str(alloc, text) {
-                Ok(text) => ConfigFault::Address(text),
-                Err(_) => ConfigFault::Memory,
-            },
-            Flaw::NoSuchPool(name) => match String::from_str(alloc, name) {
-                Ok(name) => ConfigFault::NoSuchPool(name),
-                Err(_) => ConfigFault::Memory,
-            },
-        }
     }
 }

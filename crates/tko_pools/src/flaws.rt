@@ -1,67 +1,54 @@
 //! What is wrong with a configuration.
-ghost use Rattle.std.specs.Prelude.{◌≡◌, map, option_map};
+ghost use Rattle.std.specs.Prelude.{◌≡◌, None, IfErr, IfOk, map, option_map};
 ghost use Rattle.serde_json.specs.View.{items_view, members_view, view};
 ghost use Rattle.tko_pools.specs.Json.{pool_list, pools_of, servers_of, texts_of};
-ghost use Rattle.tko_pools.specs.Reasons.{BadAddress, bad_address, pool_reason, pools_reason, unknown_child};
-ghost use Rattle.tko_pools.specs.Flaws.{reason_in};
+ghost use Rattle.tko_pools.specs.Reasons.{Reports, bad_address, pool_reason, pools_reason, unknown_child};
 
+use crate::ConfigFault;
 use crate::address::is_address;
 use crate::json::{servers_of, text_of};
 use serde_json::{Map, Value};
+use std::alloc::Global;
 
-/// What is wrong with a JSON value that is no configuration. The texts are the value's.
-#[derive(Clone, Copy, Debug)]
-pub(crate) enum Flaw<'a> {
-    NoPools,
-    EmptyPool(&'a str),
-    BadAddress(&'a str),
-    BadRoute,
-    NoSuchPool(&'a str),
-    TooManyServers,
-}
-
-/// What is wrong with the first pool that is wrong.
-pub(crate) fn pools_flaw(pools: &Value) -> Option<Flaw<'_>>
-    ensures { option_map reason_in result ≡ pools_reason (pool_list (view pools.now)) }
+/// Fails with what is wrong with the first pool that is wrong.
+pub(crate) fn check_pools(alloc: Global, pools: &Value) -> Result<(), ConfigFault>
+    ensures ok { IfOk result (λ _. pools_reason (pool_list (view pools.now)) ≡ None) }
+    ensures err { IfErr result (λ fault.
+        Reports (pools_reason (pool_list (view pools.now))) fault) }
 {
     match pools.as_object() {
-        Some(members) => members_flaw(members),
-        None => None,
+        Some(members) => check_members(alloc, members),
+        None => Ok(()),
     }
 }
 
-fn members_flaw(pools: &Map<String, Value>) -> Option<Flaw<'_>>
-    ensures { option_map reason_in result
-        ≡ pools_reason (pools_of (members_view pools.now.entries)) }
+fn check_members(alloc: Global, pools: &Map<String, Value>) -> Result<(), ConfigFault>
+    ensures ok { IfOk result (λ _.
+        pools_reason (pools_of (members_view pools.now.entries)) ≡ None) }
+    ensures err { IfErr result (λ fault.
+        Reports (pools_reason (pools_of (members_view pools.now.entries))) fault) }
 {
     for (name, value) in pools {
-        if let Some(flaw) = pool_flaw(name.as_str(), value) {
-            return Some(flaw);
-        }
+        check_pool(alloc, name.as_str(), value)?;
     }
-    None
+    Ok(())
 }
 
-/// What is wrong with a pool.
-fn pool_flaw<'a>(name: &'a str, value: &'a Value) -> Option<Flaw<'a>>
-    ensures { option_map reason_in result
-        ≡ pool_reason (record { name = name.now; servers = servers_of (view value.now) }) }
+/// Fails with what is wrong with a pool.
+fn check_pool(alloc: Global, name: &str, value: &Value) -> Result<(), ConfigFault>
+    ensures ok { IfOk result (λ _.
+        pool_reason (record { name = name.now; servers = servers_of (view value.now) }) ≡ None) }
+    ensures err { IfErr result (λ fault. Reports (pool_reason
+        (record { name = name.now; servers = servers_of (view value.now) })) fault) }
 {
     let servers = servers_of(value);
     if servers.is_empty() {
-        return Some(Flaw::EmptyPool(name));
+        return Err(ConfigFault::EmptyPool(String::from_str(alloc, name)?));
     }
-    address_flaw(servers)
-}
-
-fn address_flaw(servers: &[Value]) -> Option<Flaw<'_>>
-    ensures { option_map reason_in result
-        ≡ option_map BadAddress (bad_address (texts_of (items_view servers.now))) }
-{
-    match bad_address(servers) {
-        Some(text) => Some(Flaw::BadAddress(text)),
-        None => None,
+    if let Some(text) = bad_address(servers) {
+        return Err(ConfigFault::Address(String::from_str(alloc, text)?));
     }
+    Ok(())
 }
 
 /// The first item of a pool's list that is no address.
