@@ -18,7 +18,7 @@ from kit import stop
 KEPT_WORK = "( incremental=trusted)?"
 
 # How much of the memory that the kit reckons for a check from nothing is set aside for one over kept work. Such checks
-# were seen to take a third of it, and a proof with two jobs three quarters.
+# were seen to take less than half of it, and a proof with two jobs all of it.
 OVER_PROOF = 0.6
 
 
