@@ -1,5 +1,6 @@
 pub mod Answering
 pub mod Answers
+pub mod Asking
 pub mod Cuts
 pub mod Replies
 pub mod Status
