@@ -92,35 +92,11 @@ one_reply key trail = elim (values_or_not (answer_of trail)) [
   | inr none ↦ first_other [] (one key trail) [] refl refl (All-nil HasValues) none refl
 ]
 
-pub nothing_left : {A : Type 0} (xs : List A) → length xs ≡ 0 → xs ≡ []
-nothing_left [] none = refl
-nothing_left (x ∷ xs) none = absurd (omega (arith, none))
-
 -- the one key of a request of one key
 pub one_key : (keys : List (List ℕ)) → length keys ≡ 1 → (key : List ℕ) × (keys ≡ key ∷ [])
 one_key [] is = absurd (omega (arith, is))
 one_key (key ∷ []) is = (key, refl)
 one_key (key ∷ other ∷ keys) is = absurd (omega (arith, is))
-
-false_is_true : false ≡ true → ⊥
-false_is_true e = cc
-
--- what a response is to one of several keys
-pub next_replied : (listed : Bool) (n : ℕ) (found : Option Response) (key : List ℕ) (trail : List Attempt) (xs ys : List ℕ)
-    → IsTrue listed ↔ IsSome (values_in found)
-    → MatchBool listed (ys ≡ xs ++ unwrap_or (values_in found) []) (ys ≡ take n xs ++ text_of_answer found)
-    → found ≡ answer_of trail
-    → MatchBool listed (HasValues (one key trail) × (ys ≡ xs ++ joined (one key trail ∷ [])))
-    (¬ (HasValues (one key trail)) × (ys ≡ take n xs ++ reply_text trail))
-next_replied true n found key trail xs ys is text same = (
-  subst (λ f. IsSome (values_in f)) same (is.0 refl),
-  text ∙ ap (λ f. xs ++ unwrap_or (values_in f) []) same
-      ∙ ap (λ zs. xs ++ zs) (sym (append-nil (unwrap_or (values_in (answer_of trail)) []))),
-)
-next_replied false n found key trail xs ys is text same = (
-  λ some. absurd (false_is_true (is.1 (subst (λ f. IsSome (values_in f)) (sym same) some))),
-  text ∙ ap (λ f. take n xs ++ text_of_answer f) same,
-)
 
 module _ {H L T C : Type 0} {steps : H → HealthItem → H → Type 0} {exchanges : L → LinksItem → L → Type 0} {sent probed : L → ℕ → ℕ} where
   pub key_sends : {old mid new : Parts H L T C} (request : Request) (key : List ℕ) (trail : List Attempt)
@@ -193,7 +169,7 @@ module _ {H L T C : Type 0} {steps : H → HealthItem → H → Type 0} {exchang
 
   -- a request without a key was answered
   pub answered_itself : {old new : Parts H L T C} {outbox outbox' : List ℕ} (request : Request) (text : List ℕ)
-      → AnswersItself steps exchanges sent records request old text new → new.backend.links ≡ old.backend.links → outbox' ≡ outbox ++ text
+      → AnswersItself steps request old text new → new.backend.links ≡ old.backend.links → outbox' ≡ outbox ++ text
       → AnsweredInto steps exchanges sent probed records request old outbox new outbox'
   answered_itself {old} request text answers links appended = record {
     routed = [];
@@ -203,25 +179,6 @@ module _ {H L T C : Type 0} {steps : H → HealthItem → H → Type 0} {exchang
     probes = λ server. ap (λ l. probed l server) links;
     appended = appended;
   }
-
-  pub answered_version : {old : Parts H L T C} {outbox outbox' : List ℕ} {request : Request} → request ≡ Version
-      → outbox' ≡ outbox ++ version_text → AnsweredInto steps exchanges sent probed records request old outbox old outbox'
-  answered_version {old} {outbox} {outbox'} is appended =
-      subst (λ r. AnsweredInto steps exchanges sent probed records r old outbox old outbox') (sym is)
-      (answered_itself Version version_text (refl, refl) refl appended)
-
-  pub answered_quit : {old : Parts H L T C} {outbox : List ℕ} {request : Request} → request ≡ Quit
-      → AnsweredInto steps exchanges sent probed records request old outbox old outbox
-  answered_quit {old} {outbox} is =
-      subst (λ r. AnsweredInto steps exchanges sent probed records r old outbox old outbox) (sym is)
-      (answered_itself Quit [] (refl, refl) refl (sym (append-nil outbox)))
-
-  pub answered_status : {old : Parts H L T C} {health : H} {outbox outbox' : List ℕ} {request : Request} → request ≡ StatsTko
-      → IsStatusAfter steps old.config.addresses old.backend.health outbox health outbox'
-      → AnsweredInto steps exchanges sent probed records request old outbox (record old { backend = record old.backend { health = health } }) outbox'
-  answered_status {old} {health} {outbox} {outbox'} is after =
-      subst (λ r. AnsweredInto steps exchanges sent probed records r old outbox (record old { backend = record old.backend { health = health } }) outbox') (sym is)
-      (answered_itself StatsTko after.text (after.status, refl) refl after.appended)
 
 module _ {H L T C : Type 0} {steps : H → HealthItem → H → Type 0} {exchanges : L → LinksItem → L → Type 0} {sent : L → ℕ → ℕ} {records : T → TrailEvent → T → Type 0} where
   -- the same key of another request that is routed alike

@@ -20,14 +20,6 @@ one_of : (keys : List (List ℕ)) (unique : Bool) (key : List ℕ) → retrieval
 one_of keys unique key =
     sym (request_for_alone (retrieval (key ∷ []) unique) key (retrieval_keys (key ∷ []) unique)) ∙ request_for_one keys unique key
 
-module _ {H L T C A E : Type 0} {steps : H → HealthItem → H → Type 0} {exchanges : L → LinksItem → L → Type 0} {sent probed : L → ℕ → ℕ} where
-  -- a fact on the key of a request is one at an Err
-  pub key_cut : {old new : Parts H L T C} (result : Result A E) (request : Request)
-      → ((key : List ℕ) → request_keys request ≡ key ∷ [] → IsKeyCut steps exchanges sent probed request key old new)
-      → OnErr result ((key : List ℕ) → request_keys request ≡ key ∷ [] → IsKeyCut steps exchanges sent probed request key old new)
-  key_cut (Ok value) request cut = tt
-  key_cut (Err fault) request cut = cut
-
 module _ {H L T C : Type 0} {steps : H → HealthItem → H → Type 0} {exchanges : L → LinksItem → L → Type 0} {sent probed : L → ℕ → ℕ} {records : T → TrailEvent → T → Type 0} where
   -- a request of one key was cut short
   pub cut_alone : {old new : Parts H L T C} (request : Request) (key : List ℕ) → request_keys request ≡ key ∷ []
@@ -53,10 +45,6 @@ module _ {H L T C : Type 0} {steps : H → HealthItem → H → Type 0} {exchang
     values = All-nil HasValues;
     last = untried refl;
   })
-
-  pub cut_status : {old : Parts H L T C} {health : H} {request : Request} → request ≡ StatsTko → LooksSome steps old.config.addresses old.backend.health health
-      → IsAnswerCut steps exchanges sent probed records request old (record old { backend = record old.backend { health = health } })
-  cut_status is some = in_status is some refl
 
   -- memory ran out between two keys
   pub cut_between : {old new : Parts H L T C} {outbox outbox' : List ℕ} {left : List (List ℕ)} (all : List (List ℕ)) (unique : Bool)

@@ -1,6 +1,8 @@
 mod AnsweringLemmas
+mod AskingLemmas
 mod CutLemmas
+mod DrivingLemmas
+mod GoingLemmas
 mod OutboxLemmas
-mod PartsLemmas
 pub mod ResultLemmas
 mod StatusLemmas

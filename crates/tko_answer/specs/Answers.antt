@@ -45,6 +45,16 @@ abbrev pub way_of : Configuration → Request → List ℕ → List Attempt → 
 way_of config request key trail =
     way (targets_of config key) config.failover_exptime request trail
 
+-- a request without a key is answered by the proxy itself
+abbrev pub AnswersItself : {H L T C : Type 0} → (H → HealthItem → H → Type 0) → Request
+    → Parts H L T C → List ℕ → Parts H L T C → Type 0
+AnswersItself steps Version old text new = (text ≡ version_text) × (new ≡ old)
+AnswersItself steps Quit old text new = (text ≡ []) × (new ≡ old)
+AnswersItself steps StatsTko old text new =
+    IsStatus steps old.config.addresses old.backend.health text new.backend.health
+    × (new ≡ record old { backend = record old.backend { health = new.backend.health } })
+AnswersItself steps _ old text new = ⊥
+
 module _ {H L T C : Type 0} (steps : H → HealthItem → H → Type 0)
     (exchanges : L → LinksItem → L → Type 0) (sent : L → ℕ → ℕ)
     (records : T → TrailEvent → T → Type 0) where
@@ -62,15 +72,6 @@ module _ {H L T C : Type 0} (steps : H → HealthItem → H → Type 0)
     pub probers : new.backend.probers ≡ noted routed.trail old.backend.probers
     pub clock : new.backend.clock ≡ old.backend.clock
 
-  -- a request without a key is answered by the proxy itself
-  abbrev pub AnswersItself : Request → Parts H L T C → List ℕ → Parts H L T C → Type 0
-  AnswersItself Version old text new = (text ≡ version_text) × (new ≡ old)
-  AnswersItself Quit old text new = (text ≡ []) × (new ≡ old)
-  AnswersItself StatsTko old text new =
-      IsStatus steps old.config.addresses old.backend.health text new.backend.health
-      × (new ≡ record old { backend = record old.backend { health = new.backend.health } })
-  AnswersItself _ old text new = ⊥
-
   -- the keys of a request were routed, one after another, and gave this text
   pub record AnswersByKeys (request : Request) (old : Parts H L T C) (routed : List RoutedKey)
       (text : List ℕ) (new : Parts H L T C) : Type 0 where
@@ -83,6 +84,6 @@ module _ {H L T C : Type 0} (steps : H → HealthItem → H → Type 0)
   -- what becomes of a request once it was recorded
   pub data Answers (request : Request) (old : Parts H L T C) (routed : List RoutedKey)
       (text : List ℕ) (new : Parts H L T C) : Type 0 where
-    itself : routed ≡ [] → AnswersItself request old text new
+    itself : routed ≡ [] → AnswersItself steps request old text new
         → Answers request old routed text new
     by_keys : AnswersByKeys request old routed text new → Answers request old routed text new

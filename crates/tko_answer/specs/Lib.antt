@@ -1,5 +1,6 @@
 pub mod Answering
 pub mod Answers
+pub mod Asking
 pub mod Counting
 pub mod Cuts
 pub mod Replies

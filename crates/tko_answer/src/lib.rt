@@ -3,13 +3,18 @@
 //! - `Parts`: what a request is answered over: the `Backend` of the worker, the configuration, and
 //!   `Trails`, which records each request and each trail. `Kept` keeps the trails, and `Counts`
 //!   of tko_counts counts what is in them.
-//! - `answer`: answers a request, and puts its reply at the end of an `Outbox`, the replies that
-//!   wait to be written.
+//! - `Answer`: how far the answer to a request came, as a value that sends nothing itself; `OneKey`,
+//!   a key that is to be asked for, and `Asking`, one whose request was sent. The reply is put at
+//!   the end of an `Outbox`, the replies that wait to be written.
+//! - `answer`: sends what an answer asks for, until the reply is complete.
 //! - `status`: the mark of each server as text.
 #![tactic(auto)]
 
 mod answering;
+mod asking;
 mod counting;
+mod ending;
+mod keys_left;
 mod outbox;
 mod parts;
 mod requests;
@@ -17,6 +22,7 @@ mod status_text;
 mod trails;
 
 pub use answering::answer;
+pub use asking::{Answer, Asking, OneKey};
 pub use outbox::Outbox;
 pub use parts::Parts;
 pub use status_text::status;

@@ -1,16 +1,20 @@
-//! What a session works on.
+//! What a request is answered over.
 ghost use Rattle.std.specs.Prelude.{◌≡◌, ◌∷◌, [], List, ℕ, IfOk, OnErr, OnOk};
+ghost use Rattle.tko_answer.specs.Answers.{request_keys};
+ghost use Rattle.tko_answer.specs.Asking.{HasServers};
 ghost use Rattle.tko_pools.specs.Configs.{AreServers, targets_of};
-ghost use Rattle.tko_answer.specs.Answering.{IsCutShort, IsTried};
-ghost use Rattle.tko_answer.specs.Answers.{Reaches, request_keys};
+ghost use Rattle.tko_route.specs.Routing.{GoesOn, Reached, last_place};
+ghost use Rattle.tko_route.specs.Trail.{form_at};
+ghost use Rattle.tko_text.specs.SentRequests.{without_noreply};
+ghost use Rattle.tko_text.specs.declared.request.Request.{Request};
 
 use crate::requests::first_key;
 use std::alloc::Global;
+use std::sync::Wait;
 use tko_backend::Backend;
 use tko_bytes::NoMemory;
-use tko_links::{IoRuntime, Links};
 use tko_pools::Config;
-use tko_route::{Health, Routed, route};
+use tko_route::{Health, Stage};
 use tko_text::Request;
 
 /// What the worker has of the servers, what records the trails, and the configuration, which
@@ -22,46 +26,39 @@ pub struct Parts<H, L, T, C> {
     pub config: Config,
 }
 
-impl<H: Health, L: Links, T, C> Parts<H, L, T, C> {
-    /// Sends a request of one key to one target of the key after another, until one answers. The
-    /// targets are put into a list, in place of what it held. The servers that the attempts marked
-    /// are going to be probed, also where memory ran out.
-    pub(crate) fn route<R: IoRuntime>(
-        &mut self,
-        rt: &R,
-        alloc: Global,
-        targets: &mut Vec<usize>,
-        request: &mut Request,
-    ) -> Result<Routed, NoMemory>
-        requires reach { Reaches H.servers L.servers self.old }
-        ensures tried { IfOk result (λ routed. (key : List ℕ) → request_keys request.old ≡ key ∷ []
-            → IsTried H.steps L.exchanges L.sent L.probed request.old key
-            self.old routed.trail self.new) }
-        ensures short { OnErr result ((key : List ℕ) → request_keys request.old ≡ key ∷ []
-            → IsCutShort H.steps L.exchanges L.sent request.old key self.old self.new) }
-        ensures reach { Reaches H.servers L.servers self.new }
-    {
-        find_targets(&self.config, request, targets)?;
-        let exptime = self.config.failover_exptime();
-        match route(
-            rt,
-            alloc,
-            &mut self.backend.health,
-            &mut self.backend.links,
-            targets,
-            request,
-            exptime,
-        ) {
-            Ok(routed) => {
-                self.backend.probers.note(routed.trail.attempts());
-                Ok(routed)
-            }
-            Err(fault) => {
-                self.backend.probers.note(fault.trail.attempts());
-                Err(NoMemory)
-            }
-        }
-    }
+/// Begins to route a request to the targets of its first key.
+pub(crate) fn begin_route<R: Wait, H: Health, L, T, C>(
+    rt: &R,
+    alloc: Global,
+    parts: &mut Parts<H, L, T, C>,
+    targets: &mut Vec<usize>,
+    request: &mut Request,
+) -> Result<Stage, NoMemory>
+    requires servers { HasServers H.servers parts.old }
+    ensures ok { IfOk result (λ stage. (form : ℕ → Request)
+        → GoesOn H.steps parts.old.backend.health
+        (λ calls. Reached targets.new.items form calls stage) parts.new.backend.health) }
+    ensures request { IfOk result (λ stage. request.new ≡ form_at parts.old.config.failover_exptime
+        (without_noreply request.old) (last_place stage)) }
+    ensures others { parts.new ≡ record parts.old {
+      backend = record parts.old.backend { health = parts.new.backend.health };
+    } }
+    ensures servers { H.servers parts.new.backend.health ≡ H.servers parts.old.backend.health }
+    ensures err { OnErr result (parts.new ≡ parts.old) }
+    ensures targets { OnOk result ((key : List ℕ) → request_keys request.old ≡ key ∷ []
+        → targets.new.items ≡ targets_of parts.old.config key) }
+    ensures within { AreServers parts.old.config targets.new.items }
+{
+    find_targets(&parts.config, request, targets)?;
+    let exptime = parts.config.failover_exptime();
+    Stage::begin(
+        rt,
+        alloc,
+        &mut parts.backend.health,
+        targets,
+        request,
+        exptime,
+    )
 }
 
 /// Puts the targets of a request's first key into a list, in place of what it held.

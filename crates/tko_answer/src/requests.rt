@@ -1,5 +1,5 @@
 //! Requests by their keys.
-ghost use Rattle.std.specs.Prelude.{◌≡◌, ◌<◌, [], ◌∷◌, false, true, IfOk, length, slice_get};
+ghost use Rattle.std.specs.Prelude.{◌≡◌, ◌<◌, [], ◌∷◌, ℕ, Bool, List, false, true, IfOk, length, slice_get};
 ghost use Rattle.std.specs.Option.{option_copied};
 ghost use Rattle.tko_text.specs.declared.request.Request.TheVariants.{Get, Gets};
 ghost use Rattle.tko_answer.specs.Answers.{request_keys};
@@ -48,10 +48,14 @@ pub(crate) fn alone(mut room: Vec<Key>, key: Key, unique: bool) -> Result<Reques
     Ok(retrieval(Keys::new(room), unique))
 }
 
-/// The room of a request's keys, to be used again.
-pub(crate) fn room_of(alloc: Global, request: Request) -> Vec<Key> {
+/// A request for the value of another key, in the room of one for values.
+pub(crate) fn with_key(request: Request, key: Key) -> Result<Request, NoMemory>
+    ensures { IfOk result (λ other. (keys : List (List ℕ)) (unique : Bool)
+        → request ≡ retrieval keys unique → other ≡ retrieval (key ∷ []) unique) }
+{
     match request {
-        Request::Get { keys } | Request::Gets { keys } => keys.into_keys(),
-        _ => Vec::new(alloc),
+        Request::Get { keys } => alone(keys.into_keys(), key, false),
+        Request::Gets { keys } => alone(keys.into_keys(), key, true),
+        request => Ok(request),
     }
 }
