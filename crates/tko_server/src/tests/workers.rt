@@ -16,6 +16,7 @@ use tko_desk::{Book, Kind, Numbers};
 use tko_events::Log;
 use tko_health::{LockedSeating, Seating, SharedSeating};
 use tko_links::{Script, Scripted};
+use tko_metrics::WorkerMeter;
 use tko_tracker::{IdlePass, Named, Tracker, open};
 
 /// What one worker left.
@@ -77,6 +78,7 @@ fn work<R: Wait + Net<Stream = TcpStream> + Clock, P: Drop, S: Seating<Idle = P>
             share: &mut share,
             log: Log::off(),
         },
+        meter: WorkerMeter::off(),
     };
     let (_, report) = worker(rt, alloc, source, seat, parts);
     Ok(Left {
