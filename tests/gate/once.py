@@ -17,6 +17,10 @@ from kit import stop
 
 KEPT_WORK = "( incremental=trusted)?"
 
+# How much of the memory that the kit reckons for a check from nothing is set aside for one over kept work. Such checks
+# were seen to take a third of it, and a proof with two jobs three quarters.
+OVER_PROOF = 0.6
+
 
 def install(rt, with_edits):
     """Replaces the parts of the kit's `rt` that the changes above are about. Returns the folder of the proofs, which is
@@ -90,14 +94,14 @@ def rearranged(rt, tasks, tried):
     for (name, what), (waits, lines, needs, call) in tasks.items():
         proof = (name, "proof")
         if what == "tests":
-            yield (name, what), ([*waits, proof], lines, needs, call)
+            yield (name, what), ([*waits, proof], lines, OVER_PROOF * needs, call)
         elif what == "edits":
-            tries = dict(tries_of(rt, crates[name], tried, lines, needs))
+            tries = dict(tries_of(rt, crates[name], tried, lines, OVER_PROOF * needs))
             yield from tries.items()
             # (what is left to this task is to say what came of them)
             yield (name, what), ([*waits, *tries], 0, 0, call)
         elif what == "proof" and rt.processors() >= 4:
-            yield (name, what), (waits, lines, 1.6 * needs, with_two_jobs(call))
+            yield (name, what), (waits, lines, needs, with_two_jobs(call))
         else:
             yield (name, what), (waits, lines, needs, call)
 

@@ -1,5 +1,5 @@
 -- What a dry run begins with and does.
-use Rattle.std.proofs.Common.{◌≡◌, ℕ, List, length, Some, Option, refl, subst, sym}
+use Rattle.std.proofs.Common.{◌≡◌, ◌<◌, ℕ, List, length, Some, Option, arith, refl, subst, sym}
 use Rattle.std.proofs.lemmas.List.{length-replicate}
 use Rattle.std.proofs.lemmas.List.FromFn.{length-map-range_with_len}
 use Rattle.tko_model.specs.Ranges.{first_fault}
@@ -9,16 +9,23 @@ use Rattle.tko_model.specs.declared.plain.OpenFault.TheVariants as open_fault
 use Rattle.tko_model.specs.declared.settings.SettingsFault.{SettingsFault}
 use Rattle.tko_links.specs.declared.scripted.Script.{Script}
 use Rattle.tko_session.specs.declared.session.Report.{Report}
-use Rattle.tko_session.specs.Served.{Served}
-use Rattle.tko_session.specs.SessionState.{Reaches, probed_by, sent_by}
+use Rattle.tko_io.specs.declared.io.Inlet.{Ghosts as InletGhosts}
+use Rattle.tko_io.specs.declared.io.Outlet.{Ghosts as OutletGhosts}
+use Rattle.tko_session.specs.declared.fault.SessionFault.{SessionFault}
+use Rattle.tko_session.specs.declared.fault.SessionFault.TheVariants as session_fault
+use Rattle.tko_session.specs.Ends.{SessionStops}
+use Rattle.tko_session.specs.Events.{turns_of}
+use Rattle.tko_session.specs.Served.{CameTooLong, Context, Served, StoppedByLine, context}
+use Rattle.tko_answer.specs.Answers.{Reaches}
+use Rattle.tko_session.specs.SessionState.{items_of}
 use Rattle.tko_pools.specs.Configs.{Configuration, in_order}
 use Rattle.tko_cli.specs.declared.fault.Fault.{Fault}
 use Rattle.tko_cli.specs.declared.fault.Fault.TheVariants as fault
 use Rattle.tko_options.specs.declared.dry_options.DryOptions.{DryOptions}
 use Rattle.tko_cli.specs.Configured.{ConfigOf, IsConfigured, IsUnset, NoConfig, scripted_names}
 use Rattle.tko_options.specs.Trackers.{dry_settings}
-use Rattle.tko_cli.specs.DryRuns.{AreFresh, Begins, DryFails, DryParts, IsDry, IsDryEvent, IsOutside, TrailsGo, probes_of, sends_of, words_in}
-use Rattle.tko_cli.specs.Faults.{fault_of_opening}
+use Rattle.tko_cli.specs.DryRuns.{AreFresh, Begins, DryFails, DryParts, IsDry, IsOutside, TrailsGo, dry_effects, words_in}
+use Rattle.tko_cli.specs.Faults.{fault_of_opening, fault_of_session}
 use Rattle.tko_cli.specs.Outcomes.{AllAsk}
 
 -- without a configuration there are as many servers as the options say
@@ -64,61 +71,84 @@ begun_reaches options parts begun =
       probers = rw begun.fresh.probers (length-replicate (length parts.config.addresses) _);
     }
 
--- a session over these parts and the printing of its trails are a dry run
-pub is_dry : {I O : Type 0} (gives : I → List ℕ → I → Type 0) (idles : I → ℕ) (is_ended : I → Type 0)
-    (takes : O → List ℕ → O → Type 0)
-    (options : DryOptions) (old : I) (from : O) (new : I) (middle to : O) (before after : DryParts) (report : Report)
-    → Begins options before
-    → Served gives idles takes IsDryEvent
-    (sent_by sends_of) (probed_by probes_of) is_ended old from before report new middle after
-    → TrailsGo takes options.trail after.trails middle to
-    → IsDry gives idles is_ended takes options old from new to
-is_dry gives idles is_ended takes options old from new middle to before after report begun served went =
-    record {
-      before = before;
-      after = after;
-      report = report;
-      middle = middle;
-      begins = begun;
-      served = served;
-      trails = went;
-    }
+module _ {I O : Type 0} (inlet : InletGhosts I) (outlet : OutletGhosts O) where
+  -- a session over these parts and the printing of its trails are a dry run
+  pub is_dry : (options : DryOptions) (old : I) (from : O) (new : I) (middle to : O) (before after : DryParts) (report : Report)
+      → Begins options before
+      → Served inlet outlet dry_effects (context old from before) report (context new middle after)
+      → TrailsGo outlet.takes options.trail after.trails middle to
+      → IsDry inlet outlet options (old, from) (new, to)
+  is_dry options old from new middle to before after report begun served went =
+      record {
+        before = before;
+        after = after;
+        report = report;
+        middle = middle;
+        begins = begun;
+        served = served;
+        trails = went;
+      }
 
--- the options name no configuration, so nothing was read or written
-pub not_configured : {I O : Type 0} (gives : I → List ℕ → I → Type 0) (read_failures : I → ℕ) (write_failures : O → ℕ)
-    (options : DryOptions) (old : I) (from : O) (scripts : List Script) (reason : Fault)
-    → AllAsk (words_in options) scripts → NoConfig options reason
-    → DryFails gives read_failures write_failures options old old from from reason
-not_configured gives read_failures write_failures options old from scripts (fault.Config cause) asked flawed =
-    (record { scripts = scripts; asked = asked; flawed = flawed }, refl, refl)
-not_configured gives read_failures write_failures options old from scripts (fault.Settings name) asked unset =
-    (outside_alone options name scripts asked unset, refl, refl)
-not_configured gives read_failures write_failures options old from scripts fault.Memory asked none = tt
-not_configured gives read_failures write_failures options old from scripts fault.ConfigFile asked none = absurd none
-not_configured gives read_failures write_failures options old from scripts fault.Read asked none = absurd none
-not_configured gives read_failures write_failures options old from scripts fault.Write asked none = absurd none
-not_configured gives read_failures write_failures options old from scripts fault.LineTooLong asked none = absurd none
-not_configured gives read_failures write_failures options old from scripts (fault.Outcomes number) asked none = absurd none
-not_configured gives read_failures write_failures options old from scripts (fault.Line number) asked none = absurd none
-not_configured gives read_failures write_failures options old from scripts fault.Check asked none = absurd none
-not_configured gives read_failures write_failures options old from scripts fault.Delays asked none = absurd none
-not_configured gives read_failures write_failures options old from scripts fault.Listen asked none = absurd none
-not_configured gives read_failures write_failures options old from scripts fault.Accept asked none = absurd none
+  -- the last item of a session was a line too long
+  line_came : (old new : Context I O DryParts) → StoppedByLine inlet outlet dry_effects old new
+      → CameTooLong inlet.gives old.reader new.reader
+  line_came old new stopped = record {
+    bytes = stopped.transcript.bytes;
+    items = items_of (turns_of stopped.transcript.events);
+    left = stopped.transcript.left;
+    input = stopped.transcript.input;
+    reads = record { gives = stopped.transcript.items; open_end = stopped.open_end };
+    ends = stopped.ends;
+  }
 
--- the tracker could not be opened, so nothing was read or written
-pub not_opened : {I O : Type 0} (gives : I → List ℕ → I → Type 0) (read_failures : I → ℕ) (write_failures : O → ℕ)
-    (options : DryOptions) (old : I) (from : O) (scripts : List Script) (config : Configuration) (cause : OpenFault)
-    → AllAsk (words_in options) scripts → IsConfigured options config
-    → ((name : SettingsFault) → cause ≡ open_fault.Settings name
-    → first_fault (dry_settings options (length config.addresses)) ≡ Some name)
-    → DryFails gives read_failures write_failures options old old from from (fault_of_opening cause)
-not_opened gives read_failures write_failures options old from scripts config (open_fault.Settings name) asked configured first =
-    let outside : IsOutside options name = record {
-      scripts = scripts;
-      asked = asked;
-      config = config;
-      configured = configured;
-      first = first name refl;
-    } in
-    (outside, refl, refl)
-not_opened gives read_failures write_failures options old from scripts config open_fault.Memory asked configured first = tt
+  -- the session ended before its input did
+  pub session_failed : (options : DryOptions) (cause : SessionFault) (old new : Context I O DryParts)
+      → SessionStops inlet outlet dry_effects old cause new
+      → DryFails inlet outlet options (old.reader, old.writer) (new.reader, new.writer) (fault_of_session cause)
+  session_failed options session_fault.Read old new stops = stops.1
+  session_failed options (session_fault.Write count) old new stops = stops.1
+  session_failed options session_fault.LineTooLong old new stops = line_came old new stops.0
+  session_failed options session_fault.Memory old new stops = tt
+
+  -- the writer failed behind the session, which it did not fail in
+  pub trails_failed : (options : DryOptions) (old : I × O) (new : I) (middle to : O)
+      → outlet.failures middle ≡ outlet.failures old.1 → outlet.failures middle < outlet.failures to
+      → DryFails inlet outlet options old (new, to) fault.Write
+  trails_failed options old new middle to calm failed = omega (arith, calm, failed)
+
+  -- the options name no configuration, so nothing was read or written
+  pub not_configured : (options : DryOptions) (here : I × O) (scripts : List Script) (reason : Fault)
+      → AllAsk (words_in options) scripts → NoConfig options reason
+      → DryFails inlet outlet options here here reason
+  not_configured options here scripts (fault.Config cause) asked flawed =
+      (record { scripts = scripts; asked = asked; flawed = flawed }, refl, refl)
+  not_configured options here scripts (fault.Settings name) asked unset =
+      (outside_alone options name scripts asked unset, refl, refl)
+  not_configured options here scripts fault.Memory asked none = tt
+  not_configured options here scripts fault.ConfigFile asked none = absurd none
+  not_configured options here scripts fault.Read asked none = absurd none
+  not_configured options here scripts fault.Write asked none = absurd none
+  not_configured options here scripts fault.LineTooLong asked none = absurd none
+  not_configured options here scripts (fault.Outcomes number) asked none = absurd none
+  not_configured options here scripts (fault.Line number) asked none = absurd none
+  not_configured options here scripts fault.Check asked none = absurd none
+  not_configured options here scripts fault.Delays asked none = absurd none
+  not_configured options here scripts fault.Listen asked none = absurd none
+  not_configured options here scripts fault.Accept asked none = absurd none
+
+  -- the tracker could not be opened, so nothing was read or written
+  pub not_opened : (options : DryOptions) (here : I × O) (scripts : List Script) (config : Configuration) (cause : OpenFault)
+      → AllAsk (words_in options) scripts → IsConfigured options config
+      → ((name : SettingsFault) → cause ≡ open_fault.Settings name
+      → first_fault (dry_settings options (length config.addresses)) ≡ Some name)
+      → DryFails inlet outlet options here here (fault_of_opening cause)
+  not_opened options here scripts config (open_fault.Settings name) asked configured first =
+      let outside : IsOutside options name = record {
+        scripts = scripts;
+        asked = asked;
+        config = config;
+        configured = configured;
+        first = first name refl;
+      } in
+      (outside, refl, refl)
+  not_opened options here scripts config open_fault.Memory asked configured first = tt

@@ -2,7 +2,7 @@
 use Rattle.std.proofs.Common.{◌≡◌, ℕ, List, Option, Some, None, inl, inr, refl, subst}
 use Rattle.std.proofs.lemmas.Bool.{le-leb}
 use Rattle.std.proofs.Math.Dec.{leb-zero}
-use Rattle.tko_desk.specs.declared.numbers.Numbers.{Numbers}
+use Rattle.tko_counts.specs.declared.counts.Counts.{Counts}
 use Rattle.tko_model.specs.Ranges.{IsWithinRanges, first_fault}
 use Rattle.tko_model.specs.declared.settings.Settings.{Settings}
 use Rattle.tko_model.specs.declared.settings.SettingsFault.{SettingsFault}
@@ -86,13 +86,13 @@ no_metrics takes failures options plan from fault.Accept planned none = absurd n
 
 -- `ready` and then the totals
 pub has_served : {O : Type 0} (takes : O → List ℕ → O → Type 0) (options : ServeOptions) (plan : Plan)
-    (from middle to : O) (numbers : Numbers) → IsPlanned options plan → takes from ready_text middle
-    → takes middle (totals_text numbers) to → HasServed takes options from to
-has_served takes options plan from middle to numbers planned ready totals =
+    (from middle to : O) (counts : Counts) → IsPlanned options plan → takes from ready_text middle
+    → takes middle (totals_text counts) to → HasServed takes options from to
+has_served takes options plan from middle to counts planned ready totals =
     record {
       plan = record { plan = plan; planned = planned };
       middle = middle;
-      numbers = numbers;
+      counts = counts;
       ready = ready;
       totals = totals;
     }

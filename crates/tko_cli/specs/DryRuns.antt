@@ -9,14 +9,17 @@ use Rattle.tko_health.specs.Health.{OneThread, IsGranted, IsTrackerStep}
 use Rattle.tko_links.specs.Scripted.{ScriptedState, IsPlayed}
 use Rattle.tko_prober.specs.declared.delays.Delays.{Delays}
 use Rattle.tko_backend.specs.declared.clock.FrozenClock.{FrozenClock}
-use Rattle.tko_session.specs.declared.parts.Parts.{Parts}
+use Rattle.tko_answer.specs.declared.parts.Parts.{Parts}
 use Rattle.tko_session.specs.declared.session.Report.{Report}
-use Rattle.tko_session.specs.Events.{Event, IsEvent}
+use Rattle.tko_io.specs.declared.io.Inlet.{Ghosts as InletGhosts}
+use Rattle.tko_io.specs.declared.io.Outlet.{Ghosts as OutletGhosts}
+use Rattle.tko_session.specs.Turns.{IsRequestCut}
+use Rattle.tko_session.specs.Events.{Effects, IsEvent}
 use Rattle.tko_backend.specs.Clocks.{IsFrozen}
 use Rattle.tko_backend.specs.Probers.{no_probers}
-use Rattle.tko_session.specs.Served.{CameTooLong, Served}
+use Rattle.tko_session.specs.Served.{CameTooLong, Served, context}
 use Rattle.tko_session.specs.SessionState.{probed_by, sent_by}
-use Rattle.tko_session.specs.TrailEvents.{Keeps}
+use Rattle.tko_answer.specs.TrailEvents.{Keeps}
 use Rattle.tko_pools.specs.Configs.{Configuration}
 use Rattle.tko_pools.specs.declared.fault.ConfigFault.{ConfigFault}
 use Rattle.tko_cli.specs.Configured.{IsConfigured, IsFlawed}
@@ -97,10 +100,14 @@ sends_of links server = slice_index links.sends server
 abbrev pub probes_of : ScriptedState → ℕ → ℕ
 probes_of links server = slice_index links.probes server
 
--- an event over these parts
-abbrev pub IsDryEvent : DryParts → Event → DryParts → Type 0
-IsDryEvent old event new =
-    IsEvent IsTrackerStep IsGranted IsPlayed sends_of probes_of Keeps IsFrozen old event new
+-- the effects of a session on these parts
+abbrev pub dry_effects : Effects DryParts
+dry_effects = record {
+  step = IsEvent IsTrackerStep IsGranted IsPlayed sends_of probes_of Keeps IsFrozen;
+  cut = IsRequestCut IsTrackerStep IsPlayed sends_of probes_of Keeps;
+  sent = sent_by sends_of;
+  probed = probed_by probes_of;
+}
 
 -- the trails' lines went out if they are asked for, and else nothing
 abbrev pub TrailsGo : {O : Type 0} → (O → List ℕ → O → Type 0) → Bool → List (List Attempt)
@@ -110,36 +117,34 @@ TrailsGo takes false trails from to = to ≡ from
 
 -- a session over the parts that the options name came to the end of its input, and after its
 -- replies the lines of its trails went out, if they are asked for
-pub record IsDry {I O : Type 0} (gives : I → List ℕ → I → Type 0) (idles : I → ℕ)
-    (is_ended : I → Type 0) (takes : O → List ℕ → O → Type 0) (options : DryOptions)
-    (old : I) (from : O) (new : I) (to : O) : Type 0 where
+pub record IsDry {I O : Type 0} (inlet : InletGhosts I) (outlet : OutletGhosts O)
+    (options : DryOptions) (old new : I × O) : Type 0 where
   pub before : DryParts
   pub after : DryParts
   pub report : Report
   pub middle : O
   pub begins : Begins options before
-  pub served : Served gives idles takes IsDryEvent (sent_by sends_of) (probed_by probes_of)
-      is_ended old from before report new middle after
-  pub trails : TrailsGo takes options.trail after.trails middle to
+  pub served : Served inlet outlet dry_effects
+      (context old.0 old.1 before) report (context new.0 middle after)
+  pub trails : TrailsGo outlet.takes options.trail after.trails middle new.1
 
-module _ {I O : Type 0} (gives : I → List ℕ → I → Type 0)
-    (read_failures : I → ℕ) (write_failures : O → ℕ) where
+module _ {I O : Type 0} (inlet : InletGhosts I) (outlet : OutletGhosts O) where
   -- why a dry run fails: the options name no parts, and then nothing was read or written; an end
   -- failed; a line was too long; or memory ran out
-  abbrev pub DryFails : DryOptions → I → I → O → O → Fault → Type 0
-  DryFails options old new from to (fault.Outcomes number) =
-      (first_bad (words_in options) ≡ Some number) × (new ≡ old) × (to ≡ from)
-  DryFails options old new from to (fault.Config cause) =
-      IsNoConfig options cause × (new ≡ old) × (to ≡ from)
-  DryFails options old new from to (fault.Settings name) =
-      IsOutside options name × (new ≡ old) × (to ≡ from)
-  DryFails options old new from to fault.Read = read_failures old < read_failures new
-  DryFails options old new from to fault.Write = write_failures from < write_failures to
-  DryFails options old new from to fault.LineTooLong = CameTooLong gives old new
-  DryFails options old new from to fault.Memory = Unit {0}
-  DryFails options old new from to (fault.Line number) = ⊥
-  DryFails options old new from to fault.Check = ⊥
-  DryFails options old new from to fault.ConfigFile = ⊥
-  DryFails options old new from to fault.Delays = ⊥
-  DryFails options old new from to fault.Listen = ⊥
-  DryFails options old new from to fault.Accept = ⊥
+  abbrev pub DryFails : DryOptions → I × O → I × O → Fault → Type 0
+  DryFails options old new (fault.Outcomes number) =
+      (first_bad (words_in options) ≡ Some number) × (new.0 ≡ old.0) × (new.1 ≡ old.1)
+  DryFails options old new (fault.Config cause) =
+      IsNoConfig options cause × (new.0 ≡ old.0) × (new.1 ≡ old.1)
+  DryFails options old new (fault.Settings name) =
+      IsOutside options name × (new.0 ≡ old.0) × (new.1 ≡ old.1)
+  DryFails options old new fault.Read = inlet.failures old.0 < inlet.failures new.0
+  DryFails options old new fault.Write = outlet.failures old.1 < outlet.failures new.1
+  DryFails options old new fault.LineTooLong = CameTooLong inlet.gives old.0 new.0
+  DryFails options old new fault.Memory = Unit {0}
+  DryFails options old new (fault.Line number) = ⊥
+  DryFails options old new fault.Check = ⊥
+  DryFails options old new fault.ConfigFile = ⊥
+  DryFails options old new fault.Delays = ⊥
+  DryFails options old new fault.Listen = ⊥
+  DryFails options old new fault.Accept = ⊥

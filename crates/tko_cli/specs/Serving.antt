@@ -1,6 +1,6 @@
 -- What `serve` writes, and why it fails.
 use Rattle.std.specs.Prelude.{◌≡◌, ◌<◌, ◌⊎◌, ℕ, true, List, codes, is_some}
-use Rattle.tko_desk.specs.declared.numbers.Numbers.{Numbers}
+use Rattle.tko_counts.specs.declared.counts.Counts.{Counts}
 use Rattle.tko_cli.specs.Notices.{HasNotices}
 use Rattle.tko_cli.specs.Planned.{IsPlanned, NoPlan}
 use Rattle.tko_cli.specs.Totals.{totals_text}
@@ -23,9 +23,9 @@ pub record HasServed {O : Type 0} (takes : O → List ℕ → O → Type 0) (opt
     (from to : O) : Type 0 where
   pub plan : HasPlan options
   pub middle : O
-  pub numbers : Numbers
+  pub counts : Counts
   pub ready : takes from ready_text middle
-  pub totals : takes middle (totals_text numbers) to
+  pub totals : takes middle (totals_text counts) to
 
 -- a server that had begun ended by a fault: the outlet failed, or `ready` went out and nothing else
 pub data HasBegun {O : Type 0} (takes : O → List ℕ → O → Type 0) (failures : O → ℕ)

@@ -1,21 +1,21 @@
 -- How the totals of the workers are printed.
 use Rattle.std.specs.Prelude.{List, ℕ, [], ◌∷◌, ◌++◌, codes, decimal}
-use Rattle.tko_desk.specs.Ledger.{kind_word, number_of}
-use Rattle.tko_desk.specs.declared.numbers.Kind.{Kind}
-use Rattle.tko_desk.specs.declared.numbers.Kind.TheVariants.{Request, Attempt, Skip, Reply, NoServer, Probe}
-use Rattle.tko_desk.specs.declared.numbers.Numbers.{Numbers}
+use Rattle.tko_counts.specs.Numbers.{kind_word, number_of}
+use Rattle.tko_counts.specs.declared.counts.Counts.{Counts}
+use Rattle.tko_counts.specs.declared.kind.Kind.{Kind}
+use Rattle.tko_counts.specs.declared.kind.Kind.TheVariants.{Request, Attempt, Skip, Reply, NoServer, Probe}
 
 -- the line of a kind
-abbrev pub total_text : Kind → Numbers → List ℕ
-total_text kind numbers =
-    codes "total " ++ kind_word kind ++ codes " " ++ decimal (number_of kind numbers) ++ codes "\n"
+abbrev pub total_text : Kind → Counts → List ℕ
+total_text kind counts =
+    codes "total " ++ kind_word kind ++ codes " " ++ decimal (number_of kind counts) ++ codes "\n"
 
 -- the lines of these kinds
-abbrev pub totals_of : List Kind → Numbers → List ℕ
-totals_of [] numbers = []
-totals_of (kind ∷ others) numbers = total_text kind numbers ++ totals_of others numbers
+abbrev pub totals_of : List Kind → Counts → List ℕ
+totals_of [] counts = []
+totals_of (kind ∷ others) counts = total_text kind counts ++ totals_of others counts
 
 -- a line for each kind
-abbrev pub totals_text : Numbers → List ℕ
-totals_text numbers =
-    totals_of (Request ∷ Attempt ∷ Skip ∷ Reply ∷ NoServer ∷ Probe ∷ []) numbers
+abbrev pub totals_text : Counts → List ℕ
+totals_text counts =
+    totals_of (Request ∷ Attempt ∷ Skip ∷ Reply ∷ NoServer ∷ Probe ∷ []) counts

@@ -36,10 +36,10 @@ pub(crate) fn dry<R: IoRuntime, I: Inlet, O: Outlet>(
     input: &mut I,
     output: &mut O,
 ) -> Result<(), Fault>
-    ensures ok { OnOk result (IsDry I.gives I.idles I.is_ended O.takes options.now
-        input.old output.old input.new output.new) }
-    ensures err { IfErr result (DryFails I.gives I.failures O.failures options.now
-        input.old input.new output.old output.new) }
+    ensures ok { OnOk result (IsDry I.Inlet O.Outlet options.now
+        (input.old, output.old) (input.new, output.new)) }
+    ensures err { IfErr result (DryFails I.Inlet O.Outlet options.now
+        (input.old, output.old) (input.new, output.new)) }
 {
     let scripts = scripts_of(alloc, options.outcomes.as_str())?;
     let config = config_of(alloc, options)?;

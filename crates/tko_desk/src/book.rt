@@ -2,15 +2,16 @@
 ghost use Rattle.std.specs.Prelude.{◌≡◌, ◌↔◌, IfErr, IfOk, IsErrOf, OnErr, OnOk};
 ghost use Rattle.tko_desk.specs.Ledger.{IsAdded, IsFull, IsOpened, IsTooMany, fresh_shares};
 
-use crate::{Kind, NoMemory, Numbers};
 use std::alloc::Global;
+use tko_bytes::NoMemory;
+use tko_counts::{Counts, Kind};
 
 /// The totals of a ledger. Its name tells its shares from those of another ledger.
 #[derive(Debug, Drop, PartialEq, Eq)]
 pub struct Book {
     pub(crate) name: u64,
     pub(crate) shares: u32,
-    pub(crate) totals: Numbers,
+    pub(crate) totals: Counts,
 }
 
 /// What one worker counted: the share of one place, in a ledger of this name.
@@ -18,7 +19,7 @@ pub struct Book {
 pub struct Share {
     pub(crate) name: u64,
     pub(crate) place: u32,
-    pub(crate) numbers: Numbers,
+    pub(crate) counts: Counts,
 }
 
 /// The book or the share would come to more than 2^64 - 1 of this kind, and counts no more of it.
@@ -32,7 +33,7 @@ impl Book {
     pub fn open(alloc: Global, name: u64, shares: u32) -> Result<(Book, Vec<Share>), NoMemory>
         ensures { IfOk result (λ opened. IsOpened name shares opened.0 opened.1.items) }
     {
-        let totals = Numbers::none();
+        let totals = Counts::new();
         let list = Share::list(alloc, name, shares)?;
         let book = Book {
             name,
@@ -49,12 +50,10 @@ impl Book {
         ensures err { OnErr result ((self.new ≡ self.old) × (share.new ≡ share.old)) }
         ensures kind { IfErr result (λ full. full.kind ≡ kind) }
     {
-        if self.totals.of(kind) == u64::MAX || share.numbers.of(kind) == u64::MAX {
+        if self.totals.of(kind) == u64::MAX || share.counts.of(kind) == u64::MAX {
             return Err(LedgerFull { kind });
         }
-        self.totals.raise(kind, 1);
-        share.numbers.raise(kind, 1);
-        Ok(())
+        self.add_many(share, kind, 1)
     }
 
     /// Counts `by` more of a kind, in the book and in the share: all of them, or none.
@@ -65,16 +64,16 @@ impl Book {
         ensures err { OnErr result ((self.new ≡ self.old) × (share.new ≡ share.old)) }
         ensures kind { IfErr result (λ full. full.kind ≡ kind) }
     {
-        if self.totals.has_no_room(kind, by) || share.numbers.has_no_room(kind, by) {
-            return Err(LedgerFull { kind });
-        }
-        self.totals.raise(kind, by);
-        share.numbers.raise(kind, by);
+        let full = LedgerFull { kind };
+        let totals = self.totals.checked_add(kind, by).ok_or(full)?;
+        let counts = share.counts.checked_add(kind, by).ok_or(full)?;
+        self.totals = totals;
+        share.counts = counts;
         Ok(())
     }
 
     /// The totals until now.
-    pub fn totals(&self) -> Numbers
+    pub fn totals(&self) -> Counts
         ensures { result ≡ self.now.totals }
     {
         self.totals
@@ -88,20 +87,20 @@ impl Share {
     {
         let mut list = Vec::new(alloc);
         for place in 0..shares {
-            let numbers = Numbers::none();
+            let counts = Counts::new();
             list.push(Share {
                 name,
                 place,
-                numbers,
+                counts,
             })?;
         }
         Ok(list)
     }
 
     /// What this worker counted.
-    pub fn numbers(&self) -> Numbers
-        ensures { result ≡ self.now.numbers }
+    pub fn counts(&self) -> Counts
+        ensures { result ≡ self.now.counts }
     {
-        self.numbers
+        self.counts
     }
 }

@@ -1,26 +1,28 @@
 //! What a ledger comes to, once all its shares are back.
 ghost use Rattle.std.specs.Prelude.{◌≡◌, ◌↔◌, ◌<◌, ℕ, All, IfErr, IfOk, IsOk, IsTrue, length};
 ghost use Rattle.std.specs.List.{count_by};
-ghost use Rattle.tko_desk.specs.Ledger.{HasEachPlace, HasSums, IsWhole, is_at, number_of, sum_of};
+ghost use Rattle.tko_counts.specs.Numbers.{number_of};
+ghost use Rattle.tko_desk.specs.Ledger.{HasEachPlace, HasSums, IsWhole, is_at, sum_of};
 
-use crate::{Book, Kind, Numbers, Share};
+use crate::{Book, Share};
+use tko_counts::{Counts, Kind};
 
 /// What all workers counted.
 #[derive(Clone, Copy, Debug, PartialEq, Eq)]
 pub struct Totals {
-    pub numbers: Numbers,
+    pub counts: Counts,
 }
 
 /// The totals of a book. It hands both back where these are not the book's shares, each once, whose
 /// sums are its totals. Its time grows with the square of the number of shares.
 pub fn gather(book: Book, shares: Vec<Share>) -> Result<Totals, (Book, Vec<Share>)>
     ensures whole { IsOk result ↔ IsWhole book shares.items }
-    ensures totals { IfOk result (λ totals. totals.numbers ≡ book.totals) }
+    ensures totals { IfOk result (λ totals. totals.counts ≡ book.totals) }
     ensures back { IfErr result (λ back. back ≡ (book, shares)) }
 {
     if is_whole(&book, &shares) {
         return Ok(Totals {
-            numbers: book.totals(),
+            counts: book.totals(),
         });
     }
     Err((book, shares))
@@ -70,7 +72,7 @@ fn count_at(place: u32, shares: &[Share]) -> usize
 
 /// Whether the shares add up to these totals.
 #[tactic(auto, unfolding(crate::specs::Ledger::HasSums))]
-fn has_sums(totals: &Numbers, shares: &[Share]) -> bool
+fn has_sums(totals: &Counts, shares: &[Share]) -> bool
     ensures { IsTrue result ↔ HasSums totals.now shares.now }
 {
     is_sum(Kind::Request, totals, shares)
@@ -82,12 +84,12 @@ fn has_sums(totals: &Numbers, shares: &[Share]) -> bool
 }
 
 /// Whether the shares add up to the total of a kind.
-fn is_sum(kind: Kind, totals: &Numbers, shares: &[Share]) -> bool
+fn is_sum(kind: Kind, totals: &Counts, shares: &[Share]) -> bool
     ensures { IsTrue result ↔ (sum_of kind shares.now ≡ number_of kind totals.now) }
 {
     let mut left = totals.of(kind);
     for share in shares {
-        let Some(rest) = left.checked_sub(share.numbers.of(kind)) else {
+        let Some(rest) = left.checked_sub(share.counts.of(kind)) else {
             return false;
         };
         left = rest;

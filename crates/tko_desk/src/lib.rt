@@ -2,9 +2,9 @@
 //! of what they counted.
 //!
 //! - `Desk`: the idle passes of one tracker, which workers take and give back.
-//! - `Kind`: what is counted; `Numbers`: a number for each kind.
 //! - `Book`: the totals of a ledger; `Share`: one worker's part of it. Each number is counted
-//!   twice, in the book and in the share of the worker that counted it.
+//!   twice, in the book and in the share of the worker that counted it. `Kind` and `Counts` are
+//!   those of tko_counts.
 //! - `Totals`: what a book comes to once all its shares are back.
 #![tactic(auto)]
 
@@ -12,13 +12,12 @@ mod book;
 mod desk;
 mod gathering;
 mod held;
-mod numbers;
 
 pub use book::{Book, LedgerFull, Share};
 pub use desk::Desk;
 pub use gathering::{Totals, gather};
-pub use numbers::{Kind, Numbers};
 pub use tko_bytes::NoMemory;
+pub use tko_counts::{Counts, Kind};
 
 #[cfg(test)]
 mod tests;

@@ -14,9 +14,9 @@ fn shares_add_up(rt: HostRuntime) -> Result<(), Fail> {
         assert_eq!(rt; book.add(&mut shares[place], kind), Ok(()));
     }
     let totals = gather(book, shares).map_err(|_| "gather")?;
-    assert_eq!(rt; totals.numbers.of(Kind::Request), 2);
-    assert_eq!(rt; totals.numbers.of(Kind::NoServer), 1);
-    assert_eq!(rt; totals.numbers.of(Kind::Probe), 0);
+    assert_eq!(rt; totals.counts.of(Kind::Request), 2);
+    assert_eq!(rt; totals.counts.of(Kind::NoServer), 1);
+    assert_eq!(rt; totals.counts.of(Kind::Probe), 0);
     Ok(())
 }
 
@@ -32,16 +32,6 @@ fn a_sum_above_the_greatest_is_refused(rt: HostRuntime) -> Result<(), Fail> {
     assert_eq!(rt; book.add_many(&mut shares[1], kind, 1), Ok(()));
     assert_eq!(rt; book.add(&mut shares[1], kind), Err(LedgerFull { kind }));
     assert_eq!(rt; book.totals().of(kind), u64::MAX);
-    assert_eq!(rt; shares[1].numbers().of(kind), 1);
-    Ok(())
-}
-
-#[test]
-fn kinds_have_words(rt: HostRuntime) -> Result<(), Fail> {
-    let words = Kind::ALL.map(Kind::word);
-    assert_eq!(rt;
-        words,
-        ["request", "attempt", "skip", "reply", "no-server", "probe"]
-    );
+    assert_eq!(rt; shares[1].counts().of(kind), 1);
     Ok(())
 }

@@ -1,4 +1,3 @@
-pub mod Accounts
 pub mod Accepting
 pub mod Allotments
 pub mod Closing

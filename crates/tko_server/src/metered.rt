@@ -1,13 +1,14 @@
 //! Counts that a meter has too, as they grow.
 ghost use Rattle.std.specs.Prelude.{◌≡◌};
-ghost use Rattle.tko_session.specs.Counting.{no_counts};
+ghost use Rattle.tko_counts.specs.Numbers.{no_counts};
 
 use std::marker::Model;
+use tko_answer::Trails;
 use tko_bytes::NoMemory;
+use tko_counts::{Counts, Kind};
 use tko_links::IoRuntime;
 use tko_metrics::{Increase, WorkerMeter};
 use tko_route::Trail;
-use tko_session::{Counts, Trails};
 use tko_text::Request;
 
 /// A worker's counts, which are added to its part of the meter after each request and each trail.
@@ -19,7 +20,7 @@ pub(crate) struct Metered {
 }
 
 impl Model for Metered {
-    ghost use Rattle.tko_session.specs.declared.counts.Counts.{Counts};
+    ghost use Rattle.tko_counts.specs.declared.counts.Counts.{Counts};
 
     ghost Value = { Counts };
 
@@ -52,7 +53,7 @@ impl Metered {
 }
 
 impl Trails for Metered {
-    ghost use Rattle.tko_session.specs.Counting.{counted};
+    ghost use Rattle.tko_answer.specs.Counting.{counted};
 
     ghost records = { λ old event new. new ≡ counted old event };
 
@@ -73,11 +74,12 @@ impl Trails for Metered {
 
 /// By how much the counts grew.
 fn increase_between(before: Counts, after: Counts) -> Increase {
+    let more = |kind: Kind| after.of(kind).saturating_sub(before.of(kind));
     Increase {
-        requests: after.requests.saturating_sub(before.requests),
-        attempts: after.attempts.saturating_sub(before.attempts),
-        skips: after.skips.saturating_sub(before.skips),
-        replies: after.replies.saturating_sub(before.replies),
-        no_server: after.no_server.saturating_sub(before.no_server),
+        requests: more(Kind::Request),
+        attempts: more(Kind::Attempt),
+        skips: more(Kind::Skip),
+        replies: more(Kind::Reply),
+        no_server: more(Kind::NoServer),
     }
 }

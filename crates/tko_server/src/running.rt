@@ -250,12 +250,12 @@ fn serve_all<N: Named + Send + Sync, R: IoRuntime<Listener = TcpListener> + Thre
 /// The totals of the book. Each worker gave its share back, so `gather` does not refuse them; what
 /// a lock had in it is known by its type alone, so no contract says that.
 fn totals_of(book: Book, shares: Vec<Share>) -> Totals
-    ensures { result.numbers ≡ book.totals }
+    ensures { result.counts ≡ book.totals }
 {
     match gather(book, shares) {
         Ok(totals) => totals,
         Err((book, _)) => Totals {
-            numbers: book.totals(),
+            counts: book.totals(),
         },
     }
 }

@@ -3,13 +3,14 @@ ghost use Rattle.std.specs.Prelude.{◌≡◌, ◌≤◌, length};
 ghost use Rattle.tko_server.specs.Rounds.{IsRoundNoted};
 ghost use Rattle.tko_server.specs.Reports.{IsSessionCounted, ending_of};
 ghost use Rattle.tko_server.specs.Workers.{IsEquipped};
-ghost use Rattle.tko_session.specs.SessionState.{Reaches};
+ghost use Rattle.tko_answer.specs.Answers.{Reaches};
 
 use crate::metered::Metered;
 use crate::{Account, Next, Source, WorkerReport};
 use std::alloc::Global;
 use std::sync::Wait;
 use tko_backend::{Backend, Clock, Probers};
+use tko_counts::Kind;
 use tko_health::{Health, Seating};
 use tko_io::{Inlet, Outlet};
 use tko_links::{IoRuntime, Links};
@@ -133,8 +134,8 @@ impl<H: Health, L: Links, M: Clock> Working<H, L, M> {
             self.parts.config.addresses().len(),
         );
         let more = probes.saturating_sub(self.probes);
-        let counts = self.parts.trails.take();
-        if account.add(rt, &counts, more) {
+        let counts = self.parts.trails.take().saturating_add(Kind::Probe, more);
+        if account.add(rt, &counts) {
             self.report.ledger_full = true;
         }
         self.probes = probes;

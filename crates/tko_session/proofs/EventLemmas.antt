@@ -4,9 +4,10 @@ use Rattle.std.proofs.lemmas.Grind.{flat_map-append}
 use Rattle.std.specs.List.{list_any}
 use Rattle.std.proofs.lemmas.List.Folds.{list_any-append}
 use Rattle.std.proofs.lemmas.List.Sums.{sum_by-append}
-use Rattle.tko_model.specs.Records.{HealthItem}
-use Rattle.tko_links.specs.Links.{LinksItem}
-use Rattle.tko_session.specs.declared.parts.Parts.{Parts}
+use Rattle.tko_health.specs.declared.health.Health.{Ghosts as HealthGhosts}
+use Rattle.tko_links.specs.declared.links.Links.{Ghosts as LinksGhosts}
+use Rattle.tko_backend.specs.declared.clock.Clock.{Ghosts as ClockGhosts}
+use Rattle.tko_answer.specs.declared.parts.Parts.{Parts}
 use Rattle.tko_session.specs.Events.{Event, IsRun, NoneShort, idle_rounds, is_idle_round, owed_after, owed_from, owed_then, turn_in, turns_of, visits_in, visits_of}
 use Rattle.tko_backend.specs.Probers.{NoneMarked}
 use Rattle.tko_backend.proofs.BegunLemmas.{round-begun}
@@ -45,9 +46,9 @@ pub order-append : (first mid last : Bool) (events more : List Event) → owed_a
 order-append first mid last events more front back =
     owed-append (Some first) events more ∙ ap (λ owed. owed_from owed more) front ∙ back
 
-module _ {H L T C : Type 0} {steps : H → HealthItem → H → Type 0} {grants : H → ℕ → Type 0} {exchanges : L → LinksItem → L → Type 0} {probed : L → ℕ → ℕ} {reads : C → ℕ → C → Type 0} where
+module _ {H L T C : Type 0} {health : HealthGhosts H} {links : LinksGhosts L} {clock : ClockGhosts C} where
   -- after the round that was owed, if one was
-  pub begun_paid : {sent : L → ℕ → ℕ} {old new : Parts H L T C} {short : Bool} (owes : Bool) → (owes ≡ false → NoneMarked old.backend.probers)
-      → IsRun steps grants exchanges sent probed reads owes short old new → NoneMarked new.backend.probers
+  pub begun_paid : {old new : Parts H L T C} {short : Bool} (owes : Bool) → (owes ≡ false → NoneMarked old.backend.probers)
+      → IsRun health links clock owes short old new → NoneMarked new.backend.probers
   begun_paid true keeps run = round-begun run.ran.round
   begun_paid false keeps run = rw run.ran.same (keeps refl)

@@ -1,11 +1,5 @@
-mod AnsweringLemmas
-mod CutLemmas
 mod EventLemmas
 mod NeverLemmas
-mod OutboxLemmas
-mod PartsLemmas
-mod ResultLemmas
 mod ServedLemmas
-mod StatusLemmas
 mod TextFacts
 mod TurnLemmas

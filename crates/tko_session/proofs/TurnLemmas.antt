@@ -7,7 +7,6 @@ use Rattle.std.specs.List.{list_any}
 use Rattle.std.proofs.lemmas.List.{map-append}
 use Rattle.std.proofs.lemmas.List.Sums.{sum_by-append}
 use Rattle.std.proofs.lemmas.List.Elements.{All-append, All-cons, All-nil}
-use Rattle.tko_model.specs.Records.{HealthItem}
 use Rattle.tko_model.proofs.RecordLemmas.{gains_none, gains_one, gains_append}
 use Rattle.tko_text.specs.declared.item.Item.{Item}
 use Rattle.tko_text.specs.declared.item.Item.TheVariants as item
@@ -16,13 +15,16 @@ use Rattle.tko_text.specs.declared.fault.TextFault.TheVariants as fault
 use Rattle.tko_text.specs.declared.request.Request.{Request}
 use Rattle.tko_text.specs.declared.request.Request.TheVariants as asked
 use Rattle.tko_text.specs.Requests.{fault_text}
-use Rattle.tko_links.specs.Links.{LinksItem}
-use Rattle.tko_session.specs.declared.parts.Parts.{Parts}
-use Rattle.tko_session.specs.TrailEvents.{TrailEvent}
+use Rattle.tko_health.specs.declared.health.Health.{Ghosts as HealthGhosts}
+use Rattle.tko_links.specs.declared.links.Links.{Ghosts as LinksGhosts}
+use Rattle.tko_backend.specs.declared.clock.Clock.{Ghosts as ClockGhosts}
+use Rattle.tko_answer.specs.declared.trails.Trails.{Ghosts as TrailsGhosts}
+use Rattle.tko_answer.specs.declared.parts.Parts.{Parts}
 use Rattle.tko_text.specs.Reading.{Reading, Gives, NeedsMore, Emits}
 use Rattle.tko_route.specs.Trail.{sends_in}
-use Rattle.tko_session.specs.Replies.{trails_in}
-use Rattle.tko_session.specs.Events.{Answer, Event, IdleRound, IsEvent, IsRun, NoneRun, RoundAfter, Rounded, turns_of}
+use Rattle.tko_answer.specs.Replies.{trails_in}
+use Rattle.tko_session.specs.Effects.{effects}
+use Rattle.tko_session.specs.Events.{Answer, Effects, Event, IdleRound, IsRun, NoneRun, RoundAfter, Rounded, turns_of}
 use Rattle.tko_backend.specs.Round.{probes_in, ran_out}
 use Rattle.tko_session.specs.Turns.{Turn, is_request}
 use Rattle.tko_session.specs.declared.session.Progress.{Progress}
@@ -30,7 +32,8 @@ use Rattle.tko_session.specs.declared.session.Progress.TheVariants.{More, NeedsI
 use Rattle.tko_session.specs.declared.session.Progress.TheVariants as progress
 use Rattle.tko_io.specs.Io.{capped}
 use Rattle.tko_io.proofs.WriteLemmas.{capped-more}
-use Rattle.tko_session.specs.SessionState.{SessionState, Turned, Answered, AnsweredPart, Replied, Continues, EndsWith, GoesOn, InSession, IsBehind, ProgressIs, BeginBelowBound, probed_by, progress_after, progress_of, reply_bound, sent_by, items_of, text_of, trails_of, requests_in, sends_to, line_too_long, quit, cut_short, no_more}
+use Rattle.tko_answer.specs.Replies.{reply_bound, sends_to}
+use Rattle.tko_session.specs.SessionState.{CountsRise, SessionState, Snapshot, Turned, Answered, AnsweredPart, Replied, Continues, EndsWith, GoesOn, InSession, IsBehind, ProgressIs, BeginBelowBound, progress_after, progress_of, snapshot, items_of, text_of, trails_of, requests_in, line_too_long, quit, cut_short, no_more}
 use Rattle.tko_text.proofs.GivesLemmas.{Gives-none, Gives-one, Gives-append}
 use Rattle.tko_session.proofs.EventLemmas.{idles-append, order-append, probes-append, short-append, turns-append}
 use Rattle.tko_session.proofs.NeverLemmas.{ends_reading}
@@ -181,22 +184,37 @@ below-append outbox mid events more is front back =
 
 module _ {W : Type 0} {cut : Request → W → W → Type 0} where
   -- what was done behind items was done behind all of them
-  behind_after : {left : Reading} {reached after : W} {owes : Bool} (items more : List Item) → GoesOn items
-      → IsBehind cut more left reached owes after → IsBehind cut (items ++ more) left reached owes after
+  behind_after : {left : Reading} {reached : W} {new : Snapshot W} (items more : List Item) → GoesOn items
+      → IsBehind cut more left reached new → IsBehind cut (items ++ more) left reached new
   behind_after items more goes (no_more same none) = no_more same none
   behind_after items more goes (cut_short it to going emits is owed) =
       cut_short it to (goes_on-append items more goes going) emits is owed
 
-module _ {W : Type 0} {step : W → Event → W → Type 0} {cut : Request → W → W → Type 0} where
+module _ {W : Type 0} {does : Effects W} where
+  pub counts_none : (parts : W) → CountsRise does parts [] parts
+  counts_none parts = record {
+    sends = λ server. sym (add-zero (does.sent parts server));
+    probes = λ server. sym (add-zero (does.probed parts server));
+  }
+
+  -- these counts rose by events, and then by more of them
+  pub counts_append : {old mid new : W} {events more : List Event} → CountsRise does old events mid → CountsRise does mid more new
+      → CountsRise does old (events ++ more) new
+  counts_append {old} {mid} {new} {events} {more} front back = record {
+    sends = λ server. omega (arith, front.sends server, back.sends server, sends-append server events more);
+    probes = λ server. omega (arith, front.probes server, back.probes server, probes-append server events more);
+  }
+
   -- memory ran out before any event
   pub part_none : (old new : SessionState) (world : W) → new.outbox ≡ old.outbox → old.owes ≡ false → new.owes ≡ false
-      → AnsweredPart step cut old world new world
+      → AnsweredPart does (snapshot old world) (snapshot new world)
   part_none old new world same before after = record {
     events = [];
     left = old.reading;
     reached = world;
     gives = Gives-none old.reading;
     gains = gains_none world;
+    counts = counts_none world;
     order = ap Some before;
     idles = refl;
     in_session = in_session_of [] goes_on-none;
@@ -206,14 +224,15 @@ module _ {W : Type 0} {step : W → Event → W → Type 0} {cut : Request → W
 
   -- memory ran out in the first request
   pub part_cut : (old new : SessionState) (it : Request) (to : Reading) (before after : W) → Emits old.reading (item.Request it) to
-      → cut it before after → new.outbox ≡ old.outbox → old.owes ≡ false → new.owes ≡ true
-      → AnsweredPart step cut old before new after
+      → does.cut it before after → new.outbox ≡ old.outbox → old.owes ≡ false → new.owes ≡ true
+      → AnsweredPart does (snapshot old before) (snapshot new after)
   part_cut old new it to before after emits is same none owed = record {
     events = [];
     left = old.reading;
     reached = before;
     gives = Gives-none old.reading;
     gains = gains_none before;
+    counts = counts_none before;
     order = ap Some none;
     idles = refl;
     in_session = in_session_of [] goes_on-none;
@@ -221,111 +240,107 @@ module _ {W : Type 0} {step : W → Event → W → Type 0} {cut : Request → W
     behind = cut_short it to goes_on-none emits is owed;
   }
 
-module _ {W : Type 0} {step : W → Event → W → Type 0} {sent probed : W → ℕ → ℕ} where
-  pub turned_none : (at : SessionState) (world : W) → Turned step sent probed at world [] at world
-  turned_none at world = record {
-    gives = Gives-none at.reading;
-    gains = gains_none world;
+  pub turned_none : (here : Snapshot W) → Turned does here [] here
+  turned_none here = record {
+    gives = Gives-none here.state.reading;
+    gains = gains_none here.parts;
     order = refl;
-    sends = λ server. sym (add-zero (sent world server));
-    probes = λ server. sym (add-zero (probed world server));
+    counts = counts_none here.parts;
     memory = refl;
-    requests = ap capped (sym (add-zero at.requests));
+    requests = ap capped (sym (add-zero here.state.requests));
   }
 
-  pub turned_append : {old mid new : SessionState} {before between after : W} {events more : List Event}
-      → Turned step sent probed old before events mid between → Turned step sent probed mid between more new after
-      → Turned step sent probed old before (events ++ more) new after
-  turned_append {old} {mid} {new} {before} {between} {after} {events} {more} front back = record {
+  pub turned_append : {old mid new : Snapshot W} {events more : List Event}
+      → Turned does old events mid → Turned does mid more new → Turned does old (events ++ more) new
+  turned_append {old} {mid} {new} {events} {more} front back = record {
     gives =
         let gives = Gives-append _ _ _ _ _ front.gives back.gives in
-        subst (λ items. Gives old.reading items new.reading) (sym (items-append events more)) gives;
+        subst (λ items. Gives old.state.reading items new.state.reading) (sym (items-append events more)) gives;
     gains = gains_append front.gains back.gains;
-    order = order-append old.owes mid.owes new.owes events more front.order back.order;
-    sends = λ server. omega (arith, front.sends server, back.sends server, sends-append server events more);
-    probes = λ server. omega (arith, front.probes server, back.probes server, probes-append server events more);
+    order = order-append old.state.owes mid.state.owes new.state.owes events more front.order back.order;
+    counts = counts_append front.counts back.counts;
     memory = short-append events more front.memory back.memory;
     requests =
-        let more_than = capped-more old.requests mid.requests new.requests _ _ front.requests back.requests in
-        more_than ∙ ap (λ n. capped (old.requests + n)) (sym (requests-append events more));
+        let more_than = capped-more old.state.requests mid.state.requests new.state.requests _ _ front.requests back.requests in
+        more_than ∙ ap (λ n. capped (old.state.requests + n)) (sym (requests-append events more));
   }
 
-  pub answered_none : (at : SessionState) (world : W) → Answered step sent probed More at world at world
-  answered_none at world = record {
+  pub answered_none : (state : SessionState) (world : W) → Answered does More (snapshot state world) (snapshot state world)
+  answered_none state world = record {
     events = [];
-    turned = turned_none at world;
+    turned = turned_none (snapshot state world);
     idles = refl;
-    outbox = sym (append-nil at.outbox);
+    outbox = sym (append-nil state.outbox);
     begin = tt;
     progress_is = goes_on-none;
   }
 
   pub answered_open : (old new : SessionState) (world : W) → NeedsMore old.reading → new ≡ old
-      → Answered step sent probed NeedsInput old world new world
+      → Answered does NeedsInput (snapshot old world) (snapshot new world)
   answered_open old new world none same = rw same (record {
     events = [];
-    turned = turned_none old world;
+    turned = turned_none (snapshot old world);
     idles = refl;
     outbox = sym (append-nil old.outbox);
     begin = tt;
     progress_is = (goes_on-none, none);
   })
 
-  pub answered_append : {progress : Progress} {old mid new : SessionState} {before between after : W}
-      → Answered step sent probed More old before mid between → Answered step sent probed progress mid between new after
-      → Answered step sent probed progress old before new after
+  pub answered_append : {progress : Progress} {old mid new : Snapshot W}
+      → Answered does More old mid → Answered does progress mid new → Answered does progress old new
   answered_append {progress} {old} {mid} {new} front back = record {
     events = front.events ++ back.events;
     turned = turned_append front.turned back.turned;
     idles = omega (arith, front.idles, back.idles, idles-append front.events back.events);
-    outbox = waiting-append old.outbox mid.outbox new.outbox front.events back.events front.outbox back.outbox;
-    begin = below-append old.outbox mid.outbox front.events back.events front.outbox front.begin back.begin;
-    progress_is = events_progress progress front.events back.events new.reading front.progress_is back.progress_is;
+    outbox = waiting-append old.state.outbox mid.state.outbox new.state.outbox front.events back.events front.outbox back.outbox;
+    begin = below-append old.state.outbox mid.state.outbox front.events back.events front.outbox front.begin back.begin;
+    progress_is = events_progress progress front.events back.events new.state.reading front.progress_is back.progress_is;
   }
 
-  pub part_after : {cut : Request → W → W → Type 0} {old mid new : SessionState} {before between after : W}
-      → Answered step sent probed More old before mid between → AnsweredPart step cut mid between new after
-      → AnsweredPart step cut old before new after
-  part_after {cut} {old} {mid} {new} {before} {between} {after} front back = record {
+  pub part_after : {old mid new : Snapshot W} → Answered does More old mid → AnsweredPart does mid new
+      → AnsweredPart does old new
+  part_after {old} {mid} {new} front back = record {
     events = front.events ++ back.events;
     left = back.left;
     reached = back.reached;
     gives =
         let gives = Gives-append _ _ _ _ _ front.turned.gives back.gives in
-        subst (λ items. Gives old.reading items back.left) (sym (items-append front.events back.events)) gives;
+        subst (λ items. Gives old.state.reading items back.left) (sym (items-append front.events back.events)) gives;
     gains = gains_append front.turned.gains back.gains;
-    order = order-append old.owes mid.owes false front.events back.events front.turned.order back.order;
+    counts = counts_append front.turned.counts back.counts;
+    order = order-append old.state.owes mid.state.owes false front.events back.events front.turned.order back.order;
     idles = omega (arith, front.idles, back.idles, idles-append front.events back.events);
     in_session = events_in_session front.events back.events front.progress_is back.in_session;
-    outbox = waiting-append old.outbox mid.outbox new.outbox front.events back.events front.outbox back.outbox;
+    outbox = waiting-append old.state.outbox mid.state.outbox new.state.outbox front.events back.events front.outbox back.outbox;
     behind =
-        subst (λ items. IsBehind cut items back.left back.reached new.owes after) (sym (items-append front.events back.events))
+        subst (λ items. IsBehind does.cut items back.left back.reached new) (sym (items-append front.events back.events))
         (behind_after (items_of (turns_of front.events)) (items_of (turns_of back.events)) front.progress_is back.behind);
   }
 
   -- all events are a part of them
-  pub part_of : {cut : Request → W → W → Type 0} {progress : Progress} {old new : SessionState} {before after : W}
-      → Answered step sent probed progress old before new after → new.owes ≡ false → AnsweredPart step cut old before new after
-  part_of {cut} {progress} {old} {new} {before} {after} answered none = record {
+  pub part_of : {progress : Progress} {old new : Snapshot W} → Answered does progress old new → new.state.owes ≡ false
+      → AnsweredPart does old new
+  part_of {progress} {old} {new} answered none = record {
     events = answered.events;
-    left = new.reading;
-    reached = after;
+    left = new.state.reading;
+    reached = new.parts;
     gives = answered.turned.gives;
     gains = answered.turned.gains;
+    counts = answered.turned.counts;
     order = answered.turned.order ∙ ap Some none;
     idles = answered.idles;
-    in_session = in_session progress (items_of (turns_of answered.events)) new.reading answered.progress_is;
+    in_session = in_session progress (items_of (turns_of answered.events)) new.state.reading answered.progress_is;
     outbox = answered.outbox;
     behind = no_more refl none;
   }
 
-module _ {H L T C : Type 0} {steps : H → HealthItem → H → Type 0} {grants : H → ℕ → Type 0} {exchanges : L → LinksItem → L → Type 0} {sent probed : L → ℕ → ℕ} {records : T → TrailEvent → T → Type 0} {reads : C → ℕ → C → Type 0} where
+module _ {H L T C : Type 0} (health : HealthGhosts H) (links : LinksGhosts L) (trails : TrailsGhosts T) (clock : ClockGhosts C) where
   -- a fault is answered, which changes nothing but the outbox
   pub answered_fault : (old mid new : SessionState) (world : Parts H L T C) (fault : TextFault) (progress : Progress)
       → Emits old.reading (item.Fault fault) mid.reading → mid ≡ record old { reading = mid.reading }
       → new ≡ record mid { outbox = mid.outbox ++ fault_text fault } → progress ≡ progress_after fault
       → old.owes ≡ false → length old.outbox < reply_bound
-      → Answered (IsEvent steps grants exchanges sent probed records reads) (sent_by sent) (probed_by probed) progress old world new world
+      → Answered (effects health links trails clock) progress (snapshot old world) (snapshot new world)
   answered_fault old mid new world fault progress told same e is none room = record {
     events = Answer (record { item = item.Fault fault; routed = []; text = fault_text fault }) ∷ [];
     turned = record {
@@ -334,8 +349,10 @@ module _ {H L T C : Type 0} {steps : H → HealthItem → H → Type 0} {grants 
       order =
           let owes : new.owes ≡ false = ap (λ s. s.owes) e ∙ ap (λ s. s.owes) same ∙ none in
           rw (none, owes) refl;
-      sends = λ server. sym (add-zero (sent world.backend.links server));
-      probes = λ server. sym (add-zero (probed world.backend.links server));
+      counts = record {
+        sends = λ server. sym (add-zero (links.sent world.backend.links server));
+        probes = λ server. sym (add-zero (links.probed world.backend.links server));
+      };
       memory = refl;
       requests = ap capped (ap (λ s. s.requests) e ∙ ap (λ s. s.requests) same ∙ sym (add-zero old.requests));
     };
@@ -350,22 +367,33 @@ module _ {H L T C : Type 0} {steps : H → HealthItem → H → Type 0} {grants 
         (fault_progress fault old.reading mid.reading told));
   }
 
+-- no round was owed, and nothing was done
+unpaid : {W : Type 0} {short : Bool} {mid : Snapshot W} {state : SessionState} {after : W}
+    → mid.state.owes ≡ false → NoneRun short mid.parts after → state ≡ record mid.state { owes = false }
+    → snapshot state after ≡ mid
+unpaid {W} {short} {mid} {state} {after} none run paid =
+    let same : state ≡ mid.state = paid ∙ sym (ap (λ owes. record mid.state { owes = owes }) none) in
+    ap (λ it. snapshot it after) same ∙ ap (λ it. snapshot mid.state it) run.same
+
+module _ {H L T C : Type 0} {health : HealthGhosts H} {links : LinksGhosts L} {trails : TrailsGhosts T} {clock : ClockGhosts C} where
   -- a request was replied to, and its round is owed
   pub answered_request : (old mid new : SessionState) (before after : Parts H L T C) (it : Request) (progress : Progress)
       → Emits old.reading (item.Request it) mid.reading → mid ≡ record old { reading = mid.reading }
-      → Replied steps exchanges sent probed records mid before it new after → progress ≡ progress_of it
+      → Replied health links trails (snapshot mid before) it (snapshot new after) → progress ≡ progress_of it
       → old.owes ≡ false → length old.outbox < reply_bound
-      → Answered (IsEvent steps grants exchanges sent probed records reads) (sent_by sent) (probed_by probed) progress old before new after
+      → Answered (effects health links trails clock) progress (snapshot old before) (snapshot new after)
   answered_request old mid new before after it progress told same replied is none room = record {
     events = Answer (record { item = item.Request it; routed = replied.routed; text = replied.text }) ∷ [];
     turned = record {
       gives = subst (λ to. Gives old.reading (item.Request it ∷ []) to) (sym replied.reading) (Gives-one _ _ _ told);
       gains = gains_one replied.becomes;
       order = rw (none, replied.owes) refl;
-      sends = λ server.
-          replied.sends server
-          ∙ ap (λ trails. sent before.backend.links server + sends_to server trails) (sym (append-nil (trails_in replied.routed)));
-      probes = λ server. replied.probes server ∙ sym (add-zero (probed before.backend.links server));
+      counts = record {
+        sends = λ server.
+            replied.sends server
+            ∙ ap (λ trails. links.sent before.backend.links server + sends_to server trails) (sym (append-nil (trails_in replied.routed)));
+        probes = λ server. replied.probes server ∙ sym (add-zero (links.probed before.backend.links server));
+      };
       memory = refl;
       requests = replied.requests ∙ ap (λ s. capped (s.requests + 1)) same;
     };
@@ -378,31 +406,47 @@ module _ {H L T C : Type 0} {steps : H → HealthItem → H → Type 0} {grants 
         subst (λ p. ProgressIs p (item.Request it ∷ []) new.reading) (sym is) (request_progress it new.reading);
   }
 
-  -- the round that was owed is an event
-  turned_round : {mid new : SessionState} {between after : Parts H L T C} → mid.owes ≡ true
-      → (rounded : Rounded steps grants exchanges sent probed reads false between after) → new ≡ record mid { owes = false }
-      → Turned (IsEvent steps grants exchanges sent probed records reads) (sent_by sent) (probed_by probed) mid between
-      (RoundAfter rounded.round.visits ∷ []) new after
-  turned_round {mid} {new} {between} {after} owed rounded paid = record {
-    gives = subst (Gives mid.reading []) (sym (ap (λ s. s.reading) paid)) (Gives-none mid.reading);
-    gains = gains_one (record { short = false; round = rounded.round; visited = refl; others = rounded.others });
-    order =
-        let owes : new.owes ≡ false = ap (λ s. s.owes) paid in
-        rw (owed, owes) refl;
-    sends = λ server. rounded.sends server ∙ sym (add-zero (sent between.backend.links server));
+  -- a round that was owed adds its probes to the counts
+  counts_round : {short : Bool} {between after : Parts H L T C} → (rounded : Rounded health links clock short between after)
+      → CountsRise (effects health links trails clock) between (RoundAfter rounded.round.visits ∷ []) after
+  counts_round {short} {between} {after} rounded = record {
+    sends = λ server. rounded.sends server ∙ sym (add-zero (links.sent between.backend.links server));
     probes = λ server.
         rounded.round.probes server
-        ∙ ap (λ visits. probed between.backend.links server + probes_in server visits) (sym (append-nil rounded.round.visits));
+        ∙ ap (λ visits. links.probed between.backend.links server + probes_in server visits) (sym (append-nil rounded.round.visits));
+  }
+
+  -- so does one at an idle turn
+  pub counts_idle : {short : Bool} {between after : Parts H L T C} → (rounded : Rounded health links clock short between after)
+      → CountsRise (effects health links trails clock) between (IdleRound rounded.round.visits ∷ []) after
+  counts_idle {short} {between} {after} rounded = record {
+    sends = λ server. rounded.sends server ∙ sym (add-zero (links.sent between.backend.links server));
+    probes = λ server.
+        rounded.round.probes server
+        ∙ ap (λ visits. links.probed between.backend.links server + probes_in server visits) (sym (append-nil rounded.round.visits));
+  }
+
+  -- the round that was owed is an event
+  turned_round : {mid : Snapshot (Parts H L T C)} {state : SessionState} {after : Parts H L T C} → mid.state.owes ≡ true
+      → (rounded : Rounded health links clock false mid.parts after) → state ≡ record mid.state { owes = false }
+      → Turned (effects health links trails clock) mid (RoundAfter rounded.round.visits ∷ []) (snapshot state after)
+  turned_round {mid} {state} {after} owed rounded paid = record {
+    gives = subst (Gives mid.state.reading []) (sym (ap (λ s. s.reading) paid)) (Gives-none mid.state.reading);
+    gains = gains_one (record { short = false; round = rounded.round; visited = refl; others = rounded.others; sends = rounded.sends });
+    order =
+        let owes : state.owes ≡ false = ap (λ s. s.owes) paid in
+        rw (owed, owes) refl;
+    counts = counts_round rounded;
     memory = ap (list_any ran_out) (append-nil rounded.round.visits) ∙ sym rounded.round.memory;
-    requests = ap capped (ap (λ s. s.requests) paid ∙ sym (add-zero mid.requests));
+    requests = ap capped (ap (λ s. s.requests) paid ∙ sym (add-zero mid.state.requests));
   }
 
   -- the round that was owed was run
-  pub answered_round : {progress : Progress} {old mid new : SessionState} {before between after : Parts H L T C}
-      → Answered (IsEvent steps grants exchanges sent probed records reads) (sent_by sent) (probed_by probed) progress old before mid between
-      → mid.owes ≡ true → Rounded steps grants exchanges sent probed reads false between after → new ≡ record mid { owes = false }
-      → Answered (IsEvent steps grants exchanges sent probed records reads) (sent_by sent) (probed_by probed) progress old before new after
-  answered_round {progress} {old} {mid} {new} {before} {between} {after} front owed rounded paid =
+  pub answered_round : {progress : Progress} {old mid : Snapshot (Parts H L T C)} {state : SessionState} {after : Parts H L T C}
+      → Answered (effects health links trails clock) progress old mid
+      → mid.state.owes ≡ true → Rounded health links clock false mid.parts after → state ≡ record mid.state { owes = false }
+      → Answered (effects health links trails clock) progress old (snapshot state after)
+  answered_round {progress} {old} {mid} {state} {after} front owed rounded paid =
       let visits = rounded.round.visits in
       let items : items_of (turns_of (front.events ++ RoundAfter visits ∷ [])) ≡ items_of (turns_of front.events) =
       items-append front.events (RoundAfter visits ∷ []) ∙ append-nil (items_of (turns_of front.events)) in
@@ -412,82 +456,77 @@ module _ {H L T C : Type 0} {steps : H → HealthItem → H → Type 0} {grants 
         events = front.events ++ RoundAfter visits ∷ [];
         turned = turned_append front.turned (turned_round owed rounded paid);
         idles = omega (arith, front.idles, idles-append front.events (RoundAfter visits ∷ []));
-        outbox = ap (λ s. s.outbox) paid ∙ front.outbox ∙ ap (λ xs. old.outbox ++ xs) (sym text);
-        begin = below-append old.outbox mid.outbox front.events (RoundAfter visits ∷ []) front.outbox front.begin tt;
+        outbox = ap (λ s. s.outbox) paid ∙ front.outbox ∙ ap (λ xs. old.state.outbox ++ xs) (sym text);
+        begin = below-append old.state.outbox mid.state.outbox front.events (RoundAfter visits ∷ []) front.outbox front.begin tt;
         progress_is =
-            subst (λ xs. ProgressIs progress xs new.reading) (sym items)
+            subst (λ xs. ProgressIs progress xs state.reading) (sym items)
             (subst (λ to. ProgressIs progress (items_of (turns_of front.events)) to) (sym (ap (λ s. s.reading) paid)) front.progress_is);
       }
 
   -- the round that was owed, if one was
-  pub answered_paid : {progress : Progress} {old mid new : SessionState} {before between after : Parts H L T C}
-      → Answered (IsEvent steps grants exchanges sent probed records reads) (sent_by sent) (probed_by probed) progress old before mid between
-      → IsRun steps grants exchanges sent probed reads mid.owes false between after → new ≡ record mid { owes = false }
-      → Answered (IsEvent steps grants exchanges sent probed records reads) (sent_by sent) (probed_by probed) progress old before new after
-  answered_paid {progress} {old} {mid} {new} {before} {between} {after} front run paid =
-      let P : Bool → Type 0 = λ owes. MatchBool owes (Rounded steps grants exchanges sent probed reads false between after) (NoneRun false between after) in
-      elim (cases_Bool mid.owes) [
+  pub answered_paid : {progress : Progress} {old mid : Snapshot (Parts H L T C)} {state : SessionState} {after : Parts H L T C}
+      → Answered (effects health links trails clock) progress old mid
+      → IsRun health links clock mid.state.owes false mid.parts after → state ≡ record mid.state { owes = false }
+      → Answered (effects health links trails clock) progress old (snapshot state after)
+  answered_paid {progress} {old} {mid} {state} {after} front run paid =
+      let P : Bool → Type 0 = λ owes. MatchBool owes (Rounded health links clock false mid.parts after) (NoneRun false mid.parts after) in
+      elim (cases_Bool mid.state.owes) [
         | inl owed ↦ answered_round front owed (subst P owed run.ran) paid
         | inr none ↦
-            let same : new ≡ mid = paid ∙ sym (ap (λ owes. record mid { owes = owes }) none) in
-            let still : after ≡ between = (subst P none run.ran).same in
-            rw (same, still) front
+            subst (λ it. Answered (effects health links trails clock) progress old it)
+            (sym (unpaid none (subst P none run.ran) paid)) front
       ]
 
   -- the round that was owed was run, and memory ran out in it or did not
-  part_round : {cut : Request → Parts H L T C → Parts H L T C → Type 0} {progress : Progress} {short : Bool} {old mid new : SessionState} {before between after : Parts H L T C}
-      → Answered (IsEvent steps grants exchanges sent probed records reads) (sent_by sent) (probed_by probed) progress old before mid between
-      → mid.owes ≡ true → Rounded steps grants exchanges sent probed reads short between after → new ≡ record mid { owes = false }
-      → AnsweredPart (IsEvent steps grants exchanges sent probed records reads) cut old before new after
-  part_round {cut} {progress} {short} {old} {mid} {new} {before} {between} {after} front owed rounded paid =
+  part_round : {progress : Progress} {short : Bool} {old mid : Snapshot (Parts H L T C)} {state : SessionState} {after : Parts H L T C}
+      → Answered (effects health links trails clock) progress old mid
+      → mid.state.owes ≡ true → Rounded health links clock short mid.parts after → state ≡ record mid.state { owes = false }
+      → AnsweredPart (effects health links trails clock) old (snapshot state after)
+  part_round {progress} {short} {old} {mid} {state} {after} front owed rounded paid =
       let last : List Event = RoundAfter rounded.round.visits ∷ [] in
       let items : items_of (turns_of (front.events ++ last)) ≡ items_of (turns_of front.events) =
       items-append front.events last ∙ append-nil (items_of (turns_of front.events)) in
       let text : text_of (turns_of (front.events ++ last)) ≡ text_of (turns_of front.events) =
       text-append front.events last ∙ append-nil (text_of (turns_of front.events)) in
       let ended : InSession (items_of (turns_of front.events)) =
-      in_session progress (items_of (turns_of front.events)) mid.reading front.progress_is in
+      in_session progress (items_of (turns_of front.events)) mid.state.reading front.progress_is in
       record {
         events = front.events ++ last;
-        left = mid.reading;
+        left = mid.state.reading;
         reached = after;
-        gives = subst (λ xs. Gives old.reading xs mid.reading) (sym items) front.turned.gives;
-        gains = gains_append front.turned.gains (gains_one (record { short = short; round = rounded.round; visited = refl; others = rounded.others }));
-        order = order-append old.owes mid.owes false front.events last front.turned.order (rw owed refl);
+        gives = subst (λ xs. Gives old.state.reading xs mid.state.reading) (sym items) front.turned.gives;
+        gains = gains_append front.turned.gains (gains_one (record { short = short; round = rounded.round; visited = refl; others = rounded.others; sends = rounded.sends }));
+        counts = counts_append front.turned.counts (counts_round rounded);
+        order = order-append old.state.owes mid.state.owes false front.events last front.turned.order (rw owed refl);
         idles = omega (arith, front.idles, idles-append front.events last);
         in_session = subst InSession (sym items) ended;
-        outbox = ap (λ s. s.outbox) paid ∙ front.outbox ∙ ap (λ xs. old.outbox ++ xs) (sym text);
+        outbox = ap (λ s. s.outbox) paid ∙ front.outbox ∙ ap (λ xs. old.state.outbox ++ xs) (sym text);
         behind = no_more refl (ap (λ s. s.owes) paid);
       }
 
   -- the same where a round was owed or none was
-  pub part_paid : {cut : Request → Parts H L T C → Parts H L T C → Type 0} {progress : Progress} {short : Bool} {old mid new : SessionState} {before between after : Parts H L T C}
-      → Answered (IsEvent steps grants exchanges sent probed records reads) (sent_by sent) (probed_by probed) progress old before mid between
-      → IsRun steps grants exchanges sent probed reads mid.owes short between after → new ≡ record mid { owes = false }
-      → AnsweredPart (IsEvent steps grants exchanges sent probed records reads) cut old before new after
-  part_paid {cut} {progress} {short} {old} {mid} {new} {before} {between} {after} front run paid =
-      let P : Bool → Type 0 = λ owes. MatchBool owes (Rounded steps grants exchanges sent probed reads short between after) (NoneRun short between after) in
-      elim (cases_Bool mid.owes) [
+  pub part_paid : {progress : Progress} {short : Bool} {old mid : Snapshot (Parts H L T C)} {state : SessionState} {after : Parts H L T C}
+      → Answered (effects health links trails clock) progress old mid
+      → IsRun health links clock mid.state.owes short mid.parts after → state ≡ record mid.state { owes = false }
+      → AnsweredPart (effects health links trails clock) old (snapshot state after)
+  part_paid {progress} {short} {old} {mid} {state} {after} front run paid =
+      let P : Bool → Type 0 = λ owes. MatchBool owes (Rounded health links clock short mid.parts after) (NoneRun short mid.parts after) in
+      elim (cases_Bool mid.state.owes) [
         | inl owed ↦ part_round front owed (subst P owed run.ran) paid
         | inr none ↦
-            let same : new ≡ mid = paid ∙ sym (ap (λ owes. record mid { owes = owes }) none) in
-            let still : after ≡ between = (subst P none run.ran).same in
-            rw (same, still) (part_of front none)
+            subst (λ it. AnsweredPart (effects health links trails clock) old it)
+            (sym (unpaid none (subst P none run.ran) paid)) (part_of front none)
       ]
 
   -- the round at an idle turn is an event
-  pub turned_idle : {at : SessionState} {between after : Parts H L T C} → at.owes ≡ false
-      → (rounded : Rounded steps grants exchanges sent probed reads false between after)
-      → Turned (IsEvent steps grants exchanges sent probed records reads) (sent_by sent) (probed_by probed) at between
-      (IdleRound rounded.round.visits ∷ []) at after
-  turned_idle {at} {between} {after} none rounded = record {
-    gives = Gives-none at.reading;
-    gains = gains_one (record { short = false; round = rounded.round; visited = refl; others = rounded.others });
+  pub turned_idle : {here : SessionState} {between after : Parts H L T C} → here.owes ≡ false
+      → (rounded : Rounded health links clock false between after)
+      → Turned (effects health links trails clock) (snapshot here between) (IdleRound rounded.round.visits ∷ []) (snapshot here after)
+  turned_idle {here} {between} {after} none rounded = record {
+    gives = Gives-none here.reading;
+    gains = gains_one (record { short = false; round = rounded.round; visited = refl; others = rounded.others; sends = rounded.sends });
     order = rw none refl;
-    sends = λ server. rounded.sends server ∙ sym (add-zero (sent between.backend.links server));
-    probes = λ server.
-        rounded.round.probes server
-        ∙ ap (λ visits. probed between.backend.links server + probes_in server visits) (sym (append-nil rounded.round.visits));
+    counts = counts_idle rounded;
     memory = ap (list_any ran_out) (append-nil rounded.round.visits) ∙ sym rounded.round.memory;
-    requests = ap capped (sym (add-zero at.requests));
+    requests = ap capped (sym (add-zero here.requests));
   }

@@ -1,11 +1,7 @@
-pub mod Answering
-pub mod Counting
-pub mod Cuts
+pub mod Effects
+pub mod Ends
 pub mod Events
 pub mod Faults
-pub mod Replies
 pub mod Served
 pub mod SessionState
-pub mod Status
-pub mod TrailEvents
 pub mod Turns

@@ -1,6 +1,6 @@
 -- A session between two pieces, and the events that lead from one state to another.
-use Rattle.std.specs.Prelude.{◌≡◌, ◌≢◌, ◌<◌, ◌≤◌, ℕ, ◌+◌, Bool, true, false, List, [], ◌∷◌, ◌++◌, All, length, map, count_by, sum_by, flat_map, Some}
-use Rattle.tko_model.specs.Records.{Gains, HealthItem}
+use Rattle.std.specs.Prelude.{◌≡◌, ◌≢◌, ◌<◌, ◌≤◌, ℕ, ◌+◌, Bool, true, false, List, [], ◌∷◌, ◌++◌, All, length, map, count_by, flat_map, Some}
+use Rattle.tko_model.specs.Records.{Gains}
 use Rattle.tko_text.specs.declared.item.Item.{Item}
 use Rattle.tko_text.specs.declared.item.Item.TheVariants as item
 use Rattle.tko_text.specs.declared.fault.TextFault.{TextFault}
@@ -9,15 +9,15 @@ use Rattle.tko_text.specs.declared.request.Request.{Request}
 use Rattle.tko_text.specs.declared.request.Request.TheVariants.{Quit}
 use Rattle.tko_text.specs.Reading.{Reading, Never, Emits, Gives, NeedsMore, start, fed}
 use Rattle.tko_route.specs.declared.attempt.Attempt.{Attempt}
-use Rattle.tko_links.specs.Links.{LinksItem}
-use Rattle.tko_route.specs.Trail.{sends_in}
-use Rattle.tko_session.specs.declared.parts.Parts.{Parts}
+use Rattle.tko_health.specs.declared.health.Health.{Ghosts as HealthGhosts}
+use Rattle.tko_links.specs.declared.links.Links.{Ghosts as LinksGhosts}
+use Rattle.tko_answer.specs.declared.parts.Parts.{Parts}
+use Rattle.tko_answer.specs.declared.trails.Trails.{Ghosts as TrailsGhosts}
 use Rattle.tko_session.specs.declared.session.Progress.{Progress}
 use Rattle.tko_session.specs.declared.session.Progress.TheVariants as progress
-use Rattle.tko_session.specs.Events.{Event, NoneShort, idle_rounds, owed_after, turns_of, visits_of}
+use Rattle.tko_session.specs.Events.{Effects, Event, NoneShort, idle_rounds, owed_after, turns_of, visits_of}
 use Rattle.tko_io.specs.Io.{capped}
-use Rattle.tko_session.specs.TrailEvents.{TrailEvent}
-use Rattle.tko_session.specs.Replies.{RoutedKey, trails_in}
+use Rattle.tko_answer.specs.Replies.{RoutedKey, reply_bound, sends_to, trails_in}
 use Rattle.tko_backend.specs.Round.{probes_in}
 use Rattle.tko_session.specs.Turns.{Turn, Becomes, is_request}
 
@@ -29,6 +29,14 @@ pub record SessionState : Type 0 where
   pub requests : ℕ
   pub owes : Bool
 
+-- a session at a moment, and the parts that it works on
+pub record Snapshot (W : Type 0) : Type 0 where
+  pub state : SessionState
+  pub parts : W
+
+abbrev pub snapshot : {W : Type 0} → SessionState → W → Snapshot W
+snapshot state parts = record { state = state; parts = parts }
+
 -- a session that has read nothing
 abbrev pub fresh : SessionState
 fresh = record { reading = start; outbox = []; requests = 0; owes = false }
@@ -36,10 +44,6 @@ fresh = record { reading = start; outbox = []; requests = 0; owes = false }
 -- the same after these bytes came
 abbrev pub fed_state : SessionState → List ℕ → SessionState
 fed_state old piece = record old { reading = fed old.reading piece }
-
--- the number of bytes of replies that is enough to be written
-abbrev pub reply_bound : ℕ
-reply_bound = 65536
 
 -- the fault after which a session reads nothing more
 abbrev pub line_too_long : Item
@@ -62,10 +66,6 @@ trails_of turns = flat_map (λ turn. trails_in turn.routed) turns
 -- how many items are requests
 abbrev pub requests_in : List Item → ℕ
 requests_in items = count_by is_request items
-
--- how often these trails sent to a server
-abbrev pub sends_to : ℕ → List (List Attempt) → ℕ
-sends_to server trails = sum_by (sends_in server) trails
 
 -- the session goes on after an item
 pub record Continues (it : Item) : Type 0 where
@@ -120,13 +120,6 @@ abbrev pub pause_of : Bool → Progress
 pause_of true = progress.Quit
 pause_of false = progress.NeedsInput
 
--- the health, the links and the probers have the servers of the configuration
-pub record Reaches {H L T C : Type 0} (servers : H → ℕ) (linked : L → ℕ)
-    (parts : Parts H L T C) : Type 0 where
-  pub health : servers parts.backend.health ≡ length parts.config.addresses
-  pub links : linked parts.backend.links ≡ length parts.config.addresses
-  pub probers : length parts.backend.probers.slots ≡ length parts.config.addresses
-
 -- how often each server was sent to
 abbrev pub sent_by : {H L T C : Type 0} → (L → ℕ → ℕ) → Parts H L T C → ℕ → ℕ
 sent_by sent parts server = sent parts.backend.links server
@@ -137,69 +130,71 @@ probed_by probed parts server = probed parts.backend.links server
 
 -- a request was recorded and answered: one more, its reply is at the end of the outbox, and its
 -- round is owed
-pub record Replied {H L T C : Type 0} (steps : H → HealthItem → H → Type 0)
-    (exchanges : L → LinksItem → L → Type 0) (sent probed : L → ℕ → ℕ)
-    (records : T → TrailEvent → T → Type 0)
-    (old : SessionState) (before : Parts H L T C) (request : Request)
-    (new : SessionState) (after : Parts H L T C) : Type 0 where
+pub record Replied {H L T C : Type 0} (health : HealthGhosts H) (links : LinksGhosts L)
+    (trails : TrailsGhosts T) (old : Snapshot (Parts H L T C)) (request : Request)
+    (new : Snapshot (Parts H L T C)) : Type 0 where
   pub routed : List RoutedKey
   pub text : List ℕ
-  pub becomes : Becomes steps exchanges sent records before (item.Request request) routed text after
+  pub becomes : Becomes health.steps links.exchanges links.sent trails.records
+      old.parts (item.Request request) routed text new.parts
   pub sends : (server : ℕ)
-      → sent after.backend.links server
-      ≡ sent before.backend.links server + sends_to server (trails_in routed)
-  pub probes : (server : ℕ) → probed after.backend.links server ≡ probed before.backend.links server
-  pub reading : new.reading ≡ old.reading
-  pub outbox : new.outbox ≡ old.outbox ++ text
-  pub requests : capped new.requests ≡ capped (old.requests + 1)
-  pub owes : new.owes ≡ true
-
-module _ {W : Type 0} (step : W → Event → W → Type 0) (sent probed : W → ℕ → ℕ) where
-  -- these events lead from the one state to the other, and change what they work on
-  pub record Turned (old : SessionState) (before : W) (events : List Event)
-      (new : SessionState) (after : W) : Type 0 where
-    pub gives : Gives old.reading (items_of (turns_of events)) new.reading
-    pub gains : Gains step before events after
-    pub order : owed_after old.owes events ≡ Some new.owes
-    pub sends : (server : ℕ)
-        → sent after server ≡ sent before server + sends_to server (trails_of (turns_of events))
-    pub probes : (server : ℕ)
-        → probed after server ≡ probed before server + probes_in server (visits_of events)
-    pub memory : NoneShort events
-    pub requests : capped new.requests
-        ≡ capped (old.requests + requests_in (items_of (turns_of events)))
-
-  -- some events did, none of them at an idle turn, and the text of the replies was added to the
-  -- outbox, each while there was room
-  pub record Answered (progress : Progress) (old : SessionState) (before : W)
-      (new : SessionState) (after : W) : Type 0 where
-    pub events : List Event
-    pub turned : Turned old before events new after
-    pub idles : idle_rounds events ≡ 0
-    pub outbox : new.outbox ≡ old.outbox ++ text_of (turns_of events)
-    pub begin : BeginBelowBound (length old.outbox) (turns_of events)
-    pub progress_is : ProgressIs progress (items_of (turns_of events)) new.reading
+      → links.sent new.parts.backend.links server
+      ≡ links.sent old.parts.backend.links server + sends_to server (trails_in routed)
+  pub probes : (server : ℕ)
+      → links.probed new.parts.backend.links server ≡ links.probed old.parts.backend.links server
+  pub reading : new.state.reading ≡ old.state.reading
+  pub outbox : new.state.outbox ≡ old.state.outbox ++ text
+  pub requests : capped new.state.requests ≡ capped (old.state.requests + 1)
+  pub owes : new.state.owes ≡ true
 
 -- what was done after the last of these items where memory ran out: nothing; or the next item is a
 -- request that was cut short, and its round is owed
 pub data IsBehind {W : Type 0} (cut : Request → W → W → Type 0) (items : List Item)
-    (left : Reading) (reached : W) (owes : Bool) (after : W) : Type 0 where
-  no_more : after ≡ reached → owes ≡ false → IsBehind cut items left reached owes after
+    (left : Reading) (reached : W) (new : Snapshot W) : Type 0 where
+  no_more : new.parts ≡ reached → new.state.owes ≡ false → IsBehind cut items left reached new
   cut_short : (it : Request) (to : Reading) → GoesOn items → Emits left (item.Request it) to
-      → cut it reached after → owes ≡ true → IsBehind cut items left reached owes after
+      → cut it reached new.parts → new.state.owes ≡ true → IsBehind cut items left reached new
 
--- memory ran out after these events, none of them at an idle turn, or in the round that is the last
--- of them
-pub record AnsweredPart {W : Type 0} (step : W → Event → W → Type 0)
-    (cut : Request → W → W → Type 0)
-    (old : SessionState) (before : W) (new : SessionState) (after : W) : Type 0 where
-  pub events : List Event
-  pub left : Reading
-  pub reached : W
-  pub gives : Gives old.reading (items_of (turns_of events)) left
-  pub gains : Gains step before events reached
-  pub order : owed_after old.owes events ≡ Some false
-  pub idles : idle_rounds events ≡ 0
-  pub in_session : InSession (items_of (turns_of events))
-  pub outbox : new.outbox ≡ old.outbox ++ text_of (turns_of events)
-  pub behind : IsBehind cut (items_of (turns_of events)) left reached new.owes after
+module _ {W : Type 0} (effects : Effects W) where
+  -- the counts of sends rose by the sends in the trails of these events, the counts of probes by the
+  -- probes in their rounds, and by nothing else
+  pub record CountsRise (old : W) (events : List Event) (new : W) : Type 0 where
+    pub sends : (server : ℕ) → effects.sent new server
+        ≡ effects.sent old server + sends_to server (trails_of (turns_of events))
+    pub probes : (server : ℕ) → effects.probed new server
+        ≡ effects.probed old server + probes_in server (visits_of events)
+
+  -- these events lead from the one state to the other, and change what they work on
+  pub record Turned (old : Snapshot W) (events : List Event) (new : Snapshot W) : Type 0 where
+    pub gives : Gives old.state.reading (items_of (turns_of events)) new.state.reading
+    pub gains : Gains effects.step old.parts events new.parts
+    pub order : owed_after old.state.owes events ≡ Some new.state.owes
+    pub counts : CountsRise old.parts events new.parts
+    pub memory : NoneShort events
+    pub requests : capped new.state.requests
+        ≡ capped (old.state.requests + requests_in (items_of (turns_of events)))
+
+  -- some events did, none of them at an idle turn, and the text of the replies was added to the
+  -- outbox, each while there was room
+  pub record Answered (progress : Progress) (old new : Snapshot W) : Type 0 where
+    pub events : List Event
+    pub turned : Turned old events new
+    pub idles : idle_rounds events ≡ 0
+    pub outbox : new.state.outbox ≡ old.state.outbox ++ text_of (turns_of events)
+    pub begin : BeginBelowBound (length old.state.outbox) (turns_of events)
+    pub progress_is : ProgressIs progress (items_of (turns_of events)) new.state.reading
+
+  -- memory ran out after these events, none of them at an idle turn, or in the round that is the
+  -- last of them
+  pub record AnsweredPart (old new : Snapshot W) : Type 0 where
+    pub events : List Event
+    pub left : Reading
+    pub reached : W
+    pub gives : Gives old.state.reading (items_of (turns_of events)) left
+    pub gains : Gains effects.step old.parts events reached
+    pub counts : CountsRise old.parts events reached
+    pub order : owed_after old.state.owes events ≡ Some false
+    pub idles : idle_rounds events ≡ 0
+    pub in_session : InSession (items_of (turns_of events))
+    pub outbox : new.state.outbox ≡ old.state.outbox ++ text_of (turns_of events)
+    pub behind : IsBehind effects.cut (items_of (turns_of events)) left reached new

@@ -1,12 +1,12 @@
 //! One session over its two ends: a thin loop that moves bytes.
-ghost use Rattle.std.specs.Prelude.{◌≡◌, ◌≢◌, ◌<◌, ℕ, [], false, Err, IfOk, OnOk, OnErr, IsErrOf};
+ghost use Rattle.std.specs.Prelude.{◌≡◌, ◌≢◌, [], false};
 ghost use Rattle.tko_text.specs.Reading.{Never};
-ghost use Rattle.tko_io.specs.Io.{capped};
-ghost use Rattle.tko_session.specs.Cuts.{IsRequestCut};
 ghost use Rattle.tko_backend.specs.Probers.{NoneMarked};
-ghost use Rattle.tko_session.specs.Events.{IsEvent};
-ghost use Rattle.tko_session.specs.SessionState.{Reaches, fed_state, pause_of, probed_by, sent_by};
-ghost use Rattle.tko_session.specs.Served.{CameTooLong, Delivered, DeliveredPart, IsCalm, Served, StoppedByLine, StoppedByRead, StoppedByWrite, StoppedEarly};
+ghost use Rattle.tko_session.specs.Effects.{effects};
+ghost use Rattle.tko_session.specs.Ends.{DeliveryEnds, PieceEnds, SessionEnds};
+ghost use Rattle.tko_session.specs.Served.{context, delivery};
+ghost use Rattle.tko_answer.specs.Answers.{Reaches};
+ghost use Rattle.tko_session.specs.SessionState.{fed_state};
 
 use crate::{Parts, Progress, Report, Session, SessionFault, Trails, round};
 use std::alloc::Global;
@@ -24,45 +24,11 @@ pub fn serve<R: IoRuntime, I: Inlet, O: Outlet, H: Health, L: Links, T: Trails, 
     parts: &mut Parts<H, L, T, C>,
 ) -> Result<Report, SessionFault>
     requires reach { Reaches H.servers L.servers parts.old }
-    ensures ok { IfOk result (λ report. Served I.gives I.idles O.takes
-        (IsEvent H.steps H.grants L.exchanges L.sent L.probed T.records C.reads)
-        (sent_by L.sent) (probed_by L.probed) I.is_ended
-        reader.old writer.old parts.old report reader.new writer.new parts.new) }
-    ensures read { IsErrOf result SessionFault.Read → StoppedByRead I.gives I.idles O.takes
-        (IsEvent H.steps H.grants L.exchanges L.sent L.probed T.records C.reads)
-        (sent_by L.sent) (probed_by L.probed)
-        reader.old writer.old parts.old reader.new writer.new parts.new }
-    ensures write { (written : ℕ) → IsErrOf result (SessionFault.Write written)
-        → StoppedByWrite I.gives I.idles O.takes
-        (IsEvent H.steps H.grants L.exchanges L.sent L.probed T.records C.reads)
-        (sent_by L.sent) (probed_by L.probed)
-        (IsRequestCut H.steps L.exchanges L.sent L.probed T.records)
-        reader.old writer.old parts.old written reader.new writer.new parts.new }
-    ensures too_long { IsErrOf result SessionFault.LineTooLong
-        → CameTooLong I.gives reader.old reader.new }
-    ensures answered { IsErrOf result SessionFault.LineTooLong
-        → StoppedByLine I.gives I.idles O.takes
-        (IsEvent H.steps H.grants L.exchanges L.sent L.probed T.records C.reads)
-        (sent_by L.sent) (probed_by L.probed)
-        reader.old writer.old parts.old reader.new writer.new parts.new }
-    ensures memory { IsErrOf result SessionFault.Memory → StoppedEarly I.gives I.idles O.takes
-        (IsEvent H.steps H.grants L.exchanges L.sent L.probed T.records C.reads)
-        (sent_by L.sent) (probed_by L.probed)
-        (IsRequestCut H.steps L.exchanges L.sent L.probed T.records)
-        reader.old writer.old parts.old reader.new writer.new parts.new }
+    ensures ends { SessionEnds I.Inlet O.Outlet (effects H.Health L.Links T.Trails C.Clock)
+        (context reader.old writer.old parts.old) result
+        (context reader.new writer.new parts.new) }
     // Each server that the session marked gets its prober, also where it ends by a fault.
     ensures begun { NoneMarked parts.old.backend.probers → NoneMarked parts.new.backend.probers }
-    // An end that failed ends the session, and is the fault that it ends with.
-    ensures calm_reader { OnOk result (I.failures reader.new ≡ I.failures reader.old) }
-    ensures calm_writer { OnOk result (O.failures writer.new ≡ O.failures writer.old) }
-    ensures calm_memory { IsErrOf result SessionFault.Memory
-        → IsCalm I.failures O.failures reader.old writer.old reader.new writer.new }
-    ensures calm_line { IsErrOf result SessionFault.LineTooLong
-        → IsCalm I.failures O.failures reader.old writer.old reader.new writer.new }
-    ensures read_failed { IsErrOf result SessionFault.Read
-        → I.failures reader.old < I.failures reader.new }
-    ensures write_failed { (written : ℕ) → IsErrOf result (SessionFault.Write written)
-        → O.failures writer.old < O.failures writer.new }
     ensures reach { Reaches H.servers L.servers parts.new }
 {
     let mut buffer = piece_buffer(alloc)?;
@@ -110,30 +76,9 @@ fn serve_piece<R: IoRuntime, O: Outlet, H: Health, L: Links, T: Trails, C: Clock
     requires outbox { session.old.outbox ≡ [] }
     requires owes { session.old.owes ≡ false }
     requires reads { session.old.reading.after ≢ Never }
-    ensures ok { IfOk result (λ quit. Delivered O.takes
-        (IsEvent H.steps H.grants L.exchanges L.sent L.probed T.records C.reads)
-        (sent_by L.sent) (probed_by L.probed) 0 (pause_of quit)
-        (fed_state session.old piece.now) writer.old written.old parts.old
-        session.new writer.new written.new parts.new) }
-    ensures too_long { IsErrOf result SessionFault.LineTooLong → Delivered O.takes
-        (IsEvent H.steps H.grants L.exchanges L.sent L.probed T.records C.reads)
-        (sent_by L.sent) (probed_by L.probed) 0 Progress.LineTooLong
-        (fed_state session.old piece.now) writer.old written.old parts.old
-        session.new writer.new written.new parts.new }
-    ensures err { OnErr result (DeliveredPart O.takes
-        (IsEvent H.steps H.grants L.exchanges L.sent L.probed T.records C.reads)
-        (IsRequestCut H.steps L.exchanges L.sent L.probed T.records) 0
-        (fed_state session.old piece.now) writer.old written.old parts.old
-        writer.new written.new parts.new) }
-    ensures calm { OnOk result (O.failures writer.new ≡ O.failures writer.old) }
-    ensures calm_memory { IsErrOf result SessionFault.Memory
-        → O.failures writer.new ≡ O.failures writer.old }
-    ensures calm_line { IsErrOf result SessionFault.LineTooLong
-        → O.failures writer.new ≡ O.failures writer.old }
-    ensures counted { (n : ℕ) → IsErrOf result (SessionFault.Write n) → n ≡ capped written.new }
-    ensures failed { (n : ℕ) → IsErrOf result (SessionFault.Write n)
-        → O.failures writer.old < O.failures writer.new }
-    ensures never_read { result ≢ Err SessionFault.Read }
+    ensures ends { PieceEnds O.Outlet (effects H.Health L.Links T.Trails C.Clock)
+        (delivery (fed_state session.old piece.now) parts.old writer.old written.old) result
+        (delivery session.new parts.new writer.new written.new) }
     ensures begun { NoneMarked parts.old.backend.probers → NoneMarked parts.new.backend.probers }
     ensures reach { Reaches H.servers L.servers parts.new }
 {
@@ -163,24 +108,10 @@ fn deliver<R: IoRuntime, O: Outlet, H: Health, L: Links, T: Trails, C: Clock>(
     requires reach { Reaches H.servers L.servers parts.old }
     requires outbox { session.old.outbox ≡ [] }
     requires owes { session.old.owes ≡ false }
-    ensures ok { IfOk result (λ progress. Delivered O.takes
-        (IsEvent H.steps H.grants L.exchanges L.sent L.probed T.records C.reads)
-        (sent_by L.sent) (probed_by L.probed) 0 progress
-        session.old writer.old written.old parts.old
-        session.new writer.new written.new parts.new) }
-    ensures err { OnErr result (DeliveredPart O.takes
-        (IsEvent H.steps H.grants L.exchanges L.sent L.probed T.records C.reads)
-        (IsRequestCut H.steps L.exchanges L.sent L.probed T.records) 0
-        session.old writer.old written.old parts.old writer.new written.new parts.new) }
-    ensures calm { OnOk result (O.failures writer.new ≡ O.failures writer.old) }
-    ensures calm_memory { IsErrOf result SessionFault.Memory
-        → O.failures writer.new ≡ O.failures writer.old }
-    ensures counted { (n : ℕ) → IsErrOf result (SessionFault.Write n) → n ≡ capped written.new }
-    ensures failed { (n : ℕ) → IsErrOf result (SessionFault.Write n)
-        → O.failures writer.old < O.failures writer.new }
-    ensures never_read { result ≢ Err SessionFault.Read }
+    ensures ends { DeliveryEnds O.Outlet (effects H.Health L.Links T.Trails C.Clock)
+        (delivery session.old parts.old writer.old written.old) result
+        (delivery session.new parts.new writer.new written.new) }
     ensures begun { NoneMarked parts.old.backend.probers → NoneMarked parts.new.backend.probers }
-    ensures never_too_long { result ≢ Err SessionFault.LineTooLong }
     ensures reach { Reaches H.servers L.servers parts.new }
 {
     let answered = session.answer(rt, alloc, parts);

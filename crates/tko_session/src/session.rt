@@ -3,16 +3,18 @@ ghost use Rattle.std.specs.Prelude.{◌≡◌, ◌≢◌, ◌≤◌, ◌<◌, �
 ghost use Rattle.std.specs.Option.{option_copied};
 ghost use Rattle.tko_text.specs.Reading.{Emits, NeedsMore, Never, fed};
 ghost use Rattle.tko_text.specs.Requests.{fault_text};
-ghost use Rattle.tko_session.specs.Cuts.{IsRequestCut};
-ghost use Rattle.tko_session.specs.Events.{IsEvent, IsRun};
+ghost use Rattle.tko_session.specs.Turns.{IsRequestCut};
+ghost use Rattle.tko_session.specs.Effects.{effects};
+ghost use Rattle.tko_session.specs.Events.{IsRun};
 ghost use Rattle.tko_backend.specs.Probers.{AreQuiet, NoneMarked};
-ghost use Rattle.tko_session.specs.SessionState.{Answered, AnsweredPart, Reaches, Replied, fed_state, fresh, probed_by, progress_after, progress_of, reply_bound, sent_by};
+ghost use Rattle.tko_answer.specs.Answers.{Reaches};
+ghost use Rattle.tko_answer.specs.Replies.{reply_bound};
+ghost use Rattle.tko_session.specs.SessionState.{Answered, AnsweredPart, Replied, fed_state, fresh, progress_after, progress_of, snapshot};
 
-use crate::answering::answer;
-use crate::outbox::Outbox;
 use crate::{Parts, Trails, round};
 use std::alloc::Global;
 use std::marker::Model;
+use tko_answer::{Outbox, answer};
 use tko_backend::Clock;
 use tko_bytes::NoMemory;
 use tko_links::{IoRuntime, Links};
@@ -137,15 +139,13 @@ impl Session {
         requires reach { Reaches H.servers L.servers parts.old }
         requires owes { self.old.owes ≡ false }
         ensures ok { IfOk result (λ progress. Answered
-            (IsEvent H.steps H.grants L.exchanges L.sent L.probed T.records C.reads)
-            (sent_by L.sent) (probed_by L.probed) progress
-            self.old parts.old self.new parts.new) }
+            (effects H.Health L.Links T.Trails C.Clock) progress
+            (snapshot self.old parts.old) (snapshot self.new parts.new)) }
         ensures full { result ≡ Ok Progress.More → self.new.owes ≡ false
             → reply_bound ≤ length self.new.outbox }
         ensures err { OnErr result (AnsweredPart
-            (IsEvent H.steps H.grants L.exchanges L.sent L.probed T.records C.reads)
-            (IsRequestCut H.steps L.exchanges L.sent L.probed T.records)
-            self.old parts.old self.new parts.new) }
+            (effects H.Health L.Links T.Trails C.Clock)
+            (snapshot self.old parts.old) (snapshot self.new parts.new)) }
         ensures busy { OnOk result (self.new.owes ≡ true → ¬ AreQuiet parts.new.backend.probers) }
         ensures begun { NoneMarked parts.old.backend.probers → self.new.owes ≡ false
             → NoneMarked parts.new.backend.probers }
@@ -175,8 +175,8 @@ impl Session {
         parts: &mut Parts<H, L, T, C>,
     ) -> Result<(), NoMemory>
         requires reach { Reaches H.servers L.servers parts.old }
-        ensures round { IsRun H.steps H.grants L.exchanges L.sent L.probed C.reads self.old.owes
-            (is_err result) parts.old parts.new }
+        ensures round { IsRun H.Health L.Links C.Clock self.old.owes (is_err result)
+            parts.old parts.new }
         ensures none_owed { self.new ≡ record self.old { owes = false } }
         ensures begun { self.old.owes ≡ true → NoneMarked parts.new.backend.probers }
         ensures reach { Reaches H.servers L.servers parts.new }
@@ -199,14 +199,12 @@ impl Session {
         requires owes { self.old.owes ≡ false }
         requires room { length self.old.outbox < reply_bound }
         ensures ok { IfOk result (λ progress. Answered
-            (IsEvent H.steps H.grants L.exchanges L.sent L.probed T.records C.reads)
-            (sent_by L.sent) (probed_by L.probed) progress
-            self.old parts.old self.new parts.new) }
+            (effects H.Health L.Links T.Trails C.Clock) progress
+            (snapshot self.old parts.old) (snapshot self.new parts.new)) }
         ensures more { result ≡ Ok Progress.More → ¬ NeedsMore self.old.reading }
         ensures err { OnErr result (AnsweredPart
-            (IsEvent H.steps H.grants L.exchanges L.sent L.probed T.records C.reads)
-            (IsRequestCut H.steps L.exchanges L.sent L.probed T.records)
-            self.old parts.old self.new parts.new) }
+            (effects H.Health L.Links T.Trails C.Clock)
+            (snapshot self.old parts.old) (snapshot self.new parts.new)) }
         ensures busy { OnOk result (self.new.owes ≡ true → ¬ AreQuiet parts.new.backend.probers) }
         ensures begun { NoneMarked parts.old.backend.probers → self.new.owes ≡ false
             → NoneMarked parts.new.backend.probers }
@@ -263,8 +261,8 @@ impl Session {
         request: Request,
     ) -> Result<Progress, NoMemory>
         requires reach { Reaches H.servers L.servers parts.old }
-        ensures ok { OnOk result (Replied H.steps L.exchanges L.sent L.probed T.records
-            self.old parts.old request self.new parts.new) }
+        ensures ok { OnOk result (Replied H.Health L.Links T.Trails
+            (snapshot self.old parts.old) request (snapshot self.new parts.new)) }
         ensures progress { IfOk result (λ progress. progress ≡ progress_of request) }
         ensures err { OnErr result (self.new ≡ record self.old { owes = true }) }
         ensures cut { OnErr result (IsRequestCut H.steps L.exchanges L.sent L.probed T.records

@@ -132,7 +132,7 @@ fn one_order_of_200_000_calls(rt: HostRuntime) -> Result<(), Fail> {
     assert_eq!(rt; last.soft(), (0, 0));
     assert!(rt; have_order(rt.alloc(), &SETTINGS, &one, &other, last.mark(0))?);
     let shares = vec![in rt.alloc(); shares.0, shares.1, shares.2]?;
-    let totals = gather(book, shares).map_err(|_| "gather")?.numbers;
+    let totals = gather(book, shares).map_err(|_| "gather")?.counts;
     assert_eq!(rt; totals.of(Kind::Request), calls as u64);
     assert_eq!(rt; totals.of(Kind::Reply), changes as u64);
     assert_eq!(rt; totals.of(Kind::Probe), lent);

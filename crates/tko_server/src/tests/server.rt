@@ -11,7 +11,8 @@ use std::test::Fail;
 use std::thread::Threads;
 use std::time::{Clock, Duration};
 use std::{io, thread};
-use tko_desk::{Kind, Totals};
+use tko_counts::Kind;
+use tko_desk::Totals;
 use tko_model::Settings;
 
 const PATIENCE: Patience = Patience {
@@ -79,8 +80,8 @@ fn totals_of_two_connections(rt: HostRuntime) -> Result<(), Fail> {
     );
     assert_eq!(rt; read.0?.as_slice(), SERVER_ERROR);
     assert_eq!(rt; read.1?.as_slice(), SERVER_ERROR);
-    let numbers = totals.map_err(|_| "run")?.numbers;
-    assert_eq!(rt; Kind::ALL.map(|kind| numbers.of(kind)), [4, 1, 1, 0, 2, 0]);
+    let counts = totals.map_err(|_| "run")?.counts;
+    assert_eq!(rt; Kind::ALL.map(|kind| counts.of(kind)), [4, 1, 1, 0, 2, 0]);
     Ok(())
 }
 

@@ -12,7 +12,8 @@ use std::sync::{Mutex, Wait};
 use std::test::Fail;
 use std::time::Clock;
 use tko_backend::{ListedClock, Probers};
-use tko_desk::{Book, Kind, Numbers};
+use tko_counts::{Counts, Kind};
+use tko_desk::Book;
 use tko_events::Log;
 use tko_health::{LockedSeating, Seating, SharedSeating};
 use tko_links::{Script, Scripted};
@@ -24,7 +25,7 @@ use tko_tracker::{IdlePass, Named, Tracker, open};
 struct Left {
     text: Vec<u8>,
     /// What its share of the ledger counted.
-    numbers: Numbers,
+    counts: Counts,
     report: WorkerReport,
 }
 
@@ -83,7 +84,7 @@ fn work<R: Wait + Net<Stream = TcpStream> + Clock, P: Drop, S: Seating<Idle = P>
     let (_, report) = worker(rt, alloc, source, seat, parts);
     Ok(Left {
         text: text.into_inner(),
-        numbers: share.numbers(),
+        counts: share.counts(),
         report,
     })
 }
@@ -163,8 +164,8 @@ fn is_as_probed(left: &Left) -> bool {
         ledger_full: false,
     };
     left.text.as_slice() == b"SERVER_ERROR no server\r\nEND\r\n".as_slice()
-        && left.numbers.of(Kind::Probe) == 1
-        && left.numbers.of(Kind::Attempt) == 2
+        && left.counts.of(Kind::Probe) == 1
+        && left.counts.of(Kind::Attempt) == 2
         && left.report == report
 }
 
@@ -204,8 +205,8 @@ fn faults_and_a_full_ledger_are_reported(rt: HostRuntime) -> Result<(), Fail> {
         ledger_full: true,
     };
     assert_eq!(rt; left.report, report);
-    assert_eq!(rt; left.numbers.of(Kind::Request), u64::MAX);
-    assert_eq!(rt; left.numbers.of(Kind::Attempt), 1);
+    assert_eq!(rt; left.counts.of(Kind::Request), u64::MAX);
+    assert_eq!(rt; left.counts.of(Kind::Attempt), 1);
     Ok(())
 }
 
@@ -221,6 +222,6 @@ fn probes_after_the_last_client_are_counted(rt: HostRuntime) -> Result<(), Fail>
         requests: 0,
     };
     let left = work_without_lock(&rt, alloc, case)?;
-    assert_eq!(rt; left.numbers.of(Kind::Probe), 1);
+    assert_eq!(rt; left.counts.of(Kind::Probe), 1);
     Ok(())
 }

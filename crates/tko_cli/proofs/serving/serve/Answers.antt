@@ -38,7 +38,7 @@ returns-in_err-lines-clause-err g c =
 pub returns-clause-ok : goal.returns-clause-ok
 returns-clause-ok g c =
     has_served g.O.Outlet.takes c.args.options.now c.in_ok-plan.plan c.args.output.now c.write_text.new.outlet
-    c.write_text-2.new.outlet c.in_ok-ended.ended.totals.numbers c.in_ok-plan.ensures.ok c.in_ok-write_text.ensures.ok
+    c.write_text-2.new.outlet c.in_ok-ended.ended.totals.counts c.in_ok-plan.ensures.ok c.in_ok-write_text.ensures.ok
     (rw c.in_ok-lines.ensures at (rw c.deref.ensures.value at c.in_ok-write_text-2.ensures.ok))
 
 pub returns-in_err-lines-clause-told : goal.returns-in_err-lines-clause-told

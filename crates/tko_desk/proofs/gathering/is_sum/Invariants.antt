@@ -1,5 +1,6 @@
 use Rattle.std.proofs.Common.{◌≡◌, ◌+◌, drop}
-use Rattle.tko_desk.specs.Ledger.{number_of, sum_of}
+use Rattle.tko_counts.specs.Numbers.{number_of}
+use Rattle.tko_desk.specs.Ledger.{sum_of}
 use Rattle.tko_desk.proofs.gathering.is_sum.Given as goal
 
 abbrev pub invariant-loop-share : goal.invariant-loop-share

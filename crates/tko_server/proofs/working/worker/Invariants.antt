@@ -1,4 +1,4 @@
-use Rattle.tko_session.specs.SessionState.{Reaches}
+use Rattle.tko_answer.specs.Answers.{Reaches}
 use Rattle.tko_server.proofs.working.worker.Given as goal
 
 abbrev pub invariant-loop : goal.invariant-loop

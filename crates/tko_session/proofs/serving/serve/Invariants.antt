@@ -1,17 +1,15 @@
 use Rattle.std.proofs.Common.{◌≡◌, ◌<◌, vec_len}
 use Rattle.tko_session.specs.declared.session.Progress.TheVariants.{NeedsInput}
 use Rattle.tko_backend.specs.Probers.{NoneMarked}
-use Rattle.tko_session.specs.Events.{IsEvent}
-use Rattle.tko_session.specs.SessionState.{Reaches, probed_by, sent_by}
-use Rattle.tko_session.specs.Served.{ServedSoFar}
+use Rattle.tko_session.specs.Effects.{effects}
+use Rattle.tko_answer.specs.Answers.{Reaches}
+use Rattle.tko_session.specs.Served.{ServedSoFar, context, delivery}
 use Rattle.tko_session.proofs.serving.serve.Given as goal
 
 abbrev pub invariant-loop : goal.invariant-loop
 invariant-loop g l =
-    ServedSoFar g.I.Inlet.gives g.I.Inlet.idles g.O.Outlet.takes
-    (IsEvent g.H.Health.steps g.H.Health.grants g.L.Links.exchanges g.L.Links.sent g.L.Links.probed g.T.Trails.records g.C.Clock.reads)
-    (sent_by g.L.Links.sent) (probed_by g.L.Links.probed) NeedsInput
-    l.fn.reader l.fn.writer l.fn.parts l.session l.reader l.writer l.written l.parts
+    ServedSoFar g.I.Inlet g.O.Outlet (effects g.H.Health g.L.Links g.T.Trails g.C.Clock) NeedsInput
+    (context l.fn.reader l.fn.writer l.fn.parts) l.reader (delivery l.session l.parts l.writer l.written)
     × (g.I.Inlet.failures l.reader ≡ g.I.Inlet.failures l.fn.reader)
     × (g.O.Outlet.failures l.writer ≡ g.O.Outlet.failures l.fn.writer)
     × Reaches g.H.Health.servers g.L.Links.servers l.parts

@@ -1,48 +1,47 @@
-use Rattle.std.proofs.Common.{refl, ◌∙◌}
+use Rattle.std.proofs.Common.{ap, refl, Err, ◌∙◌}
+use Rattle.std.proofs.lemmas.Result.{err_from_is_err_and}
 use Rattle.tko_session.specs.SessionState.{fed_state}
-use Rattle.tko_session.proofs.ResultLemmas.{on_err}
-use Rattle.tko_session.proofs.ServedLemmas.{delivered_none, delivered_append, delivered_part, not_delivered, part_append}
+use Rattle.tko_session.proofs.ServedLemmas.{all_append, delivered_none, delivered_append, not_delivered, not_taken, piece_stopped}
 use Rattle.tko_session.proofs.serving.serve_piece.Goals as goal
 
-pub returns-in_err-take-clause-err : goal.returns-in_err-take-clause-err
-returns-in_err-take-clause-err g c =
-    on_err _ (not_delivered _ c.args.writer.now c.args.written.now c.args.parts.now (g.met.O.Outlet.nothing c.args.writer.now) c.requires.owes)
+pub returns-in_err-take-clause-ends : goal.returns-in_err-take-clause-ends
+returns-in_err-take-clause-ends g c =
+    let p = err_from_is_err_and c.from_residual.result c.from_residual.ensures.1 in
+    rw (p.1, p.2) (not_taken c.in_err-take.field-0.0 (λ is. c.requires.reads (c.in_err-take.ensures.failed.0 (ap Err is)))
+    (not_delivered _ _ c.args.parts.now c.args.writer.now c.args.written.now (g.met.O.Outlet.nothing c.args.writer.now) c.requires.owes) refl)
 
 pub loop-init : goal.loop-init
 loop-init g c =
-    let none = delivered_none (fed_state c.args.session.now c.args.piece.now) c.args.writer.now c.args.written.now c.args.parts.now
+    let none = delivered_none (fed_state c.args.session.now c.args.piece.now) c.args.parts.now c.args.writer.now c.args.written.now
     (g.met.O.Outlet.nothing c.args.writer.now) c.requires.outbox c.requires.owes in
     (rw c.in_ok-take.ensures.ok none, refl, c.requires.reach, λ begun. begun)
 
-pub returns-in_err-deliver-clause-err : goal.returns-in_err-deliver-clause-err
-returns-in_err-deliver-clause-err g c =
-    on_err _ (part_append g.met.O.Outlet.goes_on c.loop.invariant.0 c.in_err-deliver.ensures.err)
+pub returns-in_err-deliver-clause-ends : goal.returns-in_err-deliver-clause-ends
+returns-in_err-deliver-clause-ends g c =
+    let p = err_from_is_err_and c.from_residual-in_err-deliver.result c.from_residual-in_err-deliver.ensures.1 in
+    rw (p.1, p.2) (piece_stopped g.met.O.Outlet.goes_on c.in_err-deliver.field-0.0 _ c.loop.invariant.0 c.loop.invariant.1
+    c.in_err-deliver.ensures.ends)
 
 pub loop-preserved : goal.loop-preserved
 loop-preserved g c =
-    let more = rw c.in-More.is at c.in_ok-deliver.ensures.ok in (
-      delivered_append g.met.O.Outlet.goes_on c.loop.invariant.0 more,
-      c.in_ok-deliver.ensures.calm ∙ c.loop.invariant.1,
+    let more = rw c.in-More.is at c.in_ok-deliver.ensures.ends in (
+      delivered_append g.met.O.Outlet.goes_on c.loop.invariant.0 more.delivered,
+      more.calm ∙ c.loop.invariant.1,
       c.in_ok-deliver.ensures.reach,
       λ begun. c.in_ok-deliver.ensures.begun (c.loop.invariant.3 begun),
     )
 
-pub returns-in-NeedsInput-clause-ok : goal.returns-in-NeedsInput-clause-ok
-returns-in-NeedsInput-clause-ok g c =
-    let last = rw c.in-NeedsInput.is at c.in_ok-deliver.ensures.ok in
-    delivered_append g.met.O.Outlet.goes_on c.loop.invariant.0 last
+pub returns-in-NeedsInput-clause-ends : goal.returns-in-NeedsInput-clause-ends
+returns-in-NeedsInput-clause-ends g c =
+    let last = rw c.in-NeedsInput.is at c.in_ok-deliver.ensures.ends in
+    all_append g.met.O.Outlet.goes_on c.loop.invariant.0 c.loop.invariant.1 last
 
-pub returns-in-LineTooLong-clause-too_long : goal.returns-in-LineTooLong-clause-too_long
-returns-in-LineTooLong-clause-too_long g c = λ e.
-    let last = rw c.in-LineTooLong.is at c.in_ok-deliver.ensures.ok in
-    delivered_append g.met.O.Outlet.goes_on c.loop.invariant.0 last
+pub returns-in-LineTooLong-clause-ends : goal.returns-in-LineTooLong-clause-ends
+returns-in-LineTooLong-clause-ends g c =
+    let last = rw c.in-LineTooLong.is at c.in_ok-deliver.ensures.ends in
+    all_append g.met.O.Outlet.goes_on c.loop.invariant.0 c.loop.invariant.1 last
 
-pub returns-in-LineTooLong-clause-err : goal.returns-in-LineTooLong-clause-err
-returns-in-LineTooLong-clause-err g c =
-    let last = rw c.in-LineTooLong.is at c.in_ok-deliver.ensures.ok in
-    delivered_part (delivered_append g.met.O.Outlet.goes_on c.loop.invariant.0 last)
-
-pub returns-in-Quit-clause-ok : goal.returns-in-Quit-clause-ok
-returns-in-Quit-clause-ok g c =
-    let last = rw c.in-Quit.is at c.in_ok-deliver.ensures.ok in
-    delivered_append g.met.O.Outlet.goes_on c.loop.invariant.0 last
+pub returns-in-Quit-clause-ends : goal.returns-in-Quit-clause-ends
+returns-in-Quit-clause-ends g c =
+    let last = rw c.in-Quit.is at c.in_ok-deliver.ensures.ends in
+    all_append g.met.O.Outlet.goes_on c.loop.invariant.0 c.loop.invariant.1 last

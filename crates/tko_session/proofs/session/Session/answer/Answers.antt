@@ -1,6 +1,6 @@
 use Rattle.std.proofs.Common.{ap, sym, ◌∙◌}
 use Rattle.tko_session.specs.SessionState.{SessionState}
-use Rattle.tko_session.proofs.ResultLemmas.{on_err}
+use Rattle.tko_answer.proofs.ResultLemmas.{on_err}
 use Rattle.tko_session.proofs.TurnLemmas.{answered_none, answered_append, part_after}
 use Rattle.tko_session.proofs.session.Session.answer.Goals as goal
 

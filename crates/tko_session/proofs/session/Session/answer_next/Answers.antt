@@ -1,6 +1,6 @@
 use Rattle.std.proofs.Common.{ap, ◌∙◌}
 use Rattle.tko_text.specs.Reading.{NeedsMore}
-use Rattle.tko_session.proofs.ResultLemmas.{both_ok, on_err, on_errs}
+use Rattle.tko_answer.proofs.ResultLemmas.{both_ok, on_err, on_errs}
 use Rattle.tko_session.proofs.TurnLemmas.{answered_fault, answered_open, answered_paid, answered_request, part_cut, part_none, part_paid}
 use Rattle.tko_session.proofs.session.Session.answer_next.Goals as goal
 
@@ -20,7 +20,7 @@ returns-in-Some-Fault-clause-ok g c =
     let fault_told = rw c.in-Some-Fault.field-0-is at told in
     let answer = c.answer_fault.ensures in
     both_ok c.answer_fault.result answer.ok answer.progress (λ progress e is.
-    answered_fault {steps = g.H.Health.steps} {exchanges = g.L.Links.exchanges} {records = g.T.Trails.records} {reads = g.C.Clock.reads}
+    answered_fault g.H.Health g.L.Links g.T.Trails g.C.Clock
     _ _ _ _ _ progress fault_told c.in_ok-next.ensures.others e is c.requires.owes c.requires.room)
 
 pub returns-in-Some-Fault-clause-more : goal.returns-in-Some-Fault-clause-more
@@ -49,7 +49,7 @@ returns-then-not-is_quiet-clause-ok g c =
     let told = rw c.in-Some-Request.is at c.in_ok-next.ensures.item in
     let request_told = rw c.in-Some-Request.field-0-is at told in
     let replied = c.in_ok-progress-in-Some-Request.ensures in
-    answered_request _ _ _ _ _ _ _ request_told c.in_ok-next.ensures.others replied.ok replied.progress c.requires.owes c.requires.room
+    answered_request {trails = g.T.Trails} {clock = g.C.Clock} _ _ _ _ _ _ _ request_told c.in_ok-next.ensures.others replied.ok replied.progress c.requires.owes c.requires.room
 
 pub returns-then-not-is_quiet-clause-more : goal.returns-then-not-is_quiet-clause-more
 unfolding NeedsMore
@@ -63,8 +63,8 @@ returns-in_err-run_owed_round-in-Some-Request-clause-err g c =
     let request_told = rw c.in-Some-Request.field-0-is at told in
     let replied = c.in_ok-progress-in-Some-Request.ensures in
     let run = c.in_err-run_owed_round-in-Some-Request.ensures in
-    on_err _ (part_paid {records = g.T.Trails.records}
-    (answered_request {reads = g.C.Clock.reads} _ _ _ _ _ _ _ request_told c.in_ok-next.ensures.others replied.ok replied.progress c.requires.owes c.requires.room)
+    on_err _ (part_paid {trails = g.T.Trails} {clock = g.C.Clock}
+    (answered_request {trails = g.T.Trails} {clock = g.C.Clock} _ _ _ _ _ _ _ request_told c.in_ok-next.ensures.others replied.ok replied.progress c.requires.owes c.requires.room)
     run.round run.none_owed)
 
 pub returns-in_ok-run_owed_round-in-Some-Request-clause-ok : goal.returns-in_ok-run_owed_round-in-Some-Request-clause-ok
@@ -73,8 +73,8 @@ returns-in_ok-run_owed_round-in-Some-Request-clause-ok g c =
     let request_told = rw c.in-Some-Request.field-0-is at told in
     let replied = c.in_ok-progress-in-Some-Request.ensures in
     let run = c.in_ok-run_owed_round-in-Some-Request.ensures in
-    answered_paid {records = g.T.Trails.records}
-    (answered_request {reads = g.C.Clock.reads} _ _ _ _ _ _ _ request_told c.in_ok-next.ensures.others replied.ok replied.progress c.requires.owes c.requires.room)
+    answered_paid {trails = g.T.Trails} {clock = g.C.Clock}
+    (answered_request {trails = g.T.Trails} {clock = g.C.Clock} _ _ _ _ _ _ _ request_told c.in_ok-next.ensures.others replied.ok replied.progress c.requires.owes c.requires.room)
     run.round run.none_owed
 
 pub returns-in_ok-run_owed_round-in-Some-Request-clause-more : goal.returns-in_ok-run_owed_round-in-Some-Request-clause-more

@@ -1,4 +1,4 @@
-use Rattle.tko_session.specs.Cuts.{recorded}
+use Rattle.tko_session.specs.Turns.{recorded}
 use Rattle.tko_session.proofs.session.Session.answer_request.Goals as goal
 
 pub returns-in_default-clause-cut : goal.returns-in_default-clause-cut

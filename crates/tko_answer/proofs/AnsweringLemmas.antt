@@ -1,0 +1,349 @@
+-- Keys that are routed one after another, and the reply that they make.
+use Rattle.std.proofs.Common.{◌≡◌, ℕ, ◌+◌, ◌<◌, Bool, true, false, List, [], ◌∷◌, ◌++◌, All, length, take, Option, Some, None, refl, sym, ap, subst, ◌∙◌, append_assoc, append-nil, add-zero, arith, inl, inr}
+use Rattle.std.specs.Prelude.{◌⊎◌, ◌↔◌, MatchBool, sum_by, unwrap_or, IsSome, IsTrue}
+use Rattle.std.proofs.lemmas.Grind.{flat_map-append}
+use Rattle.std.proofs.lemmas.List.{map-append, take_at}
+use Rattle.std.proofs.lemmas.List.Sums.{sum_by-append}
+use Rattle.std.proofs.lemmas.List.Elements.{All-append, All-cons, All-nil}
+use Rattle.tko_model.specs.Records.{HealthItem, Gains}
+use Rattle.tko_model.proofs.RecordLemmas.{gains_none, gains_one, gains_append}
+use Rattle.tko_text.specs.declared.request.Request.{Request}
+use Rattle.tko_text.specs.declared.request.Request.TheVariants.{Get, Gets, Store, Cas, Delete, Incr, Decr, Touch, Version, Quit, StatsTko}
+use Rattle.tko_text.specs.declared.response.Response.{Response}
+use Rattle.tko_text.specs.declared.response.Response.TheVariants as response
+use Rattle.tko_text.specs.Responses.{response_text}
+use Rattle.tko_links.specs.Links.{LinksItem}
+use Rattle.tko_route.specs.declared.attempt.Attempt.{Attempt}
+use Rattle.tko_route.specs.Trail.{Attempts, answer_of, sends_in}
+use Rattle.tko_answer.specs.declared.parts.Parts.{Parts}
+use Rattle.tko_answer.specs.Answering.{AnsweredInto, Extends, IsNext, IsTried, retrieval}
+use Rattle.tko_answer.specs.Replies.{HasValues, IsReply, RoutedKey, all_values, end_line, first_other, joined, keys_in, reply_text, text_of_answer, trails_in, values_in, version_text, written, sends_to}
+use Rattle.tko_answer.specs.Status.{IsStatusAfter}
+use Rattle.tko_answer.specs.TrailEvents.{TrailEvent, Tried}
+use Rattle.tko_answer.specs.Answers.{AnswersItself, IsKeyRouted, by_keys, itself, request_for, request_keys, way_of}
+
+-- a request of one key is routed as it is
+pub request_for_alone : (request : Request) (key : List ℕ) → request_keys request ≡ key ∷ [] → request_for request key ≡ request
+request_for_alone (Get keys) key is = ap Get (sym is)
+request_for_alone (Gets keys) key is = ap Gets (sym is)
+request_for_alone (Store verb entry noreply) key is = refl
+request_for_alone (Cas entry unique noreply) key is = refl
+request_for_alone (Delete it noreply) key is = refl
+request_for_alone (Incr it amount noreply) key is = refl
+request_for_alone (Decr it amount noreply) key is = refl
+request_for_alone (Touch it expiry noreply) key is = refl
+request_for_alone Version key is = refl
+request_for_alone Quit key is = refl
+request_for_alone StatsTko key is = refl
+
+-- one of several keys is routed as the same key alone
+pub request_for_one : (keys : List (List ℕ)) (unique : Bool) (key : List ℕ)
+    → request_for (retrieval (key ∷ []) unique) key ≡ request_for (retrieval keys unique) key
+request_for_one keys true key = refl
+request_for_one keys false key = refl
+
+pub retrieval_keys : (keys : List (List ℕ)) (unique : Bool) → request_keys (retrieval keys unique) ≡ keys
+retrieval_keys keys true = refl
+retrieval_keys keys false = refl
+
+retrieval_written : (keys : List (List ℕ)) (unique : Bool) (reply : List ℕ) → written (retrieval keys unique) reply ≡ reply
+retrieval_written keys true reply = refl
+retrieval_written keys false reply = refl
+
+trails-append : (routed more : List RoutedKey) → trails_in (routed ++ more) ≡ trails_in routed ++ trails_in more
+trails-append routed more = map-append (λ one. one.trail) routed more
+
+joined-append : (routed more : List RoutedKey) → joined (routed ++ more) ≡ joined routed ++ joined more
+joined-append routed more = flat_map-append (λ one. unwrap_or (values_in (answer_of one.trail)) []) routed more
+
+sends_to-append : (server : ℕ) (routed more : List RoutedKey)
+    → sends_to server (trails_in (routed ++ more)) ≡ sends_to server (trails_in routed) + sends_to server (trails_in more)
+sends_to-append server routed more =
+    ap (sum_by (sends_in server)) (trails-append routed more)
+    ∙ sum_by-append (sends_in server) (trails_in routed) (trails_in more)
+
+-- a response is a list of values, which `END` follows, or it is none
+values_or_not : (found : Option Response)
+    → (IsSome (values_in found) × (text_of_answer found ≡ unwrap_or (values_in found) [] ++ end_line)) ⊎ ¬ (IsSome (values_in found))
+unfolding response_text
+values_or_not None = inr (λ some. cc)
+values_or_not (Some (response.Values None)) = inl (refl, refl)
+values_or_not (Some (response.Values (Some found))) = inl (refl, refl)
+values_or_not (Some response.Stored) = inr (λ some. cc)
+values_or_not (Some response.NotStored) = inr (λ some. cc)
+values_or_not (Some response.Exists) = inr (λ some. cc)
+values_or_not (Some response.Deleted) = inr (λ some. cc)
+values_or_not (Some response.Touched) = inr (λ some. cc)
+values_or_not (Some response.NotFound) = inr (λ some. cc)
+values_or_not (Some (response.Number n)) = inr (λ some. cc)
+values_or_not (Some (response.Version text)) = inr (λ some. cc)
+values_or_not (Some response.Error) = inr (λ some. cc)
+values_or_not (Some (response.ClientError text)) = inr (λ some. cc)
+values_or_not (Some (response.ServerError text)) = inr (λ some. cc)
+
+abbrev one : List ℕ → List Attempt → RoutedKey
+one key trail = record { key = key; trail = trail }
+
+-- the reply to one key is that of its trail
+one_reply : (key : List ℕ) (trail : List Attempt) → IsReply (key ∷ []) (one key trail ∷ []) (reply_text trail)
+one_reply key trail = elim (values_or_not (answer_of trail)) [
+  | inl (some, text) ↦ all_values refl (All-cons HasValues (one key trail) [] some (All-nil HasValues))
+      (text ∙ ap (λ xs. xs ++ end_line) (sym (append-nil (unwrap_or (values_in (answer_of trail)) []))))
+  | inr none ↦ first_other [] (one key trail) [] refl refl (All-nil HasValues) none refl
+]
+
+pub nothing_left : {A : Type 0} (xs : List A) → length xs ≡ 0 → xs ≡ []
+nothing_left [] none = refl
+nothing_left (x ∷ xs) none = absurd (omega (arith, none))
+
+-- the one key of a request of one key
+pub one_key : (keys : List (List ℕ)) → length keys ≡ 1 → (key : List ℕ) × (keys ≡ key ∷ [])
+one_key [] is = absurd (omega (arith, is))
+one_key (key ∷ []) is = (key, refl)
+one_key (key ∷ other ∷ keys) is = absurd (omega (arith, is))
+
+false_is_true : false ≡ true → ⊥
+false_is_true e = cc
+
+-- what a response is to one of several keys
+pub next_replied : (listed : Bool) (n : ℕ) (found : Option Response) (key : List ℕ) (trail : List Attempt) (xs ys : List ℕ)
+    → IsTrue listed ↔ IsSome (values_in found)
+    → MatchBool listed (ys ≡ xs ++ unwrap_or (values_in found) []) (ys ≡ take n xs ++ text_of_answer found)
+    → found ≡ answer_of trail
+    → MatchBool listed (HasValues (one key trail) × (ys ≡ xs ++ joined (one key trail ∷ [])))
+    (¬ (HasValues (one key trail)) × (ys ≡ take n xs ++ reply_text trail))
+next_replied true n found key trail xs ys is text same = (
+  subst (λ f. IsSome (values_in f)) same (is.0 refl),
+  text ∙ ap (λ f. xs ++ unwrap_or (values_in f) []) same
+      ∙ ap (λ zs. xs ++ zs) (sym (append-nil (unwrap_or (values_in (answer_of trail)) []))),
+)
+next_replied false n found key trail xs ys is text same = (
+  λ some. absurd (false_is_true (is.1 (subst (λ f. IsSome (values_in f)) (sym same) some))),
+  text ∙ ap (λ f. take n xs ++ text_of_answer f) same,
+)
+
+module _ {H L T C : Type 0} {steps : H → HealthItem → H → Type 0} {exchanges : L → LinksItem → L → Type 0} {sent probed : L → ℕ → ℕ} where
+  pub key_sends : {old mid new : Parts H L T C} (request : Request) (key : List ℕ) (trail : List Attempt)
+      → IsTried steps exchanges sent probed request key old trail mid → new ≡ record mid { trails = new.trails }
+      → (server : ℕ) → sent new.backend.links server ≡ sent old.backend.links server + sends_in server trail
+  key_sends request key trail tried same server =
+      ap (λ (p : Parts H L T C). sent p.backend.links server) same ∙ tried.sends server
+
+  pub key_probes : {old mid new : Parts H L T C} (request : Request) (key : List ℕ) (trail : List Attempt)
+      → IsTried steps exchanges sent probed request key old trail mid → new ≡ record mid { trails = new.trails }
+      → (server : ℕ) → probed new.backend.links server ≡ probed old.backend.links server
+  key_probes request key trail tried same server =
+      ap (λ (p : Parts H L T C). probed p.backend.links server) same ∙ tried.probes server
+
+module _ {H L T C : Type 0} {steps : H → HealthItem → H → Type 0} {exchanges : L → LinksItem → L → Type 0} {sent probed : L → ℕ → ℕ} {records : T → TrailEvent → T → Type 0} where
+  -- a key was routed by this request, which is the one for the key, and its trail was recorded
+  pub key_routed : {old mid new : Parts H L T C} (asked request : Request) (key : List ℕ) (trail : List Attempt) → request_for asked key ≡ request
+      → IsTried steps exchanges sent probed request key old trail mid → records mid.trails (Tried trail) new.trails
+      → new ≡ record mid { trails = new.trails }
+      → IsKeyRouted steps exchanges sent records asked old (one key trail) new
+  key_routed {old} {mid} {new} asked request key trail is tried recorded same =
+      let health : new.backend.health ≡ mid.backend.health = ap (λ (p : Parts H L T C). p.backend.health) same in
+      let links : new.backend.links ≡ mid.backend.links = ap (λ (p : Parts H L T C). p.backend.links) same in
+      let trails : mid.trails ≡ old.trails = ap (λ (p : Parts H L T C). p.trails) tried.others in
+      let config : mid.config ≡ old.config = ap (λ (p : Parts H L T C). p.config) tried.others in
+      record {
+        tried = tried.tried;
+        attempts = rw (health, links, is) tried.attempts;
+        recorded = subst (λ from. records from (Tried trail) new.trails) trails recorded;
+        config = ap (λ (p : Parts H L T C). p.config) same ∙ config;
+        probers = ap (λ (p : Parts H L T C). p.backend.probers) same ∙ ap (λ (p : Parts H L T C). p.backend.probers) tried.others;
+        clock = ap (λ (p : Parts H L T C). p.backend.clock) same ∙ ap (λ (p : Parts H L T C). p.backend.clock) tried.others;
+      }
+
+  -- a request of one key was answered
+  pub answered_key : {old mid new : Parts H L T C} {outbox outbox' : List ℕ} (request : Request) (key : List ℕ) (trail : List Attempt)
+      → request_keys request ≡ key ∷ [] → IsTried steps exchanges sent probed request key old trail mid
+      → records mid.trails (Tried trail) new.trails → new ≡ record mid { trails = new.trails }
+      → outbox' ≡ outbox ++ written request (reply_text trail)
+      → AnsweredInto steps exchanges sent probed records request old outbox new outbox'
+  answered_key request key trail is tried recorded same appended = record {
+    routed = one key trail ∷ [];
+    text = written request (reply_text trail);
+    answers = by_keys (record {
+      some = omega (arith, ap length is);
+      each = gains_one (key_routed request request key trail (request_for_alone request key is) tried recorded same);
+      reply = reply_text trail;
+      is_reply = subst (λ keys. IsReply keys (one key trail ∷ []) (reply_text trail)) (sym is) (one_reply key trail);
+      is_written = refl;
+    });
+    sends = λ server. omega (arith, key_sends request key trail tried same server);
+    probes = key_probes request key trail tried same;
+    appended = appended;
+  }
+
+  -- the next of several keys was routed
+  pub is_next : {old mid new : Parts H L T C} {outbox outbox' : List ℕ} (request : Request) (key : List ℕ) (waiting : ℕ) (listed : Bool) (trail : List Attempt)
+      → request_keys request ≡ key ∷ [] → IsTried steps exchanges sent probed request key old trail mid
+      → records mid.trails (Tried trail) new.trails → new ≡ record mid { trails = new.trails }
+      → MatchBool listed (HasValues (one key trail) × (outbox' ≡ outbox ++ joined (one key trail ∷ [])))
+      (¬ (HasValues (one key trail)) × (outbox' ≡ take waiting outbox ++ reply_text trail))
+      → IsNext steps exchanges sent probed records request key waiting listed old outbox new outbox'
+  is_next request key waiting listed trail is tried recorded same replied = record {
+    trail = trail;
+    routed = key_routed request request key trail (request_for_alone request key is) tried recorded same;
+    sends = key_sends request key trail tried same;
+    probes = key_probes request key trail tried same;
+    replied = replied;
+  }
+
+  -- a request without a key was answered
+  pub answered_itself : {old new : Parts H L T C} {outbox outbox' : List ℕ} (request : Request) (text : List ℕ)
+      → AnswersItself steps exchanges sent records request old text new → new.backend.links ≡ old.backend.links → outbox' ≡ outbox ++ text
+      → AnsweredInto steps exchanges sent probed records request old outbox new outbox'
+  answered_itself {old} request text answers links appended = record {
+    routed = [];
+    text = text;
+    answers = itself refl answers;
+    sends = λ server. ap (λ l. sent l server) links ∙ sym (add-zero (sent old.backend.links server));
+    probes = λ server. ap (λ l. probed l server) links;
+    appended = appended;
+  }
+
+  pub answered_version : {old : Parts H L T C} {outbox outbox' : List ℕ} {request : Request} → request ≡ Version
+      → outbox' ≡ outbox ++ version_text → AnsweredInto steps exchanges sent probed records request old outbox old outbox'
+  answered_version {old} {outbox} {outbox'} is appended =
+      subst (λ r. AnsweredInto steps exchanges sent probed records r old outbox old outbox') (sym is)
+      (answered_itself Version version_text (refl, refl) refl appended)
+
+  pub answered_quit : {old : Parts H L T C} {outbox : List ℕ} {request : Request} → request ≡ Quit
+      → AnsweredInto steps exchanges sent probed records request old outbox old outbox
+  answered_quit {old} {outbox} is =
+      subst (λ r. AnsweredInto steps exchanges sent probed records r old outbox old outbox) (sym is)
+      (answered_itself Quit [] (refl, refl) refl (sym (append-nil outbox)))
+
+  pub answered_status : {old : Parts H L T C} {health : H} {outbox outbox' : List ℕ} {request : Request} → request ≡ StatsTko
+      → IsStatusAfter steps old.config.addresses old.backend.health outbox health outbox'
+      → AnsweredInto steps exchanges sent probed records request old outbox (record old { backend = record old.backend { health = health } }) outbox'
+  answered_status {old} {health} {outbox} {outbox'} is after =
+      subst (λ r. AnsweredInto steps exchanges sent probed records r old outbox (record old { backend = record old.backend { health = health } }) outbox') (sym is)
+      (answered_itself StatsTko after.text (after.status, refl) refl after.appended)
+
+module _ {H L T C : Type 0} {steps : H → HealthItem → H → Type 0} {exchanges : L → LinksItem → L → Type 0} {sent : L → ℕ → ℕ} {records : T → TrailEvent → T → Type 0} where
+  -- the same key of another request that is routed alike
+  routed_as : {old new : Parts H L T C} {it : RoutedKey} (asked other : Request) → request_for asked it.key ≡ request_for other it.key
+      → IsKeyRouted steps exchanges sent records asked old it new → IsKeyRouted steps exchanges sent records other old it new
+  routed_as {old} {new} {it} asked other is routed = record {
+    tried = routed.tried;
+    attempts =
+        subst (λ r. Attempts (record { steps = steps; exchanges = exchanges; sent = sent }) (old.backend.health, old.backend.links) (way_of old.config r it.key it.trail) (new.backend.health, new.backend.links))
+        is routed.attempts;
+    recorded = routed.recorded;
+    config = routed.config;
+    probers = routed.probers;
+    clock = routed.clock;
+  }
+
+module _ {H L T C : Type 0} (steps : H → HealthItem → H → Type 0) (exchanges : L → LinksItem → L → Type 0) (sent probed : L → ℕ → ℕ) (records : T → TrailEvent → T → Type 0) where
+  -- all these keys but those that are left were routed, and each got a list of values; the values are at the end of the outbox
+  pub record JoinsOn (request : Request) (all left : List (List ℕ)) (old : Parts H L T C) (outbox : List ℕ) (new : Parts H L T C) (outbox' : List ℕ) : Type 0 where
+    pub routed : List RoutedKey
+    pub are : all ≡ keys_in routed ++ left
+    pub each : Gains (IsKeyRouted steps exchanges sent records request) old routed new
+    pub values : All HasValues routed
+    pub sends : (server : ℕ) → sent new.backend.links server ≡ sent old.backend.links server + sends_to server (trails_in routed)
+    pub probes : (server : ℕ) → probed new.backend.links server ≡ probed old.backend.links server
+    pub appended : outbox' ≡ outbox ++ joined routed
+
+module _ {H L T C : Type 0} {steps : H → HealthItem → H → Type 0} {exchanges : L → LinksItem → L → Type 0} {sent probed : L → ℕ → ℕ} {records : T → TrailEvent → T → Type 0} where
+  pub joins_none : (request : Request) (all left : List (List ℕ)) (old : Parts H L T C) (outbox : List ℕ) → all ≡ left
+      → JoinsOn steps exchanges sent probed records request all left old outbox old outbox
+  joins_none request all left old outbox is = record {
+    routed = [];
+    are = is;
+    each = gains_none old;
+    values = All-nil HasValues;
+    sends = λ server. sym (add-zero (sent old.backend.links server));
+    probes = λ server. refl;
+    appended = sym (append-nil outbox);
+  }
+
+  -- another key got a list of values
+  pub joins_more : {old mid new : Parts H L T C} {outbox outbox' outbox'' : List ℕ} {left : List (List ℕ)} (all : List (List ℕ)) (unique : Bool) (key : List ℕ) (rest : List (List ℕ)) (waiting : ℕ)
+      → JoinsOn steps exchanges sent probed records (retrieval all unique) all left old outbox mid outbox' → left ≡ key ∷ rest
+      → IsNext steps exchanges sent probed records (retrieval (key ∷ []) unique) key waiting true mid outbox' new outbox''
+      → JoinsOn steps exchanges sent probed records (retrieval all unique) all rest old outbox new outbox''
+  joins_more {old} {mid} {new} {outbox} {outbox'} {outbox''} {left} all unique key rest waiting so_far is next =
+      let last : RoutedKey = one key next.trail in
+      record {
+        routed = so_far.routed ++ last ∷ [];
+        are =
+            so_far.are ∙ ap (λ xs. keys_in so_far.routed ++ xs) is ∙ sym (append_assoc (keys_in so_far.routed) (key ∷ []) rest)
+            ∙ ap (λ xs. xs ++ rest) (sym (map-append (λ it. it.key) so_far.routed (last ∷ [])));
+        each = gains_append so_far.each (gains_one (routed_as (retrieval (key ∷ []) unique) (retrieval all unique) (request_for_one all unique key) next.routed));
+        values = All-append HasValues so_far.routed (last ∷ []) so_far.values (All-cons HasValues last [] next.replied.0 (All-nil HasValues));
+        sends = λ server. omega (arith, so_far.sends server, next.sends server, sends_to-append server so_far.routed (last ∷ []));
+        probes = λ server. next.probes server ∙ so_far.probes server;
+        appended =
+            next.replied.1 ∙ ap (λ xs. xs ++ joined (last ∷ [])) so_far.appended ∙ append_assoc outbox (joined so_far.routed) (joined (last ∷ []))
+            ∙ ap (λ xs. outbox ++ xs) (sym (joined-append so_far.routed (last ∷ [])));
+      }
+
+  -- the values of all keys were joined, and `END` follows them
+  pub joins_end : {old new : Parts H L T C} {outbox outbox' outbox'' : List ℕ} {left : List (List ℕ)} (all : List (List ℕ)) (unique : Bool) → 0 < length all
+      → JoinsOn steps exchanges sent probed records (retrieval all unique) all left old outbox new outbox' → left ≡ [] → outbox'' ≡ outbox' ++ end_line
+      → AnsweredInto steps exchanges sent probed records (retrieval all unique) old outbox new outbox''
+  joins_end {old} {new} {outbox} {outbox'} {outbox''} {left} all unique some so_far none end = record {
+    routed = so_far.routed;
+    text = joined so_far.routed ++ end_line;
+    answers = by_keys (record {
+      some = subst (λ keys. 0 < length keys) (sym (retrieval_keys all unique)) some;
+      each = so_far.each;
+      reply = joined so_far.routed ++ end_line;
+      is_reply =
+          let are : request_keys (retrieval all unique) ≡ keys_in so_far.routed =
+          retrieval_keys all unique ∙ so_far.are ∙ ap (λ xs. keys_in so_far.routed ++ xs) none ∙ append-nil (keys_in so_far.routed) in
+          all_values are so_far.values refl;
+      is_written = sym (retrieval_written all unique (joined so_far.routed ++ end_line));
+    });
+    sends = so_far.sends;
+    probes = so_far.probes;
+    appended = end ∙ ap (λ xs. xs ++ end_line) so_far.appended ∙ append_assoc outbox (joined so_far.routed) end_line;
+  }
+
+  -- a key got no list of values
+  pub joins_cut : {old mid new : Parts H L T C} {outbox outbox' outbox'' : List ℕ} {left : List (List ℕ)} (all : List (List ℕ)) (unique : Bool) (key : List ℕ) (rest : List (List ℕ)) (waiting : ℕ)
+      → 0 < length all → waiting ≡ length outbox
+      → JoinsOn steps exchanges sent probed records (retrieval all unique) all left old outbox mid outbox' → left ≡ key ∷ rest
+      → IsNext steps exchanges sent probed records (retrieval (key ∷ []) unique) key waiting false mid outbox' new outbox''
+      → AnsweredInto steps exchanges sent probed records (retrieval all unique) old outbox new outbox''
+  joins_cut {old} {mid} {new} {outbox} {outbox'} {outbox''} {left} all unique key rest waiting some at so_far is next =
+      let last : RoutedKey = one key next.trail in
+      let routed : List RoutedKey = so_far.routed ++ last ∷ [] in
+      let are : all ≡ keys_in routed ++ rest =
+      so_far.are ∙ ap (λ xs. keys_in so_far.routed ++ xs) is ∙ sym (append_assoc (keys_in so_far.routed) (key ∷ []) rest)
+      ∙ ap (λ xs. xs ++ rest) (sym (map-append (λ it. it.key) so_far.routed (last ∷ []))) in
+      record {
+        routed = routed;
+        text = reply_text next.trail;
+        answers = by_keys (record {
+          some = subst (λ keys. 0 < length keys) (sym (retrieval_keys all unique)) some;
+          each = gains_append so_far.each (gains_one (routed_as (retrieval (key ∷ []) unique) (retrieval all unique) (request_for_one all unique key) next.routed));
+          reply = reply_text next.trail;
+          is_reply = first_other so_far.routed last rest refl (retrieval_keys all unique ∙ are) so_far.values next.replied.0 refl;
+          is_written = sym (retrieval_written all unique (reply_text next.trail));
+        });
+        sends = λ server. omega (arith, so_far.sends server, next.sends server, sends_to-append server so_far.routed (last ∷ []));
+        probes = λ server. next.probes server ∙ so_far.probes server;
+        appended =
+            let front : take waiting outbox' ≡ outbox =
+            ap (take waiting) so_far.appended ∙ take_at outbox (joined so_far.routed) waiting (sym at) in
+            next.replied.1 ∙ ap (λ xs. xs ++ reply_text next.trail) front;
+      }
+
+  -- what waited before the first key is still there
+  pub joins_extend : {old new : Parts H L T C} {outbox outbox' : List ℕ} {left : List (List ℕ)} {request : Request} (all : List (List ℕ))
+      → JoinsOn steps exchanges sent probed records request all left old outbox new outbox' → Extends outbox outbox'
+  joins_extend all so_far = record { more = joined so_far.routed; is = so_far.appended }
+
+  pub joins_extend_by : {old new : Parts H L T C} {outbox outbox' outbox'' : List ℕ} {left : List (List ℕ)} {request : Request} (all : List (List ℕ)) (waiting : ℕ)
+      → waiting ≡ length outbox → JoinsOn steps exchanges sent probed records request all left old outbox new outbox'
+      → Extends (take waiting outbox') outbox'' → Extends outbox outbox''
+  joins_extend_by {old} {new} {outbox} {outbox'} all waiting at so_far more =
+      let front : take waiting outbox' ≡ outbox =
+      ap (take waiting) so_far.appended ∙ take_at outbox (joined so_far.routed) waiting (sym at) in
+      record { more = more.more; is = more.is ∙ ap (λ xs. xs ++ more.more) front }

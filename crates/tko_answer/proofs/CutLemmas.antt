@@ -1,0 +1,88 @@
+-- Laws of requests at which memory ran out.
+use Rattle.std.proofs.Common.{◌≡◌, ℕ, Bool, Result, Ok, Err, List, [], ◌∷◌, refl, sym, subst, ◌∙◌}
+use Rattle.std.specs.Prelude.{OnErr}
+use Rattle.std.proofs.lemmas.List.Elements.{All-nil}
+use Rattle.tko_model.specs.Records.{HealthItem}
+use Rattle.tko_model.proofs.RecordLemmas.{gains_none}
+use Rattle.tko_text.specs.declared.request.Request.{Request}
+use Rattle.tko_text.specs.declared.request.Request.TheVariants.{StatsTko}
+use Rattle.tko_links.specs.Links.{LinksItem}
+use Rattle.tko_answer.specs.declared.parts.Parts.{Parts}
+use Rattle.tko_answer.specs.Answering.{retrieval}
+use Rattle.tko_answer.specs.Cuts.{IsAnswerCut, IsKeyCut, LooksSome, at_first, at_keys, in_status, untried}
+use Rattle.tko_answer.specs.Replies.{HasValues}
+use Rattle.tko_answer.specs.TrailEvents.{TrailEvent}
+use Rattle.tko_answer.specs.Answers.{request_for, request_keys}
+use Rattle.tko_answer.proofs.AnsweringLemmas.{JoinsOn, request_for_alone, request_for_one, retrieval_keys}
+
+-- one of several keys is routed by a request for it alone
+one_of : (keys : List (List ℕ)) (unique : Bool) (key : List ℕ) → retrieval (key ∷ []) unique ≡ request_for (retrieval keys unique) key
+one_of keys unique key =
+    sym (request_for_alone (retrieval (key ∷ []) unique) key (retrieval_keys (key ∷ []) unique)) ∙ request_for_one keys unique key
+
+module _ {H L T C A E : Type 0} {steps : H → HealthItem → H → Type 0} {exchanges : L → LinksItem → L → Type 0} {sent probed : L → ℕ → ℕ} where
+  -- a fact on the key of a request is one at an Err
+  pub key_cut : {old new : Parts H L T C} (result : Result A E) (request : Request)
+      → ((key : List ℕ) → request_keys request ≡ key ∷ [] → IsKeyCut steps exchanges sent probed request key old new)
+      → OnErr result ((key : List ℕ) → request_keys request ≡ key ∷ [] → IsKeyCut steps exchanges sent probed request key old new)
+  key_cut (Ok value) request cut = tt
+  key_cut (Err fault) request cut = cut
+
+module _ {H L T C : Type 0} {steps : H → HealthItem → H → Type 0} {exchanges : L → LinksItem → L → Type 0} {sent probed : L → ℕ → ℕ} {records : T → TrailEvent → T → Type 0} where
+  -- a request of one key was cut short
+  pub cut_alone : {old new : Parts H L T C} (request : Request) (key : List ℕ) → request_keys request ≡ key ∷ []
+      → IsKeyCut steps exchanges sent probed request key old new → IsAnswerCut steps exchanges sent probed records request old new
+  cut_alone {old} {new} request key is cut = at_keys (record {
+    routed = [];
+    left = key ∷ [];
+    mid = old;
+    keys = is;
+    each = gains_none old;
+    values = All-nil HasValues;
+    last = at_first key [] refl (subst (λ r. IsKeyCut steps exchanges sent probed r key old new) (sym (request_for_alone request key is)) cut);
+  })
+
+  -- nothing was done for a request
+  pub cut_at_once : (request : Request) (at : Parts H L T C) → IsAnswerCut steps exchanges sent probed records request at at
+  cut_at_once request at = at_keys (record {
+    routed = [];
+    left = request_keys request;
+    mid = at;
+    keys = refl;
+    each = gains_none at;
+    values = All-nil HasValues;
+    last = untried refl;
+  })
+
+  pub cut_status : {old : Parts H L T C} {health : H} {request : Request} → request ≡ StatsTko → LooksSome steps old.config.addresses old.backend.health health
+      → IsAnswerCut steps exchanges sent probed records request old (record old { backend = record old.backend { health = health } })
+  cut_status is some = in_status is some refl
+
+  -- memory ran out between two keys
+  pub cut_between : {old new : Parts H L T C} {outbox outbox' : List ℕ} {left : List (List ℕ)} (all : List (List ℕ)) (unique : Bool)
+      → JoinsOn steps exchanges sent probed records (retrieval all unique) all left old outbox new outbox'
+      → IsAnswerCut steps exchanges sent probed records (retrieval all unique) old new
+  cut_between {old} {new} {outbox} {outbox'} {left} all unique so_far = at_keys (record {
+    routed = so_far.routed;
+    left = left;
+    mid = new;
+    keys = retrieval_keys all unique ∙ so_far.are;
+    each = so_far.each;
+    values = so_far.values;
+    last = untried refl;
+  })
+
+  -- memory ran out at the next key
+  pub cut_next : {old mid new : Parts H L T C} {outbox outbox' : List ℕ} {left : List (List ℕ)} (all : List (List ℕ)) (unique : Bool) (key : List ℕ) (rest : List (List ℕ))
+      → JoinsOn steps exchanges sent probed records (retrieval all unique) all left old outbox mid outbox' → left ≡ key ∷ rest
+      → IsKeyCut steps exchanges sent probed (retrieval (key ∷ []) unique) key mid new
+      → IsAnswerCut steps exchanges sent probed records (retrieval all unique) old new
+  cut_next {old} {mid} {new} {outbox} {outbox'} {left} all unique key rest so_far is cut = at_keys (record {
+    routed = so_far.routed;
+    left = left;
+    mid = mid;
+    keys = retrieval_keys all unique ∙ so_far.are;
+    each = so_far.each;
+    values = so_far.values;
+    last = at_first key rest is (subst (λ r. IsKeyCut steps exchanges sent probed r key mid new) (one_of all unique key) cut);
+  })

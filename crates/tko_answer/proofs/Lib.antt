@@ -1,0 +1,6 @@
+mod AnsweringLemmas
+mod CutLemmas
+mod OutboxLemmas
+mod PartsLemmas
+pub mod ResultLemmas
+mod StatusLemmas

@@ -1,0 +1,57 @@
+//! Requests by their keys.
+ghost use Rattle.std.specs.Prelude.{◌≡◌, ◌<◌, [], ◌∷◌, false, true, IfOk, length, slice_get};
+ghost use Rattle.std.specs.Option.{option_copied};
+ghost use Rattle.tko_text.specs.declared.request.Request.TheVariants.{Get, Gets};
+ghost use Rattle.tko_answer.specs.Answers.{request_keys};
+ghost use Rattle.tko_answer.specs.Answering.{retrieval};
+
+use std::alloc::Global;
+use tko_bytes::NoMemory;
+use tko_text::{Key, Keys, Request};
+
+/// The first key of a request, if it has one.
+pub(crate) fn first_key(request: &Request) -> Option<&Key>
+    ensures { option_copied result ≡ slice_get (request_keys request.now) 0 }
+{
+    match request {
+        Request::Get { keys } => keys.as_slice().first(),
+        Request::Gets { keys } => keys.as_slice().first(),
+        Request::Store { entry, .. } => Some(&entry.key),
+        Request::Cas { entry, .. } => Some(&entry.key),
+        Request::Delete { key, .. } => Some(key),
+        Request::Incr { key, .. } => Some(key),
+        Request::Decr { key, .. } => Some(key),
+        Request::Touch { key, .. } => Some(key),
+        Request::Version => None,
+        Request::Quit => None,
+        Request::StatsTko => None,
+    }
+}
+
+/// A request for the values of these keys, with their cas numbers or without.
+pub(crate) fn retrieval(keys: Keys, unique: bool) -> Request
+    ensures { result ≡ retrieval keys unique }
+{
+    if unique {
+        Request::Gets { keys }
+    } else {
+        Request::Get { keys }
+    }
+}
+
+/// A request for the value of one key, in the room of a list of keys.
+pub(crate) fn alone(mut room: Vec<Key>, key: Key, unique: bool) -> Result<Request, NoMemory>
+    ensures { IfOk result (λ request. request ≡ retrieval (key ∷ []) unique) }
+{
+    room.clear();
+    room.push(key)?;
+    Ok(retrieval(Keys::new(room), unique))
+}
+
+/// The room of a request's keys, to be used again.
+pub(crate) fn room_of(alloc: Global, request: Request) -> Vec<Key> {
+    match request {
+        Request::Get { keys } | Request::Gets { keys } => keys.into_keys(),
+        _ => Vec::new(alloc),
+    }
+}

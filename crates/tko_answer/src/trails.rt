@@ -1,0 +1,74 @@
+//! What records each request and each trail.
+ghost use Rattle.std.specs.Prelude.{◌≡◌, [], IsOk, OnOk};
+ghost use Rattle.tko_answer.specs.TrailEvents.{Asked, Tried};
+
+use std::alloc::Global;
+use std::marker::Model;
+use tko_bytes::NoMemory;
+use tko_links::IoRuntime;
+use tko_route::Trail;
+use tko_text::Request;
+
+/// Records each item that isn't a fault, and then the trail of each of its keys.
+pub trait Trails {
+    ghost use Rattle.tko_answer.specs.TrailEvents.{TrailEvent};
+
+    /// Between the two it recorded this.
+    ghost records: { Self → TrailEvent → Self → Type 0 };
+
+    fn request<R: IoRuntime>(&mut self, rt: &R, request: &Request) -> Result<(), NoMemory>
+        ensures { OnOk result (records self.old (Asked request.now) self.new) };
+
+    fn trail<R: IoRuntime>(&mut self, rt: &R, trail: Trail) -> Result<(), NoMemory>
+        ensures { OnOk result (records self.old (Tried trail) self.new) };
+}
+
+/// The trails, in order.
+#[derive(Drop)]
+pub struct Kept {
+    trails: Vec<Trail>,
+}
+
+impl Model for Kept {
+    ghost use Rattle.std.specs.Prelude.{List};
+    ghost use Rattle.tko_route.specs.declared.attempt.Attempt.{Attempt};
+
+    ghost Value = { List (List Attempt) };
+
+    ghost view = { λ k. k.trails.items };
+}
+
+impl Kept {
+    pub fn new(alloc: Global) -> Kept
+        ensures { result ≡ [] }
+    {
+        Kept {
+            trails: Vec::new(alloc),
+        }
+    }
+
+    pub fn trails(&self) -> &[Trail]
+        ensures { result.now ≡ self.now }
+    {
+        self.trails.as_slice()
+    }
+}
+
+impl Trails for Kept {
+    ghost use Rattle.tko_answer.specs.TrailEvents.{Keeps};
+
+    ghost records = { Keeps };
+
+    /// Requests are not kept, so it takes no memory.
+    fn request<R: IoRuntime>(&mut self, _rt: &R, _request: &Request) -> Result<(), NoMemory>
+        ensures recorded { OnOk result (Keeps self.old (Asked _request.now) self.new) }
+        ensures ok { IsOk result }
+    {
+        Ok(())
+    }
+
+    fn trail<R: IoRuntime>(&mut self, _rt: &R, trail: Trail) -> Result<(), NoMemory> {
+        self.trails.push(trail)?;
+        Ok(())
+    }
+}
