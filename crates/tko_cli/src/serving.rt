@@ -16,8 +16,8 @@ use std::thread::Threads;
 use tko_events::What;
 use tko_io::Outlet;
 use tko_links::IoRuntime;
-use tko_options::ServeOptions;
 use tko_metrics::Process;
+use tko_options::ServeOptions;
 use tko_pools::is_address;
 use tko_server::{Logging, Metering, WorkerReport, run_metered};
 
