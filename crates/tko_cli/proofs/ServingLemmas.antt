@@ -1,5 +1,5 @@
 -- What `serve` writes, and why it fails.
-use Rattle.std.proofs.Common.{◌≡◌, ℕ, List, Option, Some, None, inr, refl, subst}
+use Rattle.std.proofs.Common.{◌≡◌, ℕ, List, Option, Some, None, inl, inr, refl, subst}
 use Rattle.std.proofs.lemmas.Bool.{le-leb}
 use Rattle.std.proofs.Math.Dec.{leb-zero}
 use Rattle.tko_counts.specs.declared.counts.Counts.{Counts}
@@ -12,8 +12,10 @@ use Rattle.tko_server.specs.declared.run_fault.RunFault.TheVariants as server_fa
 use Rattle.tko_server.specs.declared.running.Options.{Options as Server}
 use Rattle.tko_cli.specs.Faults.{fault_of_server}
 use Rattle.tko_cli.specs.Planned.{IsPlanned, IsServerOf}
-use Rattle.tko_cli.specs.Serving.{HasServed, ServeFails, ready_text}
+use Rattle.tko_cli.specs.Serving.{HasNoMetrics, HasServed, ServeFails, ready_text}
 use Rattle.tko_cli.specs.Totals.{totals_text}
+use Rattle.tko_cli.specs.declared.fault.Fault.{Fault}
+use Rattle.tko_cli.specs.declared.fault.Fault.TheVariants as fault
 use Rattle.tko_cli.specs.declared.planned.Plan.{Plan}
 use Rattle.tko_options.specs.declared.serve_options.ServeOptions.{ServeOptions}
 
@@ -61,6 +63,26 @@ server_fails takes failures options plan from to server_fault.Memory planned rea
     inr (record { plan = record { plan = plan; planned = planned }; ready = ready })
 server_fails takes failures options plan from to server_fault.Accept planned ready never =
     record { plan = record { plan = plan; planned = planned }; ready = ready }
+
+-- where it can have no metrics it fails before it has written anything
+pub no_metrics : {O : Type 0} (takes : O → List ℕ → O → Type 0) (failures : O → ℕ) (options : ServeOptions)
+    (plan : Plan) (from : O) (reason : Fault) → IsPlanned options plan → HasNoMetrics options reason
+    → ServeFails takes failures options from from reason
+no_metrics takes failures options plan from fault.Metrics planned none =
+    (record { plan = plan; planned = planned }, none, refl)
+no_metrics takes failures options plan from fault.Memory planned none = inl refl
+no_metrics takes failures options plan from fault.Read planned none = absurd none
+no_metrics takes failures options plan from fault.Write planned none = absurd none
+no_metrics takes failures options plan from fault.LineTooLong planned none = absurd none
+no_metrics takes failures options plan from (fault.Settings name) planned none = absurd none
+no_metrics takes failures options plan from (fault.Config cause) planned none = absurd none
+no_metrics takes failures options plan from fault.ConfigFile planned none = absurd none
+no_metrics takes failures options plan from (fault.Outcomes number) planned none = absurd none
+no_metrics takes failures options plan from (fault.Line number) planned none = absurd none
+no_metrics takes failures options plan from fault.Check planned none = absurd none
+no_metrics takes failures options plan from fault.Delays planned none = absurd none
+no_metrics takes failures options plan from fault.Listen planned none = absurd none
+no_metrics takes failures options plan from fault.Accept planned none = absurd none
 
 -- `ready` and then the totals
 pub has_served : {O : Type 0} (takes : O → List ℕ → O → Type 0) (options : ServeOptions) (plan : Plan)

@@ -1,5 +1,5 @@
 -- What `serve` writes, and why it fails.
-use Rattle.std.specs.Prelude.{◌≡◌, ◌<◌, ◌⊎◌, ℕ, List, codes}
+use Rattle.std.specs.Prelude.{◌≡◌, ◌<◌, ◌⊎◌, ℕ, true, List, codes, is_some}
 use Rattle.tko_counts.specs.declared.counts.Counts.{Counts}
 use Rattle.tko_cli.specs.Notices.{HasNotices}
 use Rattle.tko_cli.specs.Planned.{IsPlanned, NoPlan}
@@ -51,13 +51,21 @@ pub record IsReady {O : Type 0} (takes : O → List ℕ → O → Type 0) (optio
   pub plan : HasPlan options
   pub ready : takes from ready_text to
 
+-- the options ask for metrics, for which nothing can listen, or memory ran out
+abbrev pub HasNoMetrics : ServeOptions → Fault → Type 0
+HasNoMetrics options fault.Metrics = is_some options.metrics ≡ true
+HasNoMetrics options fault.Memory = Unit {0}
+HasNoMetrics options _ = ⊥
+
 module _ {O : Type 0} (takes : O → List ℕ → O → Type 0) (failures : O → ℕ) where
-  -- why it fails: the options name nothing to run on, or nothing can listen there, and then nothing
-  -- was written; the outlet failed; accepting failed after `ready`; or memory ran out, and then
+  -- why it fails: the options name nothing to run on, or nothing can listen there or where the
+  -- metrics are asked for, and then nothing was written; the outlet failed; accepting failed after `ready`; or memory ran out, and then
   -- `ready` went out or nothing
   abbrev pub ServeFails : ServeOptions → O → O → Fault → Type 0
   ServeFails options from to fault.Listen =
       (NoPlan options fault.Listen ⊎ HasPlan options) × (to ≡ from)
+  ServeFails options from to fault.Metrics =
+      HasPlan options × HasNoMetrics options fault.Metrics × (to ≡ from)
   ServeFails options from to fault.Write = failures from < failures to
   ServeFails options from to fault.Accept = IsReady takes options from to
   ServeFails options from to fault.Memory = (to ≡ from) ⊎ IsReady takes options from to

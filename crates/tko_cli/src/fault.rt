@@ -29,6 +29,8 @@ pub enum Fault {
     Delays,
     /// The address to listen on is no address, or nothing can listen there.
     Listen,
+    /// The address of the metrics is no address, or nothing can listen there.
+    Metrics,
     /// The listener failed.
     Accept,
 }
@@ -59,6 +61,7 @@ impl fmt::Display for Fault {
             Fault::Check => f.write_str("fault: check"),
             Fault::Delays => f.write_str("fault: delays"),
             Fault::Listen => f.write_str("fault: listen"),
+            Fault::Metrics => f.write_str("fault: metrics"),
             Fault::Accept => f.write_str("fault: accept"),
         }
     }

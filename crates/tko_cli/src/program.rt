@@ -11,7 +11,7 @@ use crate::replay::replay;
 use crate::serving::serve;
 use crate::writing::{WriteFault, write_text};
 use std::alloc::Global;
-use std::fs::Files;
+use std::fs::{File, Files};
 use std::net::TcpListener;
 use std::thread::Threads;
 use tko_io::{Inlet, Outlet};
@@ -29,7 +29,7 @@ const REFUSED: u8 = 2;
 /// status: 0 where it was done, 1 after a fault, 2 where the words were refused. Replies and runs
 /// go to `output`, and the line of a fault to `faults`.
 pub fn command<
-    R: IoRuntime<Listener = TcpListener> + Threads + Sync + Files + Eprint,
+    R: IoRuntime<Listener = TcpListener> + Threads + Sync + Files<File = File> + Eprint,
     I: Inlet,
     O: Outlet,
     F: Outlet,
@@ -129,7 +129,7 @@ fn run_check<R: IoRuntime + Files, O: Outlet, F: Outlet>(
 
 /// Serves clients, and returns the status.
 fn run_server<
-    R: IoRuntime<Listener = TcpListener> + Threads + Sync + Files + Eprint,
+    R: IoRuntime<Listener = TcpListener> + Threads + Sync + Files<File = File> + Eprint,
     O: Outlet,
     F: Outlet,
 >(rt: &R, alloc: Global, options: ServeOptions, output: &mut O, faults: &mut F) -> u8
@@ -147,7 +147,7 @@ fn run_server<
 
 /// Serves clients over the configuration of the options, and returns the status.
 fn serve_loaded<
-    R: IoRuntime<Listener = TcpListener> + Threads + Sync + Files + Eprint,
+    R: IoRuntime<Listener = TcpListener> + Threads + Sync + Files<File = File> + Eprint,
     O: Outlet,
     F: Outlet,
 >(rt: &R, alloc: Global, options: &ServeOptions, output: &mut O, faults: &mut F) -> u8

@@ -1,7 +1,7 @@
 //! The command `serve`: a server over TCP, and its totals.
 ghost use Rattle.std.specs.Prelude.{◌≡◌, IfOk, OnOk, IfErr, OnErr, bytes_eq, codes, is_some, string_bytes};
 ghost use Rattle.tko_cli.specs.Notices.{HasNotices};
-ghost use Rattle.tko_cli.specs.Serving.{HasServed, IsConfig, IsSilentOrBegun, ServeFails};
+ghost use Rattle.tko_cli.specs.Serving.{HasNoMetrics, HasServed, IsConfig, IsSilentOrBegun, ServeFails};
 
 use crate::Fault;
 use crate::notice::{Notice, write_notice, write_notice_if};
@@ -10,20 +10,22 @@ use crate::planned::{Plan, plan_of};
 use crate::totals::totals_lines;
 use crate::writing::write_text;
 use std::alloc::{AllocError, Global};
-use std::fs::Files;
+use std::fs::{File, Files};
 use std::net::TcpListener;
 use std::thread::Threads;
 use tko_events::What;
 use tko_io::Outlet;
 use tko_links::IoRuntime;
+use tko_metrics::Process;
 use tko_options::ServeOptions;
-use tko_server::{Logging, WorkerReport, run_logged};
+use tko_pools::is_address;
+use tko_server::{Logging, Metering, WorkerReport, run_metered};
 
 /// Serves clients over TCP until the last of the connections has ended, and then prints the totals.
 /// `ready` is printed once clients can connect. Before it a notice says what the server does with
 /// its descriptors, and before the totals notices say what the workers met.
 pub(crate) fn serve<
-    R: IoRuntime<Listener = TcpListener> + Threads + Sync + Files + Eprint,
+    R: IoRuntime<Listener = TcpListener> + Threads + Sync + Files<File = File> + Eprint,
     O: Outlet,
     F: Outlet,
 >(
@@ -45,11 +47,13 @@ pub(crate) fn serve<
     let Ok(listener) = TcpListener::bind(rt, options.listen.as_str()) else {
         return Err(Fault::Listen);
     };
-    let server = plan.server(options, open_file_limit(rt, alloc));
+    let limit = open_file_limit(rt, alloc);
+    let metering = metering_of(rt, alloc, options, &plan, limit)?;
+    let server = plan.server(options, limit);
     note_descriptors(rt, alloc, faults, &server);
     tell_listening(rt, &logging);
     write_text(rt, output, b"ready\n")?;
-    let ended = run_logged(rt, alloc, &listener, &server, logging)?;
+    let ended = run_metered(rt, alloc, &listener, &server, logging, metering)?;
     report(rt, alloc, faults, &ended.report);
     let lines = totals_lines(alloc, &ended.totals)?;
     write_text(rt, output, &lines)?;
@@ -73,6 +77,37 @@ fn logging_of<R: IoRuntime>(
     let failures = options.failures;
     let logging = Logging::start(rt, alloc, options.listen.as_str(), &plan.config, failures)?;
     Ok(Some(logging))
+}
+
+/// The metrics that the options ask for, if they do, of a process that may have so many descriptors
+/// open.
+fn metering_of<R: IoRuntime<Listener = TcpListener> + Files<File = File>>(
+    rt: &R,
+    alloc: Global,
+    options: &ServeOptions,
+    plan: &Plan,
+    limit: Option<u64>,
+) -> Result<Option<Metering>, Fault>
+    ensures ok { IfOk result (λ metering. is_some metering ≡ is_some options.now.metrics) }
+    ensures err { IfErr result (HasNoMetrics options.now) }
+{
+    let Some(address) = &options.metrics else {
+        return Ok(None);
+    };
+    let Some(listener) = listener_at(rt, address.as_str()) else {
+        return Err(Fault::Metrics);
+    };
+    let process = Process::open(rt, limit);
+    let metering = Metering::start(alloc, listener, &plan.config, options.threads, process)?;
+    Ok(Some(metering))
+}
+
+/// A listener at this address, where it is one and something can listen there.
+fn listener_at<R: IoRuntime<Listener = TcpListener>>(rt: &R, address: &str) -> Option<TcpListener> {
+    if !is_address(address.as_bytes()) {
+        return None;
+    }
+    TcpListener::bind(rt, address).ok()
 }
 
 /// Tells the log that clients can connect.

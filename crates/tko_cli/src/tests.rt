@@ -3,7 +3,7 @@
 
 use crate::command;
 use std::alloc::{AllocError, Global};
-use std::fs::Files;
+use std::fs::{File, Files};
 use std::net::{Net, TcpListener, TcpStream};
 use std::sync::Wait;
 use std::test::Fail;
@@ -41,7 +41,7 @@ fn came<
         + Clock
         + Threads
         + Sync
-        + Files
+        + Files<File = File>
         + Eprint,
 >(
     rt: &R,

@@ -9,6 +9,8 @@
 //! - `LoggedHealth`, `LoggedLinks`, `LoggedSeating`: health, links and seats that tell what
 //!   happens, and are in all else those that they wrap.
 //! - `Journal`: the lines, with what they know of the servers.
+//!
+//! The meter of tko_metrics goes with the log, and the wrappers count there what they tell.
 #![tactic(auto)]
 
 mod event;

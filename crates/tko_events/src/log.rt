@@ -8,6 +8,7 @@ use std::alloc::{AllocError, Global};
 use std::sync::atomic::{AtomicU64, Ordering};
 use std::sync::{Arc, Wait};
 use std::time::Clock;
+use tko_metrics::Meter;
 
 /// How many events wait for the reader at most; more are counted and lost.
 pub(crate) const WAITING: usize = 4096;
@@ -26,10 +27,11 @@ pub(crate) struct Shared {
 }
 
 /// Takes events from any thread. It never waits for a reader: where no room is left, an event is
-/// lost and counted. A log that is off takes nothing.
+/// lost and counted. A log that is off takes nothing. With it goes the meter of the same server.
 #[derive(Drop)]
 pub struct Log {
     shared: Option<Arc<Shared, Global>>,
+    meter: Meter,
 }
 
 /// A log and its reader.
@@ -52,6 +54,7 @@ pub fn open(alloc: Global) -> Result<(Log, LogReader), AllocError> {
     Ok((
         Log {
             shared: Some(shared),
+            meter: Meter::off(),
         },
         reader,
     ))
@@ -60,7 +63,24 @@ pub fn open(alloc: Global) -> Result<(Log, LogReader), AllocError> {
 impl Log {
     /// A log that takes nothing.
     pub fn off() -> Log {
-        Log { shared: None }
+        Log::metered(Meter::off())
+    }
+
+    /// A log that takes nothing, beside this meter.
+    pub fn metered(meter: Meter) -> Log {
+        let shared = None;
+        Log { shared, meter }
+    }
+
+    /// This log beside this meter.
+    pub fn with_meter(self, meter: Meter) -> Log {
+        let Log { shared, .. } = self;
+        Log { shared, meter }
+    }
+
+    /// The meter beside it.
+    pub fn meter(&self) -> &Meter {
+        &self.meter
     }
 
     /// Whether it takes events.
@@ -70,16 +90,15 @@ impl Log {
 
     /// Another end of this log, or without one a log that takes nothing.
     pub fn another(log: Option<&Log>) -> Result<Log, AllocError> {
-        match log {
-            Some(
-                Log {
-                    shared: Some(shared),
-                },
-            ) => Ok(Log {
-                shared: Some(Arc::try_clone(shared)?),
-            }),
-            _ => Ok(Log::off()),
-        }
+        let Some(log) = log else {
+            return Ok(Log::off());
+        };
+        let shared = match &log.shared {
+            Some(shared) => Some(Arc::try_clone(shared)?),
+            None => None,
+        };
+        let meter = log.meter.another()?;
+        Ok(Log { shared, meter })
     }
 
     /// Tells what happens at this moment.

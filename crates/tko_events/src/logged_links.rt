@@ -47,7 +47,9 @@ impl<L: Links> Links for LoggedLinks<L> {
         clear: Clear,
         request: &Request,
     ) -> Result<Outcome, NoMemory> {
+        let server = clear.server();
         let came = self.inner.exchange(rt, clear, request);
+        self.log.count_sends(server, self.inner.sends(server));
         self.log.keep_failure(rt, &came);
         came
     }
@@ -55,6 +57,7 @@ impl<L: Links> Links for LoggedLinks<L> {
     fn probe<R: IoRuntime>(&mut self, rt: &R, duty: Duty) -> Result<Outcome, NoMemory> {
         let server = duty.server();
         let came = self.inner.probe(rt, duty);
+        self.log.count_probes(server, self.inner.probes(server));
         self.log.tell_probe(rt, server, &came);
         came
     }

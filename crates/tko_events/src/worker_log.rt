@@ -1,4 +1,4 @@
-//! One worker's end of the log.
+//! One worker's end of the log and of the meter.
 
 use crate::event::{Cause, Change, Event, What};
 use crate::log::Log;
@@ -7,6 +7,7 @@ use std::alloc::{AllocError, Global};
 use std::sync::{Arc, Mutex, Wait};
 use std::time::Clock;
 use tko_links::{NoMemory, Outcome};
+use tko_metrics::{Marking, WorkerMeter};
 use tko_model::Reply;
 
 /// What came of the last exchange that failed, or of the last probe, and when.
@@ -16,13 +17,14 @@ struct Last {
     cause: Option<Cause>,
 }
 
-/// One worker's end of the log, which its health and its links share. Its lock is taken by that
-/// worker alone.
+/// One worker's end of the log and of the meter beside it, which its health and its links share.
+/// Its lock is taken by that worker alone.
 #[derive(Drop)]
 pub struct WorkerLog {
     log: Log,
     worker: u32,
     last: Mutex<Last>,
+    meter: WorkerMeter,
 }
 
 impl WorkerLog {
@@ -36,10 +38,13 @@ impl WorkerLog {
             moment: None,
             cause: None,
         };
+        let log = Log::another(log)?;
+        let meter = log.meter().worker(worker)?;
         let end = WorkerLog {
-            log: Log::another(log)?,
+            log,
             worker,
             last: Mutex::new(last),
+            meter,
         };
         Ok(Arc::new(alloc, end)?)
     }
@@ -47,9 +52,29 @@ impl WorkerLog {
     /// Keeps what came of an exchange that failed, for the mark that may follow.
     pub(crate) fn keep_failure<R: Wait + Clock>(&self, rt: &R, came: &Result<Outcome, NoMemory>) {
         let cause = Cause::of(came);
-        if cause != Cause::Reply && self.log.is_on() {
+        if cause != Cause::Reply && self.is_on() {
             self.keep(rt, cause);
         }
+    }
+
+    /// Whether anything is told or counted.
+    fn is_on(&self) -> bool {
+        self.log.is_on() || self.meter.is_on()
+    }
+
+    /// The worker's part of the meter.
+    pub fn meter(&self) -> Result<WorkerMeter, AllocError> {
+        self.meter.another()
+    }
+
+    /// Counts how often the worker has sent to a server.
+    pub(crate) fn count_sends(&self, server: usize, sends: u64) {
+        self.meter.set_sends(server, sends);
+    }
+
+    /// Counts how often the worker has probed a server.
+    pub(crate) fn count_probes(&self, server: usize, probes: u64) {
+        self.meter.set_probes(server, probes);
     }
 
     /// Tells what came of a probe.
@@ -59,7 +84,7 @@ impl WorkerLog {
         server: usize,
         came: &Result<Outcome, NoMemory>,
     ) {
-        if self.log.is_on() {
+        if self.is_on() {
             self.keep(rt, Cause::of(came));
             self.tell(rt, server, Change::Probed);
         }
@@ -68,7 +93,7 @@ impl WorkerLog {
     /// Tells how a reply changed the mark of a server, where it did.
     pub(crate) fn tell_reply<R: Wait>(&self, rt: &R, server: usize, reply: Reply) {
         if let Some(change) = Change::of(reply) {
-            if self.log.is_on() {
+            if self.is_on() {
                 self.tell(rt, server, change);
             }
         }
@@ -92,6 +117,7 @@ impl WorkerLog {
 
     fn tell<R: Wait>(&self, rt: &R, server: usize, change: Change) {
         let last = *self.last.lock(rt);
+        self.count_mark(server, change, last.moment.unwrap_or(0));
         let what = What::Server {
             server,
             worker: self.worker,
@@ -105,5 +131,16 @@ impl WorkerLog {
                 what,
             },
         );
+    }
+
+    /// Counts what became of the worker's mark on a server at this moment.
+    fn count_mark(&self, server: usize, change: Change, moment: u64) {
+        let mark = match change {
+            Change::MarkedSoft => Marking::Soft,
+            Change::MarkedHard | Change::Hardened => Marking::Hard,
+            Change::Unmarked | Change::Released => Marking::Up,
+            Change::Probed => return,
+        };
+        self.meter.set_mark(server, mark, moment);
     }
 }

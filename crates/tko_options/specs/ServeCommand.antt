@@ -61,6 +61,13 @@ log_option = record (new_rule (codes "log")) {
   defaults = default_log ∷ [];
 }
 
+-- `--metrics ADDRESS`, which may be left out
+abbrev pub metrics_option : Rule
+metrics_option = record (new_rule (codes "metrics")) {
+  long = Some (codes "metrics");
+  value_names = 1;
+}
+
 -- `--connections N`, a number of 64 bits
 abbrev pub connections_option : Rule
 connections_option = record (number_option (codes "connections") default_connections) {
@@ -96,8 +103,11 @@ with_times app =
     (number_option (codes "first-delay") default_first_delay))
     (number_option (codes "greatest-delay") default_greatest_delay)
 
+-- what it says of itself
+abbrev pub with_reports : App → App
+with_reports app = with_rule (with_rule app log_option) metrics_option
+
 abbrev pub serve_command : App
 serve_command =
-    with_rule
+    with_reports
     (with_tracker (with_times (with_patience (with_clients (with_ends (new_app (codes "serve")))))))
-    log_option

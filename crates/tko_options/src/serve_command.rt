@@ -2,7 +2,7 @@
 ghost use Rattle.std.specs.Prelude.{◌≡◌, false, IfOk, codes};
 ghost use Rattle.clap.specs.Words.{App, rule_of};
 ghost use Rattle.tko_options.specs.CommandLine.{IsOption, ReadsAs, number_option, required_config};
-ghost use Rattle.tko_options.specs.ServeCommand.{connections_option, default_timeout, limit_option, listen_option, log_option, serve_command, with_clients, with_ends, with_patience, with_times};
+ghost use Rattle.tko_options.specs.ServeCommand.{connections_option, default_timeout, limit_option, listen_option, log_option, metrics_option, serve_command, with_clients, with_ends, with_patience, with_reports, with_times};
 
 use crate::command_line::{config_file, number, with_tracker};
 use clap::builder::ValueParser;
@@ -49,7 +49,8 @@ pub(crate) fn serve<'a>(alloc: Global) -> Result<Command<'a>, AllocError>
     let serve = with_clients(alloc, serve)?;
     let serve = with_patience(alloc, serve)?;
     let serve = with_times(alloc, serve)?;
-    with_tracker(alloc, serve)?.arg(log(alloc))
+    let serve = with_tracker(alloc, serve)?;
+    with_reports(alloc, serve)
 }
 
 /// With its address and its configuration.
@@ -95,6 +96,13 @@ fn with_times<'a>(alloc: Global, command: Command<'a>) -> Result<Command<'a>, Al
         .arg(delay(alloc, "greatest-delay", DEFAULT_GREATEST_DELAY, greatest))
 }
 
+/// With the options on what it says of itself.
+fn with_reports<'a>(alloc: Global, command: Command<'a>) -> Result<Command<'a>, AllocError>
+    ensures { (app : App) → ReadsAs app command.entry → IfOk result (ReadsAs (with_reports app)) }
+{
+    command.arg(log(alloc))?.arg(metrics(alloc))
+}
+
 /// `--log stderr` or `--log off`.
 fn log<'a>(alloc: Global) -> Arg<'a>
     ensures rule { rule_of result ≡ log_option }
@@ -105,6 +113,19 @@ fn log<'a>(alloc: Global) -> Arg<'a>
         .value_name("WHERE")
         .default_value(DEFAULT_LOG)
         .help("Where the event log goes, stderr or off")
+}
+
+/// `--metrics ADDRESS`, which may be left out.
+fn metrics<'a>(alloc: Global) -> Arg<'a>
+    ensures rule { rule_of result ≡ metrics_option }
+    ensures local { result.global ≡ false }
+{
+    Arg::new(alloc, "metrics")
+        .long("metrics")
+        .value_name("ADDRESS")
+        .help(
+            "Where it answers HTTP `GET /metrics` for Prometheus, <host>:<port>, as 127.0.0.1:9311",
+        )
 }
 
 fn listen<'a>(alloc: Global) -> Arg<'a>

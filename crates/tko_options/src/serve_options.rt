@@ -37,6 +37,8 @@ pub struct ServeOptions {
     pub tries: u32,
     /// Where the event log goes: `stderr` or `off`.
     pub log: String,
+    /// The address at which it answers for its metrics.
+    pub metrics: Option<String>,
 }
 
 impl ServeOptions {
@@ -58,6 +60,7 @@ impl ServeOptions {
             limit: number_of(found, "limit"),
             tries: number_of(found, "tries"),
             log: text_of(alloc, found, "log")?,
+            metrics: optional_text(alloc, found, "metrics")?,
         })
     }
 

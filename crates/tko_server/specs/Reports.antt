@@ -3,6 +3,8 @@ use Rattle.std.specs.Prelude.{◌≡◌, ◌+◌, ◌||◌, Bool, false, true, L
 use Rattle.std.specs.List.{list_any, sum_by}
 use Rattle.tko_server.specs.declared.report.WorkerReport.{WorkerReport}
 use Rattle.tko_io.specs.Io.{capped}
+use Rattle.tko_metrics.specs.declared.worker_meter.Ending.{Ending}
+use Rattle.tko_metrics.specs.declared.worker_meter.Ending.TheVariants as ending
 use Rattle.tko_session.specs.declared.fault.SessionFault.{SessionFault}
 use Rattle.tko_session.specs.declared.fault.SessionFault.TheVariants as fault
 use Rattle.tko_session.specs.declared.session.Report.{Report}
@@ -14,6 +16,14 @@ no_report = record { sessions = 0; faults = 0; memory = false; ledger_full = fal
 abbrev pub ran_out : SessionFault → Bool
 ran_out fault.Memory = true
 ran_out _ = false
+
+-- how the metrics call a session's end
+abbrev pub ending_of : {T : Type 0} → Result T SessionFault → Ending
+ending_of (Ok served) = ending.Done
+ending_of (Err fault.Read) = ending.Read
+ending_of (Err (fault.Write written)) = ending.Write
+ending_of (Err fault.LineTooLong) = ending.LineTooLong
+ending_of (Err fault.Memory) = ending.Memory
 
 -- one session more, which ended so
 abbrev pub counted_session : {T : Type 0} → WorkerReport → Result T SessionFault → WorkerReport

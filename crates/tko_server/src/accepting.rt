@@ -10,6 +10,7 @@ use crossbeam_channel::Sender;
 use std::alloc::{AllocError, Global};
 use std::net::TcpStream;
 use std::sync::{Arc, Wait};
+use tko_events::Log;
 
 /// Why accepting ended.
 #[derive(Clone, Copy, Debug, PartialEq, Eq)]
@@ -28,6 +29,7 @@ pub(crate) struct Entrance {
     pub(crate) room: Arc<Room, Global>,
     pub(crate) clients: Sender<Client>,
     pub(crate) patience: Patience,
+    pub(crate) log: Log,
 }
 
 /// Accepts connections while there is room for them, and sends each to the workers, until there
@@ -73,11 +75,19 @@ pub(crate) fn accept_all<R: Wait>(
 
 impl Entrance {
     /// Sends a connection to the workers, and returns whether there is one. A connection whose
-    /// socket cannot be set up is closed at once.
+    /// socket cannot be set up, or for which there is no memory, is closed at once. That is counted
+    /// as a session that ended by a fault.
     fn admit<R: Wait>(&self, rt: &R, alloc: Global, stream: TcpStream) -> bool {
         match self.client(alloc, stream) {
-            Ok(Some(client)) => self.clients.send(rt, client).is_ok(),
-            Ok(None) | Err(_) => true,
+            Ok(Some(client)) => {
+                self.log.meter().accept_client();
+                self.clients.send(rt, client).is_ok()
+            }
+            Ok(None) | Err(_) => {
+                self.log.count_session(true);
+                self.log.meter().drop_client();
+                true
+            }
         }
     }
 

@@ -7,7 +7,7 @@
 //! - `Member`: what one worker of a `pool` is started with.
 //! - `run`: accepts connections over TCP and serves them by a pool, as its `Options` say;
 //!   `run_to_end` says what the workers met too, and `run_logged` has a `Logging` write the event
-//!   log meanwhile.
+//!   log meanwhile, and `run_metered` has the metrics answered for too.
 //! - `Allotment`: how many workers and clients the process has descriptors for; `Patience`: how
 //!   long a server waits for a client.
 #![tactic(auto)]
@@ -20,6 +20,8 @@ mod lending;
 mod listening;
 mod logging;
 mod members;
+mod metered;
+mod metering;
 mod patience;
 mod pooling;
 mod report;
@@ -33,6 +35,7 @@ mod working;
 pub use account::Account;
 pub use allotment::Allotment;
 pub use logging::{Logging, run_logged};
+pub use metering::{Metering, run_metered};
 pub use patience::Patience;
 pub use pooling::{Member, pool};
 pub use report::WorkerReport;

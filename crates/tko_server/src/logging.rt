@@ -5,7 +5,7 @@ ghost use Rattle.tko_server.specs.Closing.{HasClosed};
 ghost use Rattle.tko_server.specs.Runs.{tracker_settings};
 
 use crate::RunFault;
-use crate::running::{Ended, Options, run_to_end, run_told};
+use crate::running::{Ended, Options, run_told};
 use std::alloc::{AllocError, Global};
 use std::net::TcpListener;
 use std::sync::Wait;
@@ -14,6 +14,7 @@ use std::thread::Threads;
 use std::time::Clock;
 use tko_events::{Journal, Log, LogReader, What, open};
 use tko_links::IoRuntime;
+use tko_metrics::Meter;
 use tko_model::SettingsFault;
 use tko_pools::Config;
 
@@ -71,9 +72,25 @@ pub fn run_logged<R: IoRuntime<Listener = TcpListener> + Threads + Sync + Eprint
         ↔ (first_fault (tracker_settings options.now) ≡ Some fault) }
     ensures closed { IfOk result (λ ended. HasClosed (tracker_settings options.now) ended.closed) }
 {
+    run_beside_meter(rt, alloc, listener, options, logging, Meter::off())
+}
+
+/// The same, where the workers count on this meter.
+pub(crate) fn run_beside_meter<R: IoRuntime<Listener = TcpListener> + Threads + Sync + Eprint>(
+    rt: &R,
+    alloc: Global,
+    listener: &TcpListener,
+    options: &Options,
+    logging: Option<Logging>,
+    meter: Meter,
+) -> Result<Ended, RunFault>
+    ensures settings { (fault : SettingsFault) → (result ≡ Err (RunFault.Settings fault))
+        ↔ (first_fault (tracker_settings options.now) ≡ Some fault) }
+    ensures closed { IfOk result (λ ended. HasClosed (tracker_settings options.now) ended.closed) }
+{
     match logging {
-        Some(logging) => run_beside(rt, alloc, listener, options, logging),
-        None => run_to_end(rt, alloc, listener, options),
+        Some(logging) => run_beside(rt, alloc, listener, options, logging, meter),
+        None => run_told(rt, alloc, listener, options, Some(&Log::metered(meter))),
     }
 }
 
@@ -101,6 +118,7 @@ fn run_beside<R: IoRuntime<Listener = TcpListener> + Threads + Sync + Eprint>(
     listener: &TcpListener,
     options: &Options,
     logging: Logging,
+    meter: Meter,
 ) -> Result<Ended, RunFault>
     ensures settings { (fault : SettingsFault) → (result ≡ Err (RunFault.Settings fault))
         ↔ (first_fault (tracker_settings options.now) ≡ Some fault) }
@@ -111,6 +129,7 @@ fn run_beside<R: IoRuntime<Listener = TcpListener> + Threads + Sync + Eprint>(
         reader,
         mut journal,
     } = logging;
+    let log = log.with_meter(meter);
     // (where the system gives no thread, what the first of the two does comes last)
     let (_written, ended) = thread::join(
         rt,

@@ -106,12 +106,14 @@ impl<'o, N: Named> Shared<'o, N> {
     {
         let addresses = self.options.config.addresses();
         let wire = TcpWire::new(alloc, addresses, self.options.timeout)?;
+        let meter = log.meter()?;
         Ok(WorkerParts {
             seating: &self.seating,
             links: LoggedLinks::new(TcpLinks::new(alloc, wire)?, log),
             config: self.options.config.copy(alloc)?,
             probers: Probers::new(alloc, self.options.delays, addresses.len())?,
             clock: MonotonicClock::new(rt),
+            meter,
             account: Account {
                 book: &self.book,
                 share,

@@ -4,6 +4,7 @@ use std::alloc::{AllocError, Global};
 use std::sync::atomic::{AtomicBool, AtomicU64, Ordering};
 use std::sync::{Arc, Wait};
 use std::time::Duration;
+use tko_metrics::Meter;
 
 /// How many milliseconds the thread that accepts waits for a client to leave.
 const PAUSE: u64 = 100;
@@ -15,15 +16,21 @@ pub(crate) struct Room {
     most: u64,
     connected: AtomicU64,
     is_closed: AtomicBool,
+    meter: Meter,
 }
 
 impl Room {
-    /// A room for at most `most` clients, with none in it.
-    pub(crate) fn open(alloc: Global, most: u64) -> Result<Arc<Room, Global>, AllocError> {
+    /// A room for at most `most` clients, with none in it. The meter counts them.
+    pub(crate) fn open(
+        alloc: Global,
+        most: u64,
+        meter: Meter,
+    ) -> Result<Arc<Room, Global>, AllocError> {
         let room = Room {
             most,
             connected: AtomicU64::new(0),
             is_closed: AtomicBool::new(false),
+            meter,
         };
         Ok(Arc::new(alloc, room)?)
     }
@@ -72,12 +79,14 @@ impl Place {
     pub(crate) fn take(room: &Arc<Room, Global>) -> Result<Place, AllocError> {
         let room = Arc::try_clone(room)?;
         room.connected.fetch_add(1, Ordering::SeqCst);
+        room.meter.enter();
         Ok(Place { room })
     }
 }
 
 impl Drop for Place {
     fn drop(self) {
+        self.room.meter.leave();
         self.room.connected.fetch_sub(1, Ordering::SeqCst);
         self.room.connected.wake_one();
         let Place { room } = self;

@@ -211,11 +211,14 @@ fn serve_all<N: Named + Send + Sync, R: IoRuntime<Listener = TcpListener> + Thre
 {
     let options = shared.options;
     let (sender, receiver) = bounded(alloc, WAITING as usize)?;
-    let room = Room::open(alloc, options.allotment().clients)?;
+    let log = Log::another(shared.log)?;
+    let meter = log.meter().another()?;
+    let room = Room::open(alloc, options.allotment().clients, meter)?;
     let entrance = Entrance {
         room: Arc::try_clone(&room)?,
         clients: sender,
         patience: options.patience,
+        log,
     };
     let passes = lend_all(rt, alloc, desk, options.settings.threads)?;
     let members = shared.members(rt, alloc, passes, shares, &receiver)?;

@@ -1,23 +1,25 @@
 //! A worker: one thread that serves one connection after another.
 ghost use Rattle.std.specs.Prelude.{◌≡◌, ◌≤◌, length};
 ghost use Rattle.tko_server.specs.Rounds.{IsRoundNoted};
-ghost use Rattle.tko_server.specs.Reports.{IsSessionCounted};
+ghost use Rattle.tko_server.specs.Reports.{IsSessionCounted, ending_of};
 ghost use Rattle.tko_server.specs.Workers.{IsEquipped};
 ghost use Rattle.tko_answer.specs.Answers.{Reaches};
 
+use crate::metered::Metered;
 use crate::{Account, Next, Source, WorkerReport};
 use std::alloc::Global;
 use std::sync::Wait;
 use tko_backend::{Backend, Clock, Probers};
-use tko_counts::{Counts, Kind};
+use tko_counts::Kind;
 use tko_health::{Health, Seating};
 use tko_io::{Inlet, Outlet};
 use tko_links::{IoRuntime, Links};
+use tko_metrics::{Ending, WorkerMeter};
 use tko_pools::Config;
 use tko_session::{Parts, Report, SessionFault, round, serve};
 
 /// What a worker works with: the seat that it takes, the links, the configuration, the probers,
-/// their clock, and its account.
+/// their clock, its account, and its part of the meter.
 #[derive(Drop)]
 pub struct WorkerParts<'a, S, L, M> {
     pub seating: &'a S,
@@ -26,6 +28,7 @@ pub struct WorkerParts<'a, S, L, M> {
     pub probers: Probers,
     pub clock: M,
     pub account: Account<'a>,
+    pub meter: WorkerMeter,
 }
 
 /// Serves each connection that the source gives, until it gives none any more. Where the source is
@@ -49,6 +52,7 @@ pub fn worker<R: IoRuntime, C: Source + Drop, S: Seating, L: Links + Drop, M: Cl
         probers,
         clock,
         mut account,
+        meter,
     } = parts;
     let mut working = Working {
         parts: Parts {
@@ -58,7 +62,7 @@ pub fn worker<R: IoRuntime, C: Source + Drop, S: Seating, L: Links + Drop, M: Cl
                 probers,
                 clock,
             },
-            trails: Counts::new(),
+            trails: Metered::new(meter),
             config,
         },
         report: WorkerReport::new(),
@@ -83,7 +87,7 @@ pub fn worker<R: IoRuntime, C: Source + Drop, S: Seating, L: Links + Drop, M: Cl
 /// A worker at work.
 #[derive(Drop)]
 struct Working<H, L, M> {
-    parts: Parts<H, L, Counts, M>,
+    parts: Parts<H, L, Metered, M>,
     report: WorkerReport,
     /// The probes that were added to the account.
     probes: u64,
@@ -105,6 +109,7 @@ impl<H: Health, L: Links, M: Clock> Working<H, L, M> {
     {
         let served = serve(rt, alloc, reader, writer, &mut self.parts);
         self.report.count(&served);
+        self.parts.trails.meter().end_session(ending_of(&served));
         served.is_err()
     }
 
@@ -129,12 +134,24 @@ impl<H: Health, L: Links, M: Clock> Working<H, L, M> {
             self.parts.config.addresses().len(),
         );
         let more = probes.saturating_sub(self.probes);
-        let counts = self.parts.trails.saturating_add(Kind::Probe, more);
+        let counts = self.parts.trails.take().saturating_add(Kind::Probe, more);
         if account.add(rt, &counts) {
             self.report.ledger_full = true;
         }
-        self.parts.trails = Counts::new();
         self.probes = probes;
+    }
+}
+
+/// How a session ended.
+fn ending_of(served: &Result<Report, SessionFault>) -> Ending
+    ensures { result ≡ ending_of served.now }
+{
+    match served {
+        Ok(_) => Ending::Done,
+        Err(SessionFault::Read) => Ending::Read,
+        Err(SessionFault::Write(_)) => Ending::Write,
+        Err(SessionFault::LineTooLong) => Ending::LineTooLong,
+        Err(SessionFault::Memory) => Ending::Memory,
     }
 }
 

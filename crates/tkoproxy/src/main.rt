@@ -2,7 +2,7 @@
 #![tactic(auto)]
 
 use std::alloc::Global;
-use std::fs::Files;
+use std::fs::{File, Files};
 use std::io::{Read, Write};
 use std::net::{Net, TcpListener, TcpStream};
 use std::process::ExitCode;
@@ -37,7 +37,7 @@ fn run<
         + Clock
         + Threads
         + Sync
-        + Files
+        + Files<File = File>
         + Eprint,
     I: Read + Drop,
     O: Write + Drop,

@@ -21,6 +21,7 @@ use tko_events::{Log, LoggedIdle, LoggedSeating, WorkerLog};
 use tko_health::SharedSeating;
 use tko_io::{Stop, Taped};
 use tko_links::{IoRuntime, Scripted};
+use tko_metrics::WorkerMeter;
 use tko_model::{Mark, Settings};
 use tko_pools::Config;
 use tko_tracker::{IdlePass, Named, Tracker, close, open};
@@ -178,6 +179,7 @@ impl<'t, N: Named> Shared<'t, N> {
                 share,
                 log: Log::off(),
             },
+            meter: WorkerMeter::off(),
         })
     }
 }

@@ -19,6 +19,7 @@ use tko_desk::{Book, Share};
 use tko_events::Log;
 use tko_health::{Health, LockedSeating, Seating, SharedSeating};
 use tko_links::{Script, Scripted};
+use tko_metrics::WorkerMeter;
 use tko_tracker::{IdlePass, Named, Tracker, open};
 
 /// Each member has one client.
@@ -94,6 +95,7 @@ impl<P: Drop, S: Seating<Idle = P>> Shared<S> {
                 share,
                 log: Log::off(),
             },
+            meter: WorkerMeter::off(),
         })
     }
 }

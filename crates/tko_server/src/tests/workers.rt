@@ -17,6 +17,7 @@ use tko_desk::Book;
 use tko_events::Log;
 use tko_health::{LockedSeating, Seating, SharedSeating};
 use tko_links::{Script, Scripted};
+use tko_metrics::WorkerMeter;
 use tko_tracker::{IdlePass, Named, Tracker, open};
 
 /// What one worker left.
@@ -78,6 +79,7 @@ fn work<R: Wait + Net<Stream = TcpStream> + Clock, P: Drop, S: Seating<Idle = P>
             share: &mut share,
             log: Log::off(),
         },
+        meter: WorkerMeter::off(),
     };
     let (_, report) = worker(rt, alloc, source, seat, parts);
     Ok(Left {

@@ -3,12 +3,19 @@ use Rattle.std.proofs.lemmas.Result.{err_from_is_err_and}
 use Rattle.tko_cli.specs.Serving.{Begun, NotWritten, Ready}
 use Rattle.tko_cli.proofs.FaultLineLemmas.{on_err}
 use Rattle.tko_cli.proofs.NoticeLemmas.{more_notices}
-use Rattle.tko_cli.proofs.ServingLemmas.{has_served, never_unset, server_fails}
+use Rattle.tko_cli.proofs.ServingLemmas.{has_served, never_unset, no_metrics, server_fails}
 use Rattle.tko_cli.proofs.serving.serve.Goals as goal
 
 pub returns-in_default-clause-err : goal.returns-in_default-clause-err
 returns-in_default-clause-err g c =
     (inr (record { plan = c.in_ok-plan.plan; planned = c.in_ok-plan.ensures.ok }), refl)
+
+pub returns-in_err-metering-clause-err : goal.returns-in_err-metering-clause-err
+returns-in_err-metering-clause-err g c =
+    let p = err_from_is_err_and c.from_residual-in_err-metering.result c.from_residual-in_err-metering.ensures.1 in
+    rw (p.1, p.2)
+    (no_metrics g.O.Outlet.takes g.O.Outlet.failures c.args.options.now c.in_ok-plan.plan c.args.output.now
+    c.in_err-metering.field-0.0 c.in_ok-plan.ensures.ok c.in_err-metering.ensures.err)
 
 pub returns-in_err-ended-clause-err : goal.returns-in_err-ended-clause-err
 returns-in_err-ended-clause-err g c =

@@ -1,0 +1,26 @@
+//! The metrics of a server: numbers that its workers keep as they work, and the page over HTTP that
+//! shows them in the text format of Prometheus.
+//!
+//! - `Meter`: the numbers of a server. Any thread may add to them, and none waits; a meter that is
+//!   off keeps nothing. `WorkerMeter` is one worker's part of it.
+//! - `Ending`: how a session ended; `Marking`: the mark that a worker set.
+//! - `Process`: what the system says of the process: its memory and its descriptors.
+//! - `Scrapes`: answers `GET /metrics` on one thread, one client at a time, until the meter ends.
+#![tactic(auto)]
+
+mod counter;
+mod meter;
+mod metrics;
+mod page;
+mod pages;
+mod patient;
+mod process;
+mod reading;
+mod sample;
+mod scrapes;
+mod worker_meter;
+
+pub use meter::Meter;
+pub use process::Process;
+pub use scrapes::Scrapes;
+pub use worker_meter::{Ending, Increase, Marking, WorkerMeter};

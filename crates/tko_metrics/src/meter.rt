@@ -1,0 +1,131 @@
+//! The numbers of a server.
+
+use crate::counter::Counter;
+use crate::worker_meter::{Numbers, WorkerMeter};
+use std::alloc::{AllocError, Global};
+use std::sync::atomic::{AtomicU64, Ordering};
+use std::sync::{Arc, Wait};
+use std::time::Duration;
+
+/// What all ends of a meter share.
+#[derive(Drop)]
+pub(crate) struct Shared {
+    /// The clients that are connected now.
+    pub(crate) connected: Counter,
+    /// The connections that were accepted and set up.
+    pub(crate) accepted: Counter,
+    /// The connections that were accepted and closed at once, for want of memory or since their
+    /// socket could not be set up.
+    pub(crate) dropped: Counter,
+    pub(crate) workers: Vec<Arc<Numbers, Global>>,
+    /// 1 once the server has ended.
+    ended: AtomicU64,
+}
+
+/// The numbers of a server. A meter that is off keeps nothing.
+#[derive(Drop)]
+pub struct Meter {
+    shared: Option<Arc<Shared, Global>>,
+}
+
+impl Shared {
+    /// Whether the server has ended.
+    pub(crate) fn has_ended(&self) -> bool {
+        self.ended.load(Ordering::SeqCst) == 1
+    }
+
+    /// Waits until the server ends, or so many milliseconds.
+    pub(crate) fn wait<R: Wait>(&self, rt: &R, milliseconds: u64) {
+        let pause = Duration::from_millis(milliseconds);
+        self.ended.park_timeout(rt, 0, pause);
+    }
+}
+
+impl Meter {
+    /// A meter that keeps nothing.
+    pub fn off() -> Meter {
+        Meter { shared: None }
+    }
+
+    /// The meter of a server of so many workers and servers.
+    pub fn open(alloc: Global, workers: u32, servers: usize) -> Result<Meter, AllocError> {
+        let mut each = Vec::new(alloc);
+        for _ in 0..workers {
+            each.push(Arc::new(alloc, Numbers::new(alloc, servers)?)?)?;
+        }
+        let shared = Shared {
+            connected: Counter::new(),
+            accepted: Counter::new(),
+            dropped: Counter::new(),
+            workers: each,
+            ended: AtomicU64::new(0),
+        };
+        Ok(Meter {
+            shared: Some(Arc::new(alloc, shared)?),
+        })
+    }
+
+    /// Another end of this meter.
+    pub fn another(&self) -> Result<Meter, AllocError> {
+        match &self.shared {
+            Some(shared) => Ok(Meter {
+                shared: Some(Arc::try_clone(shared)?),
+            }),
+            None => Ok(Meter::off()),
+        }
+    }
+
+    /// The part of the worker of this number.
+    pub fn worker(&self, worker: u32) -> Result<WorkerMeter, AllocError> {
+        match self
+            .shared()
+            .and_then(|shared| shared.workers.get(worker as usize))
+        {
+            Some(numbers) => Ok(WorkerMeter::over(Arc::try_clone(numbers)?)),
+            None => Ok(WorkerMeter::off()),
+        }
+    }
+
+    /// Counts a connection that was accepted and set up.
+    pub fn accept_client(&self) {
+        if let Some(shared) = &self.shared {
+            shared.accepted.add(1);
+        }
+    }
+
+    /// Counts a client that has come.
+    pub fn enter(&self) {
+        if let Some(shared) = &self.shared {
+            shared.connected.add(1);
+        }
+    }
+
+    /// Counts a client that has left.
+    pub fn leave(&self) {
+        if let Some(shared) = &self.shared {
+            shared.connected.take(1);
+        }
+    }
+
+    /// Counts a connection that was accepted and closed at once.
+    pub fn drop_client(&self) {
+        if let Some(shared) = &self.shared {
+            shared.dropped.add(1);
+        }
+    }
+
+    /// The server has ended: its numbers are not asked for any more.
+    pub fn end(&self) {
+        if let Some(shared) = &self.shared {
+            shared.ended.store(1, Ordering::SeqCst);
+            shared.ended.wake_all();
+        }
+    }
+
+    pub(crate) fn shared(&self) -> Option<&Shared> {
+        match &self.shared {
+            Some(shared) => Some(shared),
+            None => None,
+        }
+    }
+}

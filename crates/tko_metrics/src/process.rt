@@ -1,0 +1,86 @@
+//! What the system says of the process.
+
+use std::alloc::Global;
+use std::fs::{File, Files};
+use std::io::{Read, Seek};
+use std::os::fd::AsRawFd;
+use tko_bytes::{Words, number};
+
+/// Where the system tells the memory of the process.
+const STATUS: &str = "/proc/self/status";
+
+/// Where the system lists the open descriptors of the process.
+const DESCRIPTORS: &str = "/proc/self/fd";
+
+/// The words before the resident memory, in KiB.
+const RESIDENT: &[u8] = b"VmRSS:\t";
+
+/// A piece of the list of descriptors. The system's call wants room for one name at least.
+const PIECE: usize = 4096;
+
+/// How many pieces a list has at most.
+const PIECES: usize = 100_000;
+
+/// What the system says of the process. Its files are opened once, so that reading them takes no
+/// runtime.
+#[derive(Drop)]
+pub struct Process {
+    status: Option<File>,
+    descriptors: Option<File>,
+    /// How many descriptors it may have open, where that is known.
+    pub(crate) limit: Option<u64>,
+}
+
+impl Process {
+    /// This process, which may have so many descriptors open.
+    pub fn open<R: Files<File = File>>(rt: &R, limit: Option<u64>) -> Process {
+        Process {
+            status: File::open(rt, STATUS).ok(),
+            descriptors: File::open(rt, DESCRIPTORS).ok(),
+            limit,
+        }
+    }
+
+    /// How many bytes of memory it has, where the system tells it.
+    pub(crate) fn memory(&self, alloc: Global) -> Option<u64> {
+        let mut status = self.status.as_ref()?;
+        let mut text = Vec::new(alloc);
+        status.rewind().ok()?;
+        status.read_to_end(&mut text).ok()?;
+        resident_in(&text)
+    }
+
+    /// How many descriptors it has open, where the system tells it.
+    pub(crate) fn descriptors(&self) -> Option<u64> {
+        let mut list = self.descriptors.as_ref()?;
+        list.rewind().ok()?;
+        Some(names_in(list))
+    }
+}
+
+/// The bytes that a text of the system tells.
+fn resident_in(text: &[u8]) -> Option<u64> {
+    text.split(|byte| *byte == b'\n')
+        .find_map(|line| line.strip_prefix(RESIDENT))
+        .and_then(|words| number(Words::of(words).next()?, u64::MAX))
+        .map(|kibibytes| kibibytes.saturating_mul(1024))
+}
+
+/// How many names an open directory has, other than `.` and `..`.
+fn names_in(directory: &File) -> u64 {
+    let mut piece = [0u8; PIECE];
+    let mut names = 0u64;
+    for _ in 0..PIECES {
+        let count = os::read_dir(directory.as_raw_fd(), &mut piece);
+        if count == 0 {
+            break;
+        }
+        names = names.saturating_add(ends_in(&piece[..count]));
+    }
+    names.saturating_sub(2)
+}
+
+/// How many names end in this piece of a list.
+fn ends_in(piece: &[u8]) -> u64 {
+    piece.iter().filter(|byte| **byte == 0).count() as u64
+}

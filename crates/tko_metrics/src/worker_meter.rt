@@ -1,0 +1,213 @@
+//! The numbers of one worker.
+
+use crate::counter::Counter;
+use std::alloc::{AllocError, Global};
+use std::sync::Arc;
+
+/// By how much a worker's counts of requests grew.
+#[derive(Clone, Copy, Debug, PartialEq, Eq)]
+pub struct Increase {
+    pub requests: u64,
+    pub attempts: u64,
+    pub skips: u64,
+    pub replies: u64,
+    pub no_server: u64,
+}
+
+/// How a session ended.
+#[derive(Clone, Copy, Debug, PartialEq, Eq)]
+pub enum Ending {
+    /// By `quit`, or by its client.
+    Done,
+    Read,
+    Write,
+    LineTooLong,
+    Memory,
+}
+
+/// The mark that a worker has on a server.
+#[derive(Clone, Copy, Debug, PartialEq, Eq)]
+pub enum Marking {
+    Up,
+    Soft,
+    Hard,
+}
+
+/// What one worker counts. It alone writes here.
+#[derive(Drop)]
+pub(crate) struct Numbers {
+    pub(crate) requests: Counter,
+    pub(crate) attempts: Counter,
+    pub(crate) skips: Counter,
+    pub(crate) replies: Counter,
+    pub(crate) no_server: Counter,
+    pub(crate) sessions: Counter,
+    pub(crate) read_faults: Counter,
+    pub(crate) write_faults: Counter,
+    pub(crate) line_faults: Counter,
+    pub(crate) memory_faults: Counter,
+    pub(crate) servers: Vec<ServerNumbers>,
+}
+
+/// What one worker counts of a server, and the mark that it has on it.
+#[derive(Drop)]
+pub(crate) struct ServerNumbers {
+    pub(crate) sends: Counter,
+    pub(crate) probes: Counter,
+    /// 0 for no mark, 1 for a soft one, 2 for a hard one.
+    pub(crate) mark: Counter,
+    /// When the mark was set, in milliseconds since 1970.
+    pub(crate) since: Counter,
+}
+
+/// One worker's part of a meter. A part that is off keeps nothing.
+#[derive(Drop)]
+pub struct WorkerMeter {
+    numbers: Option<Arc<Numbers, Global>>,
+}
+
+impl Numbers {
+    /// Of a worker over this many servers, which has not begun.
+    pub(crate) fn new(alloc: Global, servers: usize) -> Result<Numbers, AllocError> {
+        let mut each = Vec::new(alloc);
+        for _ in 0..servers {
+            each.push(ServerNumbers::new())?;
+        }
+        Ok(Numbers {
+            requests: Counter::new(),
+            attempts: Counter::new(),
+            skips: Counter::new(),
+            replies: Counter::new(),
+            no_server: Counter::new(),
+            sessions: Counter::new(),
+            read_faults: Counter::new(),
+            write_faults: Counter::new(),
+            line_faults: Counter::new(),
+            memory_faults: Counter::new(),
+            servers: each,
+        })
+    }
+}
+
+impl ServerNumbers {
+    fn new() -> ServerNumbers {
+        ServerNumbers {
+            sends: Counter::new(),
+            probes: Counter::new(),
+            mark: Counter::new(),
+            since: Counter::new(),
+        }
+    }
+
+    /// The mark, and when it was set.
+    pub(crate) fn marking(&self) -> (Marking, u64) {
+        let mark = Marking::of(self.mark.get());
+        (mark, self.since.get())
+    }
+
+    /// Sets the mark, which was set at this moment. A mark that is hardened keeps its moment.
+    fn set_mark(&self, mark: Marking, moment: u64) {
+        if self.mark.get() == Marking::Up.number() {
+            self.since.set(moment);
+        }
+        self.mark.set(mark.number());
+    }
+}
+
+impl Marking {
+    fn of(number: u64) -> Marking {
+        match number {
+            0 => Marking::Up,
+            1 => Marking::Soft,
+            _ => Marking::Hard,
+        }
+    }
+
+    fn number(self) -> u64 {
+        match self {
+            Marking::Up => 0,
+            Marking::Soft => 1,
+            Marking::Hard => 2,
+        }
+    }
+}
+
+impl WorkerMeter {
+    /// A part that keeps nothing.
+    pub fn off() -> WorkerMeter {
+        WorkerMeter { numbers: None }
+    }
+
+    pub(crate) fn over(numbers: Arc<Numbers, Global>) -> WorkerMeter {
+        WorkerMeter {
+            numbers: Some(numbers),
+        }
+    }
+
+    /// Another end of this part.
+    pub fn another(&self) -> Result<WorkerMeter, AllocError> {
+        match &self.numbers {
+            Some(numbers) => Ok(WorkerMeter::over(Arc::try_clone(numbers)?)),
+            None => Ok(WorkerMeter::off()),
+        }
+    }
+
+    /// Whether it keeps numbers.
+    pub fn is_on(&self) -> bool {
+        self.numbers.is_some()
+    }
+
+    /// Adds what became of some requests.
+    pub fn count(&self, more: Increase) {
+        if let Some(numbers) = &self.numbers {
+            numbers.requests.add(more.requests);
+            numbers.attempts.add(more.attempts);
+            numbers.skips.add(more.skips);
+            numbers.replies.add(more.replies);
+            numbers.no_server.add(more.no_server);
+        }
+    }
+
+    /// Counts a session that has ended.
+    pub fn end_session(&self, ending: Ending) {
+        if let Some(numbers) = &self.numbers {
+            numbers.sessions.add(1);
+            match ending {
+                Ending::Done => {}
+                Ending::Read => numbers.read_faults.add(1),
+                Ending::Write => numbers.write_faults.add(1),
+                Ending::LineTooLong => numbers.line_faults.add(1),
+                Ending::Memory => numbers.memory_faults.add(1),
+            }
+        }
+    }
+
+    /// So often the worker has sent to this server.
+    pub fn set_sends(&self, server: usize, sends: u64) {
+        if let Some(server) = self.server(server) {
+            server.sends.set(sends);
+        }
+    }
+
+    /// So often the worker has probed this server.
+    pub fn set_probes(&self, server: usize, probes: u64) {
+        if let Some(server) = self.server(server) {
+            server.probes.set(probes);
+        }
+    }
+
+    /// The worker's mark on this server is this one from this moment on, in milliseconds since
+    /// 1970. A mark that is hardened keeps its moment.
+    pub fn set_mark(&self, server: usize, mark: Marking, moment: u64) {
+        if let Some(server) = self.server(server) {
+            server.set_mark(mark, moment);
+        }
+    }
+
+    fn server(&self, server: usize) -> Option<&ServerNumbers> {
+        match &self.numbers {
+            Some(numbers) => numbers.servers.get(server),
+            None => None,
+        }
+    }
+}

@@ -1,0 +1,252 @@
+"""The metrics over HTTP: what they say of requests, servers, clients and the process, and clients that misuse them."""
+import http.client
+import shutil
+import socket
+import subprocess
+import time
+import unittest
+
+from parts import ServerTest, configuration, serve_words
+from ports import HOST, free_port, wait_until
+
+try:
+    from prometheus_client.parser import text_string_to_metric_families
+except ImportError:
+    text_string_to_metric_families = None
+
+COUNTS = ("requests", "attempts", "skips", "replies", "no_server", "probes")
+
+
+def ask(port, method="GET", path="/metrics", seconds=10):
+    """The status, the headers and the body of an answer over HTTP, which may take so long."""
+    connection = http.client.HTTPConnection(HOST, port, timeout=seconds)
+    try:
+        connection.request(method, path)
+        answer = connection.getresponse()
+        return answer.status, answer.headers, answer.read().decode()
+    finally:
+        connection.close()
+
+
+def numbers_in(text):
+    """The samples of a page, by their name and labels as they are written."""
+    samples = [line.rsplit(" ", 1) for line in text.splitlines() if not line.startswith("#")]
+    return {name: float(number) for name, number in samples}
+
+
+def samples_by_prometheus(text):
+    """The same as Prometheus' own parser reads them."""
+    samples = {}
+    for family in text_string_to_metric_families(text):
+        for sample in family.samples:
+            labels = ",".join(f'{name}="{value}"' for name, value in sample.labels.items())
+            samples[sample.name + (f"{{{labels}}}" if labels else "")] = sample.value
+    return samples
+
+
+class Metrics(ServerTest):
+    def metered(self, config, **options):
+        """A proxy with metrics, and the port of these."""
+        port = free_port()
+        return self.proxy(config, metrics=f"{HOST}:{port}", **options), port
+
+    def numbers(self, port):
+        status, headers, text = ask(port)
+        self.assertEqual((status, headers["content-type"]), (200, "text/plain; version=0.0.4; charset=utf-8"))
+        return numbers_in(text)
+
+    def counts(self, port):
+        numbers = self.numbers(port)
+        return tuple(numbers[f"tkoproxy_{name}_total"] for name in COUNTS)
+
+    def test_numbers_are_those_of_the_requests_while_their_client_stays(self):
+        server, down = self.memcached(), self.closed()
+        proxy, port = self.metered(configuration(near=[down], far=[server]), threads=2)
+        self.assertEqual(self.counts(port), (0, 0, 0, 0, 0, 0))
+        with proxy.client() as client:
+            self.assertEqual(client.ask(b"get a\r\n"), b"END\r\n")
+            # The first target refused, which marked it; the second answered.
+            self.assertEqual(self.counts(port), (1, 2, 0, 1, 0, 0))
+            for done in range(1, 8):
+                self.assertEqual(client.ask(b"get a b\r\n"), b"END\r\n")
+                self.assertEqual(self.counts(port), (1 + done, 2 + 2 * done, 2 * done, 1 + 2 * done, 0, 0))
+            self.assertEqual(client.ask(b"version\r\n"), b"VERSION tkoproxy 1\r\n")
+            self.assertEqual(self.counts(port), (9, 16, 14, 15, 0, 0))
+            numbers = self.numbers(port)
+        self.assertEqual(numbers[f'tkoproxy_server_sends_total{{server="{down.address}"}}'], 1)
+        self.assertEqual(numbers[f'tkoproxy_server_sends_total{{server="{server.address}"}}'], 15)
+
+    def test_clients_and_their_sessions(self):
+        proxy, port = self.metered(configuration(only=[self.memcached()]), threads=1)
+
+        def clients():
+            numbers = self.numbers(port)
+            return tuple(numbers[f"tkoproxy_{name}"] for name in ("clients_connected", "clients_total", "sessions_total"))
+
+        self.assertEqual(clients(), (0, 0, 0))
+        with proxy.client() as first, proxy.client():
+            self.assertEqual(first.ask(b"version\r\n"), b"VERSION tkoproxy 1\r\n")
+            wait_until(lambda: clients() == (2, 2, 0), 5, "both clients are connected")
+        wait_until(lambda: clients() == (0, 2, 2), 5, "both have left")
+
+    def test_a_server_dies_and_returns(self):
+        server = self.memcached()
+        proxy, port = self.metered(configuration(only=[server]), threads=1, first_delay=300, greatest_delay=300)
+
+        def marks():
+            numbers = self.numbers(port)
+            names = [f'tkoproxy_server_marked{{server="{server.address}",mark="{mark}"}}' for mark in ("soft", "hard")]
+            since = numbers.get(f'tkoproxy_server_marked_timestamp_seconds{{server="{server.address}"}}')
+            return [numbers[name] for name in names], since
+
+        self.assertEqual(marks(), ([0, 0], None))
+        with proxy.client() as client:
+            server.kill()
+            before = time.time()
+            self.assertEqual(client.ask(b"get a\r\n"), b"SERVER_ERROR no server\r\n")
+            after = time.time()
+            kinds, since = marks()
+            self.assertEqual(kinds, [0, 1])
+            self.assertTrue(before - 0.002 <= since <= after + 0.002, (before, since, after))
+            probes = f'tkoproxy_server_probes_total{{server="{server.address}"}}'
+            wait_until(lambda: self.numbers(port)[probes] >= 2, 10, "it is probed")
+            self.assertEqual(marks(), ([0, 1], since))
+            server.start()
+            wait_until(lambda: marks() == ([0, 0], None), 10, "it is in use again")
+            numbers = self.numbers(port)
+            self.assertEqual(numbers[probes], numbers["tkoproxy_probes_total"])
+
+    def test_a_hardened_mark_keeps_its_moment(self):
+        server = self.memcached()
+        proxy, port = self.metered(configuration(only=[server]), threads=1, failures=1, timeout=300, log="off",
+                                   first_delay=500, greatest_delay=500)
+        soft, hard = (f'tkoproxy_server_marked{{server="{server.address}",mark="{mark}"}}' for mark in ("soft", "hard"))
+        since = f'tkoproxy_server_marked_timestamp_seconds{{server="{server.address}"}}'
+        with proxy.client() as client:
+            server.pause()
+            self.assertEqual(client.ask(b"get a\r\n"), b"SERVER_ERROR no server\r\n")
+            numbers = self.numbers(port)
+            self.assertEqual((numbers[soft], numbers[hard]), (1, 0))
+            server.kill()
+            wait_until(lambda: self.numbers(port)[hard] == 1, 10, "the mark is hardened")
+            hardened = self.numbers(port)
+            self.assertEqual((hardened[soft], hardened[since]), (0, numbers[since]))
+
+    def test_faults_by_kind(self):
+        proxy, port = self.metered(configuration(only=[self.memcached()]), threads=1, idle_timeout=1000)
+
+        def faults():
+            numbers = self.numbers(port)
+            return tuple(numbers[f'tkoproxy_session_faults_total{{kind="{kind}"}}']
+                         for kind in ("read", "write", "line_too_long", "memory"))
+
+        self.assertEqual(faults(), (0, 0, 0, 0))
+        with proxy.client() as client:
+            client.send(b"get " + b"a" * 70000)
+            self.assertEqual(client.rest(), b"CLIENT_ERROR line too long\r\n")
+        wait_until(lambda: faults() == (0, 0, 1, 0), 5, "a line was too long")
+        with proxy.client() as client:
+            self.assertEqual(client.rest(), b"")
+        wait_until(lambda: faults() == (1, 0, 1, 0), 5, "a client was silent")
+
+    def test_a_write_that_fails_is_a_fault(self):
+        server = self.memcached()
+        proxy, port = self.metered(configuration(only=[server]), threads=1, write_timeout=200)
+        with proxy.client() as client:
+            self.assertEqual(client.ask(b"set a 0 0 1000000\r\n" + b"x" * 1000000 + b"\r\n"), b"STORED\r\n")
+            for _ in range(40):
+                client.send(b"get a\r\n")
+            wait_until(lambda: self.numbers(port)['tkoproxy_session_faults_total{kind="write"}'] == 1, 20, "it is a fault")
+
+    def test_the_process(self):
+        proxy, port = self.metered(configuration(only=[self.memcached()]), threads=2, open_files=200)
+        with proxy.client() as client:
+            self.assertEqual(client.ask(b"get a\r\n"), b"END\r\n")
+            numbers = self.numbers(port)
+            # (the connection that asks is open beside those that are seen from outside)
+            self.assertEqual(numbers["process_open_fds"], proxy.files() + 1)
+            self.assertEqual(numbers["process_max_fds"], 200)
+            resident = proxy.status("VmRSS") * 1024
+            self.assertTrue(0.5 * resident < numbers["process_resident_memory_bytes"] < 2 * resident, (numbers, resident))
+
+    def test_other_paths_and_methods(self):
+        _, port = self.metered(configuration(only=[self.memcached()]), threads=1)
+        for path in ("/", "/metrics/", "/metric", "/stats"):
+            self.assertEqual(ask(port, path=path)[0], 404)
+        for method in ("POST", "PUT", "DELETE", "OPTIONS"):
+            status, headers, text = ask(port, method)
+            self.assertEqual((status, headers["allow"], text), (405, "GET", ""))
+        self.assertEqual(ask(port, "HEAD")[0], 405)
+        self.assertEqual(ask(port, path="/metrics?name=x")[0], 200)
+        with socket.create_connection((HOST, port), 10) as other:
+            other.sendall(b"get a\r\n\r\n")
+            self.assertIn(b" 400 ", other.recv(1000).split(b"\r\n")[0])
+
+    def test_clients_that_say_nothing_or_little_delay_no_worker(self):
+        proxy, port = self.metered(configuration(only=[self.memcached()]), threads=1)
+        silent = [socket.create_connection((HOST, port), 10) for _ in range(3)]
+        try:
+            silent[1].sendall(b"GET /metr")
+            with proxy.client() as client:
+                for _ in range(50):
+                    reply, seconds = client.timed(b"get a\r\n")
+                    self.assertEqual(reply, b"END\r\n")
+                    self.assertLess(seconds, 1)
+            # Each is closed after some seconds, and then the next one gets its answer.
+            self.assertEqual(ask(port, seconds=30)[0], 200)
+        finally:
+            for each in silent:
+                each.close()
+
+    def test_a_client_that_reads_nothing_is_closed(self):
+        servers = [f"10.0.0.{number}:11211" for number in range(1, 200)]
+        config = '{"pools": {"A": {"servers": [%s]}}, "route": "PoolRoute|A"}' % ",".join(f'"{name}"' for name in servers)
+        _, port = self.metered(config, threads=1)
+        with socket.socket() as deaf:
+            deaf.setsockopt(socket.SOL_SOCKET, socket.SO_RCVBUF, 2048)
+            deaf.connect((HOST, port))
+            deaf.sendall(b"GET /metrics HTTP/1.1\r\nhost: x\r\n\r\n" * 100)
+            self.assertEqual(len(numbers_in(ask(port, seconds=30)[2])), 13 + 3 + 199 * 4 + 1)
+
+    def test_it_ends_beside_a_client_that_stays(self):
+        proxy, port = self.metered(configuration(only=[self.memcached()]), threads=1, connections=1)
+        with socket.create_connection((HOST, port), 10):
+            with proxy.client() as client:
+                self.assertEqual(client.ask(b"get a\r\n"), b"END\r\n")
+            self.assertEqual(proxy.end(10)[0], 0)
+
+    def test_an_address_that_cannot_be_had(self):
+        taken = self.memcached()
+        for address in (f"{HOST}:{taken.port}", "nowhere", f"{HOST}:", "203.0.113.1:80", ""):
+            words = serve_words(free_port(), configuration(only=[taken]), {"metrics": address})
+            done = subprocess.run(words, stdin=subprocess.DEVNULL, capture_output=True, timeout=20, check=False)
+            self.assertEqual((done.returncode, done.stdout, done.stderr), (1, b"", b"fault: metrics\n"), address)
+
+    @unittest.skipUnless(text_string_to_metric_families, "python3-prometheus-client is not installed")
+    def test_prometheus_own_parser_reads_the_same(self):
+        down = self.closed()
+        proxy, port = self.metered(configuration(near=[down], far=[self.memcached()]), threads=2)
+        with proxy.client() as client:
+            self.assertEqual(client.ask(b"get a\r\n"), b"END\r\n")
+        wait_until(lambda: self.numbers(port)["tkoproxy_sessions_total"] == 1, 5, "the session has ended")
+        text = ask(port)[2]
+        self.assertEqual(samples_by_prometheus(text), numbers_in(text))
+
+    @unittest.skipUnless(shutil.which("promtool"), "promtool of the package prometheus is not installed")
+    def test_promtool_finds_no_fault(self):
+        down = self.closed()
+        proxy, port = self.metered(configuration(near=[down], far=[self.memcached()]), threads=2)
+        with proxy.client() as client:
+            self.assertEqual(client.ask(b"get a\r\n"), b"END\r\n")
+            text = ask(port)[2]
+        done = subprocess.run(["promtool", "check", "metrics"], input=text.encode(), capture_output=True, timeout=60,
+                              check=False)
+        self.assertEqual((done.returncode, done.stdout, done.stderr), (0, b"", b""))
+
+    @unittest.skipUnless(shutil.which("curl"), "curl is not installed")
+    def test_curl_gets_the_page(self):
+        _, port = self.metered(configuration(only=[self.memcached()]), threads=1)
+        done = subprocess.run(["curl", "-sS", "--fail", f"http://{HOST}:{port}/metrics"], capture_output=True,
+                              timeout=60, check=False)
+        self.assertEqual((done.returncode, done.stderr), (0, b""))
+        self.assertIn("tkoproxy_requests_total", numbers_in(done.stdout.decode()))
