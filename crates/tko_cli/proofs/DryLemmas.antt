@@ -71,6 +71,10 @@ begun_reaches options parts begun =
       probers = rw begun.fresh.probers (length-replicate (length parts.config.addresses) _);
     }
 
+-- a count rose after it had stayed the same
+pub rose : (before between after : ℕ) → between ≡ before → between < after → before < after
+rose before between after same less = omega (arith, same, less)
+
 module _ {I O : Type 0} (inlet : InletGhosts I) (outlet : OutletGhosts O) where
   -- a session over these parts and the printing of its trails are a dry run
   pub is_dry : (options : DryOptions) (old : I) (from : O) (new : I) (middle to : O) (before after : DryParts) (report : Report)
@@ -109,12 +113,6 @@ module _ {I O : Type 0} (inlet : InletGhosts I) (outlet : OutletGhosts O) where
   session_failed options (session_fault.Write count) old new stops = stops.1
   session_failed options session_fault.LineTooLong old new stops = line_came old new stops.0
   session_failed options session_fault.Memory old new stops = tt
-
-  -- the writer failed behind the session, which it did not fail in
-  pub trails_failed : (options : DryOptions) (old : I × O) (new : I) (middle to : O)
-      → outlet.failures middle ≡ outlet.failures old.1 → outlet.failures middle < outlet.failures to
-      → DryFails inlet outlet options old (new, to) fault.Write
-  trails_failed options old new middle to calm failed = omega (arith, calm, failed)
 
   -- the options name no configuration, so nothing was read or written
   pub not_configured : (options : DryOptions) (here : I × O) (scripts : List Script) (reason : Fault)

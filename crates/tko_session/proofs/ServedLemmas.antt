@@ -24,7 +24,7 @@ use Rattle.tko_session.specs.declared.session.Report.{Report}
 use Rattle.tko_io.specs.Io.{Writes, capped}
 use Rattle.tko_io.proofs.WriteLemmas.{writes_append, writes_none}
 use Rattle.tko_session.specs.Effects.{effects}
-use Rattle.tko_session.specs.Ends.{AllDelivered, DeliveryStops, PieceStops, SessionStops, ShortOfMemory, WriterFailed}
+use Rattle.tko_session.specs.Ends.{AllDelivered, DeliveryStops, PieceStops, SessionStops}
 use Rattle.tko_session.specs.Events.{Effects, Event, IdleRound, IsRun, NoneRun, Rounded, turns_of}
 use Rattle.tko_session.specs.Faults.{fault_of}
 use Rattle.tko_session.specs.SessionState.{SessionState, Snapshot, Answered, AnsweredPart, GoesOn, InSession, IsBehind, ProgressIs, fed_state, fresh, items_of, snapshot, text_of, cut_short, no_more}

@@ -2,7 +2,7 @@ use Rattle.std.proofs.Common.{Err, ap, rules}
 use Rattle.std.proofs.lemmas.Result.{err_from_is_err_and}
 use Rattle.tko_cli.specs.DryRuns.{words_in}
 use Rattle.tko_cli.specs.Outcomes.{AllAsk}
-use Rattle.tko_cli.proofs.DryLemmas.{begun, begun_reaches, is_dry, not_configured, not_opened, session_failed, trails_failed}
+use Rattle.tko_cli.proofs.DryLemmas.{begun, begun_reaches, is_dry, not_configured, not_opened, rose, session_failed}
 use Rattle.tko_cli.proofs.dry.dry.Goals as goal
 
 pub returns-in_err-config-clause-err : goal.returns-in_err-config-clause-err
@@ -41,7 +41,7 @@ pub returns-in_err-write_text-clause-err : goal.returns-in_err-write_text-clause
 returns-in_err-write_text-clause-err g c =
     let p = err_from_is_err_and c.from_residual-in_err-write_text.result c.from_residual-in_err-write_text.ensures.1 in
     rw (p.1, p.2)
-    (trails_failed g.I.Inlet g.O.Outlet c.args.options.now _ _ _ _ c.in_ok-serve.ensures.ends.1.writes c.in_err-write_text.ensures.err)
+    (rose _ _ _ c.in_ok-serve.ensures.ends.1.writes c.in_err-write_text.ensures.err)
 
 pub returns-then-not-options-clause-ok : goal.returns-then-not-options-clause-ok
 returns-then-not-options-clause-ok g c =
