@@ -132,6 +132,7 @@ module _ {I O : Type 0} (inlet : InletGhosts I) (outlet : OutletGhosts O) where
   not_configured options here scripts fault.Check asked none = absurd none
   not_configured options here scripts fault.Delays asked none = absurd none
   not_configured options here scripts fault.Listen asked none = absurd none
+  not_configured options here scripts fault.Metrics asked none = absurd none
   not_configured options here scripts fault.Accept asked none = absurd none
 
   -- the tracker could not be opened, so nothing was read or written
