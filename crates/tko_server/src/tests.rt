@@ -11,9 +11,9 @@ use tko_prober::Delays;
 mod ends;
 mod gate;
 mod pools;
-mod scarce;
 mod screen;
 mod server;
+mod staged;
 mod workers;
 
 const SERVER_ERROR: &[u8] = b"SERVER_ERROR no server\r\n";

@@ -4,7 +4,7 @@ ghost use Rattle.std.specs.Prelude.{◌≡◌, All, IfOk, length};
 ghost use Rattle.tko_tracker.specs.Seated.{ArePasses, IsOf};
 ghost use Rattle.tko_server.specs.Workers.{AreReady, IsEquipped};
 
-use super::scarce::Scarce;
+use super::staged::{Meets, Staged};
 use super::{SETTINGS, delays};
 use crate::lending::{lend_all, work};
 use crate::{Account, Member, Next, Source, WorkerParts, WorkerReport};
@@ -122,7 +122,7 @@ type Ending<'a, 't, N> = Member<
     Once,
     LoggedIdle<IdlePass>,
     LoggedSeating<SharedSeating<'t, N>>,
-    Scarce,
+    Staged<'a>,
     FrozenClock,
 >;
 
@@ -160,16 +160,20 @@ impl<'t, N: Named> Shared<'t, N> {
         alloc: Global,
         is_short: bool,
         share: &'a mut Share,
-    ) -> Result<WorkerParts<'a, LoggedSeating<SharedSeating<'t, N>>, Scarce, FrozenClock>, Fail>
+    ) -> Result<WorkerParts<'a, LoggedSeating<SharedSeating<'t, N>>, Staged<'a>, FrozenClock>, Fail>
         requires servers { N.tracker.settings.servers ≡ 2 }
         ensures equipped { IfOk result (IsEquipped (λ _. N.tracker.settings.servers)
             (λ links. length links.inner.sends)) }
     {
         Ok(WorkerParts {
             seating: &self.seating,
-            links: Scarce {
+            links: Staged {
                 inner: Scripted::new(alloc, 2, Vec::new(alloc))?,
-                is_short,
+                meets: if is_short {
+                    Meets::NoMemory
+                } else {
+                    Meets::Nothing
+                },
             },
             config: config_of_two(alloc)?,
             probers: Probers::new(alloc, delays()?, 2)?,

@@ -3,8 +3,9 @@ ghost use Rattle.std.specs.Prelude.{◌≡◌, All, IfOk, length};
 ghost use Rattle.tko_tracker.specs.Seated.{ArePasses};
 ghost use Rattle.tko_server.specs.Workers.{AreReady, IsEquipped};
 
-use super::gate::{Gate, Gated};
+use super::gate::Gate;
 use super::screen::{Visit, Visits};
+use super::staged::{Meets, Staged};
 use super::{SETTINGS, Two, config, delays};
 use crate::{Account, Member, WorkerParts, pool};
 use std::alloc::Global;
@@ -35,7 +36,7 @@ struct Shared<S> {
 }
 
 /// One of the two.
-type Overlapping<'a, P, S> = Member<'a, Visits<'a>, P, S, Gated<'a>, FrozenClock>;
+type Overlapping<'a, P, S> = Member<'a, Visits<'a>, P, S, Staged<'a>, FrozenClock>;
 
 impl<P: Drop, S: Seating<Idle = P>> Shared<S> {
     /// A member with one client for each seat. The first has the first of the two requests.
@@ -72,7 +73,7 @@ impl<P: Drop, S: Seating<Idle = P>> Shared<S> {
         alloc: Global,
         is_first: bool,
         share: &'a mut Share,
-    ) -> Result<WorkerParts<'a, S, Gated<'a>, FrozenClock>, Fail>
+    ) -> Result<WorkerParts<'a, S, Staged<'a>, FrozenClock>, Fail>
         requires servers { S.servers self.now.seating ≡ 1 }
         ensures equipped { IfOk result (λ parts.
             IsEquipped S.servers (λ links. length links.inner.sends) parts) }
@@ -82,10 +83,13 @@ impl<P: Drop, S: Seating<Idle = P>> Shared<S> {
         scripts.push(Script::Bytes(b"END\r\n".to_vec(alloc)?))?;
         Ok(WorkerParts {
             seating: &self.seating,
-            links: Gated {
+            links: Staged {
                 inner: Scripted::new(alloc, 1, scripts)?,
-                gate: &self.gate,
-                is_first,
+                meets: if is_first {
+                    Meets::FirstAt(&self.gate)
+                } else {
+                    Meets::SecondAt(&self.gate)
+                },
             },
             config: config(alloc, "s:1")?,
             probers: Probers::new(alloc, delays()?, 1)?,
