@@ -32,9 +32,13 @@ pub record ElapsedTime : Type 0 where
   pub start : Option ℕ
   pub last : ℕ
 
+-- the nanoseconds of a millisecond
+abbrev pub nanos_of_milli : ℕ
+nanos_of_milli = 1000000
+
 -- milliseconds from one instant to another, both in nanoseconds
 abbrev pub millis_between : ℕ → ℕ → ℕ
-millis_between start now = capped ((now - start) / 1000000)
+millis_between start now = capped ((now - start) / nanos_of_milli)
 
 -- the moment at this instant: milliseconds since the start, which is this instant where there is
 -- none yet, and never less than before

@@ -11,6 +11,7 @@ default_threads = codes "4"
 abbrev pub default_connections : Text
 default_connections = codes "0"
 
+-- times are in milliseconds
 abbrev pub default_timeout : Text
 default_timeout = codes "1000"
 

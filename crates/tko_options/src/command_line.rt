@@ -27,6 +27,9 @@ Exit status:
 
 `tkoproxy COMMAND --help` prints the options of a command.";
 
+const REPLAY_ABOUT: &str =
+    "Plays a schedule from standard input, checks that each call is legal, and prints the run";
+
 const REPLAY_HELP: &str = "\
 Example:
   tkoproxy replay < schedule.txt
@@ -63,9 +66,7 @@ fn replay<'a>(alloc: Global) -> Command<'a>
     ensures { ReadsAs replay_command result }
 {
     Command::new(alloc, "replay")
-        .about(
-            "Plays a schedule from standard input, checks that each call is legal, and prints the run",
-        )
+        .about(REPLAY_ABOUT)
         .after_help(REPLAY_HELP)
 }
 
