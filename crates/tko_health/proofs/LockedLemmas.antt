@@ -11,7 +11,7 @@ use Rattle.tko_model.specs.declared.mark.Op.TheVariants.{LookUp, Release}
 use Rattle.tko_model.specs.declared.settings.Settings.{Settings}
 use Rattle.tko_model.specs.declared.state.ServerState.{ServerState}
 use Rattle.tko_model.specs.declared.transition.Transition.{Transition}
-use Rattle.tko_model.specs.Tracker.{Tracker, after, changed, has_room, server_at, softs, transition, transition_on}
+use Rattle.tko_model.specs.Tracker.{Tracker, after, changed, has_room, server_at, transition, transition_on}
 use Rattle.tko_model.specs.declared.look.Look.{Look}
 use Rattle.tko_model.specs.declared.mark.Reply.{Reply}
 use Rattle.tko_model.specs.declared.mark.Reply.TheVariants as reply
@@ -19,8 +19,8 @@ use Rattle.tko_model.specs.Looks.{look_of}
 use Rattle.tko_health.specs.Health.{look_item, reply_of_look}
 use Rattle.tko_health.specs.Locked.{IsFound, IsLockedStep, OwnsNone, SeatState, is_own, noted}
 
-abbrev room_in : Tracker → Bool
-room_in tracker = has_room tracker.settings (softs tracker.servers)
+abbrev room_in : Tracker → ℕ → Bool
+room_in tracker server = has_room tracker.settings tracker.servers server
 
 look_by_owner : (thread : ℕ) (mark : Mark) (own : Bool) (one other : Transition) → one.change ≡ None → other.change ≡ None
     → (if own then one else other).change ≡ None
@@ -37,7 +37,7 @@ look_change s room thread (Hard owner) stamp = look_by_owner thread (Hard owner)
 pub look_stays : (tracker : Tracker) (thread server : ℕ) → after tracker thread LookUp server ≡ tracker
 look_stays tracker thread server =
     ap (λ (change : Option Mark). record tracker { servers = changed tracker.servers server change })
-    (look_change tracker.settings (room_in tracker) thread (server_at tracker.servers server).mark (server_at tracker.servers server).stamp)
+    (look_change tracker.settings (room_in tracker server) thread (server_at tracker.servers server).mark (server_at tracker.servers server).stamp)
 
 look_reply_is : (s : Settings) (room : Bool) (thread server : ℕ) (mark : Mark) (stamp : ℕ)
     → reply_of_look (look_of server mark) ≡ (transition s room thread LookUp mark stamp).reply
@@ -63,7 +63,7 @@ pub locked_look : {settings : Settings} {tracker : Tracker} {old new : SeatState
 locked_look {tracker} {old} {server} is found seat = record {
   tracker = tracker;
   found = is;
-  reply = ap reply_of_look found ∙ look_reply_is tracker.settings (room_in tracker) old.thread server
+  reply = ap reply_of_look found ∙ look_reply_is tracker.settings (room_in tracker server) old.thread server
       (server_at tracker.servers server).mark (server_at tracker.servers server).stamp;
   seat = seat ∙ ap (λ (t : Tracker). noted server (server_at t.servers server).mark old) (sym (look_stays tracker old.thread server));
 }
@@ -101,7 +101,7 @@ pub release_leaves : (tracker : Tracker) (thread server : ℕ) → server < leng
     → is_own thread (server_at (after tracker thread Release server).servers server).mark ≡ false
 release_leaves tracker thread server within =
     left tracker.servers server thread within (transition_on tracker thread Release server).change
-    (released tracker.settings (room_in tracker) thread (server_at tracker.servers server).mark (server_at tracker.servers server).stamp)
+    (released tracker.settings (room_in tracker server) thread (server_at tracker.servers server).mark (server_at tracker.servers server).stamp)
 
 -- the marks of the servers before this one are not the thread's
 pub record NoneBefore (count : ℕ) (owned : List Bool) : Type 0 where

@@ -1,3 +1,4 @@
+pub mod Groups
 pub mod Looks
 pub mod Ranges
 pub mod Records

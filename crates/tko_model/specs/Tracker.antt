@@ -1,6 +1,6 @@
 -- The sequential tracker: for each server its mark and its stamp, which counts the changes of that
 -- mark; and for each operation of a thread on a server the reply and the mark that it leaves.
-use Rattle.std.specs.Prelude.{◌≡◌, ℕ, ◌+◌, ◌<◌, ◌≤◌, Bool, true, false, ◌==◌, nat_le, nat_lt, if◌then◌else◌, List, length, slice_index_or, slice_set, count_by, replicate, All, Option, Some, None}
+use Rattle.std.specs.Prelude.{◌≡◌, ℕ, ◌+◌, ◌<◌, ◌≤◌, Bool, true, false, ◌==◌, ◌&&◌, nat_le, nat_lt, if◌then◌else◌, List, [], ◌∷◌, length, slice_index_or, slice_set, replicate, All, Option, Some, None}
 use Rattle.tko_model.specs.declared.mark.Mark.{Mark}
 use Rattle.tko_model.specs.declared.mark.Mark.TheVariants.{Up, Soft, Hard}
 use Rattle.tko_model.specs.declared.mark.Op.{Op}
@@ -10,6 +10,7 @@ use Rattle.tko_model.specs.declared.mark.Reply.TheVariants as reply
 use Rattle.tko_model.specs.declared.state.ServerState.{ServerState}
 use Rattle.tko_model.specs.declared.settings.Settings.{Settings}
 use Rattle.tko_model.specs.declared.transition.Transition.{Transition}
+use Rattle.tko_model.specs.Groups.{group_of, is_in, limit_at}
 use Rattle.tko_model.specs.Looks.{look_reply}
 use Rattle.tko_model.specs.Ranges.{IsWithinRanges, worn}
 
@@ -94,19 +95,34 @@ is_soft (Up count) = false
 is_soft (Soft thread) = true
 is_soft (Hard thread) = false
 
--- how many servers have a soft mark
-abbrev pub softs : List ServerState → ℕ
-softs servers = count_by (λ server. is_soft server.mark) servers
+-- whether a server with this number and this mark is one of the group that has a soft mark
+abbrev pub is_soft_in : Settings → ℕ → ℕ → Mark → Bool
+is_soft_in s group server mark = is_soft mark && is_in s group server
 
--- whether there is room for one more soft mark beside those that are marked so
-abbrev pub has_room : Settings → ℕ → Bool
-has_room s marked = nat_lt marked s.limit
+-- how many of these servers, which are numbered from the first one's number on, are of the group
+-- and have a soft mark
+abbrev pub softs_from : Settings → ℕ → ℕ → List ServerState → ℕ
+softs_from s group first [] = 0
+softs_from s group first (server ∷ others) =
+    (if is_soft_in s group first server.mark then 1 else 0) + softs_from s group (first + 1) others
+
+-- how many servers of a group have a soft mark
+abbrev pub softs_in : Settings → ℕ → List ServerState → ℕ
+softs_in s group servers = softs_from s group 0 servers
+
+-- how many servers of the group of this one have a soft mark
+abbrev pub softs_beside : Settings → ℕ → List ServerState → ℕ
+softs_beside s server servers = softs_in s (group_of s server) servers
+
+-- whether there is room for one more soft mark in the group of a server
+abbrev pub has_room : Settings → List ServerState → ℕ → Bool
+has_room s servers server = nat_lt (softs_beside s server servers) (limit_at s server)
 
 -- what an operation of a thread on a server answers and changes
 abbrev pub transition_on : Tracker → ℕ → Op → ℕ → Transition
 transition_on tracker thread op server =
     let it = server_at tracker.servers server in
-    let room = has_room tracker.settings (softs tracker.servers) in
+    let room = has_room tracker.settings tracker.servers server in
     transition tracker.settings room thread op it.mark it.stamp
 
 -- the servers after a change of one of them: its stamp is one more

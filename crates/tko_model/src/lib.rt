@@ -27,7 +27,7 @@ pub use settings::{
     MAX_FAILURES, MAX_LIMIT, MAX_SERVERS, MAX_THREADS, MAX_TRIES, Settings, SettingsFault,
     WORN_STAMP,
 };
-pub use state::{ServerState, count_softs, opened_servers};
+pub use state::{ServerState, count_softs, has_room, opened_servers};
 pub use text::{append_mark, append_number, append_reply, op_word};
 pub use transition::Transition;
 

@@ -2,7 +2,7 @@
 ghost use Rattle.std.specs.Prelude.{◌≡◌, ◌<◌, ◌↔◌, Some, IfOk, length};
 ghost use Rattle.tko_model.specs.Ranges.{first_fault};
 
-use crate::state::{count_softs, opened_servers};
+use crate::state::{has_room, opened_servers};
 use crate::{Mark, Op, Reply, ServerState, Settings, SettingsFault, Transition};
 use std::alloc::{AllocError, Global};
 use std::marker::Model;
@@ -88,7 +88,7 @@ impl Plain {
         ensures state { self.new ≡ after self.old thread op server }
     {
         let old = self.servers[server];
-        let room = self.settings.has_room(count_softs(&self.servers));
+        let room = has_room(&self.servers, &self.settings, server);
         let transition = Transition::of(&self.settings, room, thread, op, old);
         if let Some(mark) = transition.change {
             self.servers[server] = ServerState {

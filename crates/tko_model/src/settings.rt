@@ -1,5 +1,5 @@
 //! The settings of a tracker and their ranges.
-ghost use Rattle.std.specs.Prelude.{◌≡◌, ◌↔◌, Some, IsOk};
+ghost use Rattle.std.specs.Prelude.{◌≡◌, ◌<◌, ◌↔◌, Some, IsOk};
 ghost use Rattle.tko_model.specs.Ranges.{IsWithinRanges, first_fault};
 
 use thiserror::Error;
@@ -57,7 +57,7 @@ pub enum SettingsFault {
 }
 
 impl Settings {
-    ghost use Rattle.tko_model.specs.Tracker.{has_room};
+    ghost use Rattle.tko_model.specs.Groups.{group_of, groups, limit_of};
 
     /// Refuses the first setting outside its range, in the order of the fields.
     pub fn check(&self) -> Result<(), SettingsFault>
@@ -85,10 +85,31 @@ impl Settings {
         }
         Ok(())
     }
-    /// Whether there is room for one more soft mark beside `softs` of them.
-    pub fn has_room(&self, softs: usize) -> bool
-        ensures { result ≡ has_room self.now softs }
+
+    /// How many groups of servers there are. They are numbered from 0.
+    #[tactic(auto, unfolding(crate::specs::Groups::groups))]
+    pub fn groups(&self) -> usize
+        ensures { result ≡ groups self.now }
     {
-        softs < self.limit as usize
+        1
+    }
+
+    /// The group of a server.
+    #[tactic(auto, unfolding(crate::specs::Groups::group_of, crate::specs::Groups::groups))]
+    pub fn group_of(&self, server: usize) -> usize
+        ensures value { result ≡ group_of self.now server }
+        ensures below { result < groups self.now }
+    {
+        let _ = server;
+        0
+    }
+
+    /// How many servers of a group may have a soft mark.
+    #[tactic(auto, unfolding(crate::specs::Groups::limit_of))]
+    pub fn limit_of(&self, group: usize) -> u32
+        ensures { result ≡ limit_of self.now group }
+    {
+        let _ = group;
+        self.limit
     }
 }

@@ -1,6 +1,6 @@
 //! The state of a server.
 ghost use Rattle.std.specs.Prelude.{◌≡◌, IfOk, length};
-ghost use Rattle.tko_model.specs.Tracker.{opened, softs};
+ghost use Rattle.tko_model.specs.Tracker.{has_room, is_soft_in, opened, softs_in};
 
 use crate::{Mark, Settings};
 use std::alloc::Global;
@@ -14,14 +14,33 @@ pub struct ServerState {
     pub stamp: u64,
 }
 
-/// How many servers have a soft mark, counted anew at each call.
-pub fn count_softs(servers: &[ServerState]) -> usize
-    ensures { result ≡ softs servers.now }
+/// How many servers of a group have a soft mark, counted anew at each call.
+#[tactic(auto, using(crate::proofs::GroupLemmas::softs_from_drop))]
+pub fn count_softs(servers: &[ServerState], settings: &Settings, group: usize) -> usize
+    ensures { result ≡ softs_in settings.now group servers.now }
 {
-    servers
-        .iter()
-        .filter(|server| matches!(server.mark, Mark::Soft(_)))
-        .count()
+    let mut count = 0;
+    for (server, state) in servers.iter().enumerate() {
+        if is_soft_in(settings, group, server, state.mark) {
+            count += 1;
+        }
+    }
+    count
+}
+
+/// Whether a server with this number and this mark is one of the group that has a soft mark.
+fn is_soft_in(settings: &Settings, group: usize, server: usize, mark: Mark) -> bool
+    ensures { result ≡ is_soft_in settings.now group server mark }
+{
+    matches!(mark, Mark::Soft(_)) && settings.group_of(server) == group
+}
+
+/// Whether there is room for one more soft mark in the group of a server.
+pub fn has_room(servers: &[ServerState], settings: &Settings, server: usize) -> bool
+    ensures { result ≡ has_room settings.now servers.now server }
+{
+    let group = settings.group_of(server);
+    count_softs(servers, settings, group) < settings.limit_of(group) as usize
 }
 
 /// The servers of a tracker when it opens: each is up, at the opening stamp.

@@ -16,7 +16,7 @@ use Rattle.tko_model.specs.declared.transition.Transition.{Transition}
 use Rattle.tko_model.specs.Tracker.{IsFit, becomes, on_others, on_own_hard, on_own_soft, server_at, stays, transition}
 use Rattle.tko_model.specs.Looks.{look_reply}
 use Rattle.tko_runs.specs.States.{IsPlace, same_word, written, written_slots, wrote}
-use Rattle.tko_runs.specs.Words.{CanLeave, CanLeaveServer, CanMark, IsExchange, IsValid}
+use Rattle.tko_runs.specs.Words.{CanLeave, CanLeaveServer, CanMark, IsExchange, IsValid, room_at}
 use Rattle.tko_steps.specs.declared.phase.Call.{Call}
 use Rattle.tko_steps.specs.declared.phase.Phase.{Phase}
 use Rattle.tko_steps.specs.declared.phase.Phase.TheVariants.{Start, Read, AtThreshold, Limit, Reserving, Holding, Firming, Losing, Loosening, Loosened, Emptied}
@@ -27,27 +27,29 @@ use Rattle.tko_steps.specs.declared.step.Word.{Word}
 use Rattle.tko_steps.specs.declared.step.Word.TheVariants as word
 use Rattle.tko_steps.specs.declared.table.Action.{Action}
 use Rattle.tko_steps.specs.declared.table.Action.TheVariants.{LookAtServer, LookAtSlots, Exchange, Reserve, Settle, Loosen, Give}
-use Rattle.tko_steps.specs.Core.{owner_of, CoreState, Shared, abstract_of, is_call_step, number_of, seen_by, shared_after, thread_at, word_at}
+use Rattle.tko_steps.specs.Core.{owner_of, CoreState, Shared, abstract_of, is_call_step, number_of, seen_by, shared_after, thread_at, word_at, CanAct, no_slots, slots_at}
 use Rattle.tko_steps.specs.Steps.{is_done, kind_of, kind_of_exchange, place_of, word_after}
-use Rattle.tko_steps.specs.Invariant.{IsCore, IsFoundBy, IsOwnOrUp}
+use Rattle.tko_steps.specs.Invariant.{IsCore, IsFoundBy, IsOwnOrUp, held_at}
 use Rattle.tko_steps.specs.Table.{action_of, same_mark, same_server, same_slots}
-use Rattle.tko_steps.proofs.CoreLemmas.{CanAct-at, enrolled-le, knows_at, one-le-held, stamp-fits}
+use Rattle.tko_steps.proofs.CoreLemmas.{CanAct-at, enrolled-le, knows_at, one-le-held, stamp-fits, group-there}
 use Rattle.tko_steps.proofs.LegalLemmas.{Knows}
 use Rattle.tko_steps.proofs.TableLemmas.{eq-same_server, same_server-true, same_slots-true}
 use Rattle.tko_steps.proofs.ThreadLemmas.{number-lt}
 use Rattle.tko_steps.specs.Runs.{OwnStep}
+use Rattle.tko_model.specs.Groups.{group_of, limit_at}
 
 -- what a step claims of the words before and after it
 pub record Acts (s : Settings) (shared : Shared) (server : ℕ) (act : Action) : Type 0 where
   pub steps : is_call_step (kind_of act) ≡ true
-  pub place : IsPlace shared.servers (place_of server act)
-  pub servers : written shared.servers (place_of server act) (word_after act (word_at shared (place_of server act)))
-      ≡ (shared_after shared server act).servers
-  pub slots : written_slots shared.slots (place_of server act) (word_after act (word_at shared (place_of server act)))
-      ≡ (shared_after shared server act).slots
-  pub wins : wrote (kind_of act) (word_at shared (place_of server act)) (word_after act (word_at shared (place_of server act)))
-      ≡ is_done (seen_by shared server act)
-  pub can : CanLeave s shared.slots.held (kind_of act) (word_at shared (place_of server act)) (word_after act (word_at shared (place_of server act)))
+  pub place : IsPlace shared (place_of s server act)
+  pub servers : written shared.servers (place_of s server act) (word_after act (word_at shared (place_of s server act)))
+      ≡ (shared_after s shared server act).servers
+  pub slots : written_slots shared.slots (place_of s server act) (word_after act (word_at shared (place_of s server act)))
+      ≡ (shared_after s shared server act).slots
+  pub wins : wrote (kind_of act) (word_at shared (place_of s server act)) (word_after act (word_at shared (place_of s server act)))
+      ≡ is_done (seen_by s shared server act)
+  pub can : CanLeave s (room_at s shared.slots (place_of s server act)) (kind_of act) (word_at shared (place_of s server act))
+      (word_after act (word_at shared (place_of s server act)))
 
 abbrev unread : ServerState
 unread = record { mark = Up 0; stamp = 0 }
@@ -56,23 +58,26 @@ unread = record { mark = Up 0; stamp = 0 }
 
 Acts-look : (s : Settings) (shared : Shared) (server : ℕ) → server < length shared.servers → Acts s shared server LookAtServer
 Acts-look s shared server inside =
-    record { steps = refl; place = inside; servers = set-get_or shared.servers server unread; slots = refl; wins = refl; can = refl }
+    record { steps = refl; place = (inside, tt); servers = set-get_or shared.servers server unread; slots = refl; wins = refl; can = refl }
 
-Acts-look_slots : (s : Settings) (shared : Shared) (server : ℕ) → Acts s shared server LookAtSlots
-Acts-look_slots s shared server =
-    record { steps = refl; place = tt; servers = refl; slots = refl; wins = refl; can = refl }
+Acts-look_slots : (s : Settings) (shared : Shared) (server : ℕ) → group_of s server < length shared.slots → Acts s shared server LookAtSlots
+Acts-look_slots s shared server there =
+    record { steps = refl; place = (tt, there); servers = refl; slots = set-get_or shared.slots (group_of s server) no_slots; wins = refl; can = refl }
 
-Acts-settle : (s : Settings) (shared : Shared) (server : ℕ) → 0 < shared.slots.held → Acts s shared server Settle
-Acts-settle s shared server held =
-    record { steps = refl; place = tt; servers = refl; slots = refl; wins = refl; can = inl (record { firm = refl; held = omega arith }) }
+Acts-settle : (s : Settings) (shared : Shared) (server : ℕ) → CanAct s shared server Settle → Acts s shared server Settle
+Acts-settle s shared server can =
+    let held = can.1.0 in
+    record { steps = refl; place = (tt, can.0); servers = refl; slots = refl; wins = refl; can = inl (record { firm = refl; held = omega (arith, held) }) }
 
-Acts-loosen : (s : Settings) (shared : Shared) (server : ℕ) → 0 < shared.slots.firm → Acts s shared server Loosen
-Acts-loosen s shared server firm =
-    record { steps = refl; place = tt; servers = refl; slots = refl; wins = refl; can = inr (record { firm = omega arith; held = refl }) }
+Acts-loosen : (s : Settings) (shared : Shared) (server : ℕ) → CanAct s shared server Loosen → Acts s shared server Loosen
+Acts-loosen s shared server can =
+    let firm = can.1.0 in
+    record { steps = refl; place = (tt, can.0); servers = refl; slots = refl; wins = refl; can = inr (record { firm = omega (arith, firm); held = refl }) }
 
-Acts-give : (s : Settings) (shared : Shared) (server : ℕ) → 0 < shared.slots.held → Acts s shared server Give
-Acts-give s shared server held =
-    record { steps = refl; place = tt; servers = refl; slots = refl; wins = refl; can = record { firm = refl; held = omega arith } }
+Acts-give : (s : Settings) (shared : Shared) (server : ℕ) → CanAct s shared server Give → Acts s shared server Give
+Acts-give s shared server can =
+    let held = can.1 in
+    record { steps = refl; place = (tt, can.0); servers = refl; slots = refl; wins = refl; can = record { firm = refl; held = omega (arith, held) } }
 
 and-false : (one : Bool) → (one && false) ≡ false
 and-false true = refl
@@ -82,25 +87,26 @@ next-apart : (n : ℕ) → eqb (n + 1) n ≡ false
 next-apart n = ne_eqb (n + 1) n (λ e. omega arith)
 
 Acts-reserve : (s : Settings) (shared : Shared) (server : ℕ) (expected : Slots) (test : Bool)
-    → same_slots shared.slots expected ≡ test → expected.firm + expected.held < s.limit → Acts s shared server (Reserve expected)
-Acts-reserve s shared server expected true same room =
-    let slots = shared.slots in
+    → same_slots (slots_at shared.slots (group_of s server)) expected ≡ test → group_of s server < length shared.slots
+    → expected.firm + expected.held < limit_at s server → Acts s shared server (Reserve expected)
+Acts-reserve s shared server expected true same there room =
+    let slots = slots_at shared.slots (group_of s server) in
     let is = same_slots-true slots expected same in
     record {
       steps = refl;
-      place = tt;
+      place = (tt, there);
       servers = refl;
-      slots = refl;
+      slots = rw same refl;
       wins = rw (same, next-apart slots.held, and-false) refl;
-      can = rw same (inr (record { firm = refl; held = refl; room = omega (arith, is.0, is.1) }));
+      can = rw same (inr (record { firm = refl; held = refl; room = omega (arith, is.0, is.1, room) }));
     }
-Acts-reserve s shared server expected false same room =
-    let slots = shared.slots in
+Acts-reserve s shared server expected false same there room =
+    let slots = slots_at shared.slots (group_of s server) in
     record {
       steps = refl;
-      place = tt;
+      place = (tt, there);
       servers = refl;
-      slots = refl;
+      slots = rw same (set-get_or shared.slots (group_of s server) no_slots);
       wins = rw (same, eq-eqb slots.firm slots.firm refl, eq-eqb slots.held slots.held refl) refl;
       can = rw same (inl refl);
     }
@@ -143,11 +149,14 @@ module _ (s : Settings) (shared : Shared) (server : ℕ) (found : ServerState) (
   abbrev now : ServerState
   now = server_at shared.servers server
 
+  abbrev held : ℕ
+  held = (slots_at shared.slots (group_of s server)).held
+
   abbrev new : ServerState
   new = record { mark = mark; stamp = found.stamp + 1 }
 
   Acts-won : same_server now found ≡ true → server < length shared.servers
-      → CanMark s shared.slots.held (kind_of_exchange found.mark mark) found.mark mark → IsValid s (record { mark = mark; stamp = found.stamp + 1 })
+      → CanMark s held (kind_of_exchange found.mark mark) found.mark mark → IsValid s (record { mark = mark; stamp = found.stamp + 1 })
       → Acts s shared server (Exchange found mark)
   Acts-won won inside can valid =
       let is : now ≡ found = same_server-true now found won in
@@ -155,13 +164,13 @@ module _ (s : Settings) (shared : Shared) (server : ℕ) (found : ServerState) (
       rw is (ap (λ t. same_mark mark found.mark && t) (next-apart found.stamp) ∙ and-false (same_mark mark found.mark)) in
       let wins : wrote (kind_of_exchange found.mark mark) (word.Server now) (word.Server new) ≡ true =
       exchange-wrote found.mark mark (word.Server now) (word.Server new) ∙ ap (λ t. cond t false true) apart in
-      let exchange : IsExchange s shared.slots.held (kind_of_exchange found.mark mark) found new = record { mark = can; stamp = refl; valid = valid } in
-      let C : ServerState → Type 0 = λ it. CanLeaveServer s shared.slots.held (kind_of_exchange found.mark mark) it new in
-      let leaves : CanLeaveServer s shared.slots.held (kind_of_exchange found.mark mark) now new =
-      subst C (sym is) (exchange-won s shared.slots.held found.mark mark found new exchange) in
+      let exchange : IsExchange s held (kind_of_exchange found.mark mark) found new = record { mark = can; stamp = refl; valid = valid } in
+      let C : ServerState → Type 0 = λ it. CanLeaveServer s held (kind_of_exchange found.mark mark) it new in
+      let leaves : CanLeaveServer s held (kind_of_exchange found.mark mark) now new =
+      subst C (sym is) (exchange-won s held found.mark mark found new exchange) in
       record {
         steps = exchange-steps found.mark mark;
-        place = inside;
+        place = (inside, tt);
         servers = rw won refl;
         slots = refl;
         wins = rw won wins;
@@ -177,16 +186,16 @@ module _ (s : Settings) (shared : Shared) (server : ℕ) (found : ServerState) (
       ∙ ap (λ t. cond t false true) (eq-same_server now now refl) in
       record {
         steps = exchange-steps found.mark mark;
-        place = inside;
+        place = (inside, tt);
         servers = rw lost (set-get_or shared.servers server unread);
         slots = refl;
         wins = rw lost wins;
-        can = rw lost (exchange-lost s shared.slots.held found.mark mark now none);
+        can = rw lost (exchange-lost s held found.mark mark now none);
       }
 
   either : (test : Bool) → same_server now found ≡ test → server < length shared.servers
       → ((owner : ℕ) → owner_of found.mark ≡ Some owner → now ≡ found)
-      → CanMark s shared.slots.held (kind_of_exchange found.mark mark) found.mark mark → IsValid s (record { mark = mark; stamp = found.stamp + 1 })
+      → CanMark s held (kind_of_exchange found.mark mark) found.mark mark → IsValid s (record { mark = mark; stamp = found.stamp + 1 })
       → Acts s shared server (Exchange found mark)
   either true won inside stands can valid = Acts-won won inside can valid
   either false lost inside stands can valid =
@@ -194,7 +203,7 @@ module _ (s : Settings) (shared : Shared) (server : ℕ) (found : ServerState) (
       let same : same_server now found ≡ true = eq-same_server now found (stands owner owned) in cc)
 
   Acts-exchange : server < length shared.servers → ((owner : ℕ) → owner_of found.mark ≡ Some owner → now ≡ found)
-      → CanMark s shared.slots.held (kind_of_exchange found.mark mark) found.mark mark → IsValid s (record { mark = mark; stamp = found.stamp + 1 })
+      → CanMark s held (kind_of_exchange found.mark mark) found.mark mark → IsValid s (record { mark = mark; stamp = found.stamp + 1 })
       → Acts s shared server (Exchange found mark)
   Acts-exchange inside stands can valid = either (same_server now found) refl inside stands can valid
 
@@ -300,36 +309,37 @@ module _ (core : CoreState) (thread : ℕ) (call : Call) (is : IsCore core) (ins
       let write = knows.2.0 in
       Acts-exchange core.settings core.shared call.server found mark knows.0
       (found-stands call.number now_at found found.mark knows.2.1)
-      (decided-can core.settings core.shared.slots.held call.number call.op found.mark mark found.stamp answer write.own (number-low phase stands) (says.1 true))
+      (decided-can core.settings (held_at core (group_of core.settings call.server)) call.number call.op found.mark mark found.stamp answer write.own (number-low phase stands) (says.1 true))
       (write-valid core.settings call.number mark (found.stamp + 1) write.fit write.own (number-low phase stands))
-  acts (AtThreshold found) stands says = Acts-look_slots core.settings core.shared call.server
+  acts (AtThreshold found) stands says = Acts-look_slots core.settings core.shared call.server (group-there core call.server is)
   acts (Limit found) stands says =
       Acts-look core.settings core.shared call.server (CanAct-at core thread call is inside (Limit found) stands)
   acts (Reserving found slots) stands says =
       let knows = knows_at core thread call is inside (Reserving found slots) stands in
-      Acts-reserve core.settings core.shared call.server slots (same_slots core.shared.slots slots) refl knows.2.1
+      Acts-reserve core.settings core.shared call.server slots (same_slots (slots_at core.shared.slots (group_of core.settings call.server)) slots) refl
+      (group-there core call.server is) knows.2.1
   acts (Holding found) stands says =
       let phase : Phase = Holding found in
       let knows = knows_at core thread call is inside phase stands in
       let fresh = knows.2 in
       Acts-exchange core.settings core.shared call.server found (Soft call.number) knows.0
       (λ owner owned. let none : None ≡ Some owner = sym fresh.0 ∙ owned in cc)
-      (fresh-can core.settings core.shared.slots.held call.number found.mark fresh.0 (number-low phase stands)
+      (fresh-can core.settings (held_at core (group_of core.settings call.server)) call.number found.mark fresh.0 (number-low phase stands)
       (one-le-held core thread call is inside phase stands refl))
       (number-low phase stands, omega (arith, fresh.1))
   acts Firming stands says =
-      Acts-settle core.settings core.shared call.server (CanAct-at core thread call is inside Firming stands).0
+      Acts-settle core.settings core.shared call.server (CanAct-at core thread call is inside Firming stands)
   acts Losing stands says =
       Acts-give core.settings core.shared call.server (CanAct-at core thread call is inside Losing stands)
   acts (Loosening found mark answer) stands says =
-      Acts-loosen core.settings core.shared call.server (CanAct-at core thread call is inside (Loosening found mark answer) stands).0
+      Acts-loosen core.settings core.shared call.server (CanAct-at core thread call is inside (Loosening found mark answer) stands)
   acts (Loosened found mark answer) stands says =
       let phase : Phase = Loosened found mark answer in
       let knows = knows_at core thread call is inside phase stands in
       let write = knows.2.0 in
       Acts-exchange core.settings core.shared call.server found mark knows.0
       (λ owner owned. knows.2.2)
-      (decided-can core.settings core.shared.slots.held call.number call.op found.mark mark found.stamp answer write.own (number-low phase stands) (says.1 true))
+      (decided-can core.settings (held_at core (group_of core.settings call.server)) call.number call.op found.mark mark found.stamp answer write.own (number-low phase stands) (says.1 true))
       (write-valid core.settings call.number mark (found.stamp + 1) write.fit write.own (number-low phase stands))
   acts (Emptied answer) stands says =
       Acts-give core.settings core.shared call.server (CanAct-at core thread call is inside (Emptied answer) stands)

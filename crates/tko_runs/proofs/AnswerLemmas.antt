@@ -27,7 +27,7 @@ use Rattle.tko_steps.specs.declared.phase.ThreadState.TheVariants.{NotEnrolled, 
 use Rattle.tko_steps.specs.declared.table.Action.TheVariants.{Exchange, Reserve}
 use Rattle.tko_steps.specs.declared.table.Decision.{Decision}
 use Rattle.tko_steps.specs.declared.table.Decision.TheVariants.{Goes, Answers}
-use Rattle.tko_steps.specs.Core.{CoreState, Shared, after_act, after_step, after_step_from, follows, has_call, seen_by, thread_at}
+use Rattle.tko_steps.specs.Core.{CoreState, Shared, after_act, after_step, after_step_from, follows, has_call, seen_by, thread_at, slots_at}
 use Rattle.tko_steps.specs.Steps.{state_after, writes}
 use Rattle.tko_steps.specs.declared.step.Word.TheVariants as word
 use Rattle.tko_steps.specs.Invariant.{IsCore}
@@ -37,6 +37,7 @@ use Rattle.tko_steps.proofs.CostLemmas.{depth}
 use Rattle.tko_steps.proofs.CoreLemmas.{IsCore-after_act, knows_at}
 use Rattle.tko_steps.proofs.RunLemmas.{Holds-run}
 use Rattle.tko_steps.proofs.StartLemmas.{from_start-is}
+use Rattle.tko_model.specs.Groups.{group_of, limit_at}
 
 -- a thread without a call takes no steps
 pub steps_to_answer-none : (most : ℕ) (core : CoreState) (thread : ℕ) → has_call (thread_at core thread) ≡ false
@@ -133,8 +134,8 @@ module _ (s : Settings) (call : Call) (left : call.lost < s.tries) where
       → IsNearer (5 * (s.tries - call.lost) - 1) (at_threshold s call found slots)
   nearer-at_threshold found slots =
       let before = 5 * (s.tries - call.lost) - 1 in
-      let full = eqb (slots.firm + slots.held) s.limit in
-      cond_both (eqb slots.firm s.limit) (goes call (Limit found)) (cond full (lost_try s call) (goes call (Reserving found slots))) (IsNearer before)
+      let full = eqb (slots.firm + slots.held) (limit_at s call.server) in
+      cond_both (eqb slots.firm (limit_at s call.server)) (goes call (Limit found)) (cond full (lost_try s call) (goes call (Reserving found slots))) (IsNearer before)
       (λ e. omega (arith, left))
       (λ e. cond_both full (lost_try s call) (goes call (Reserving found slots)) (IsNearer before)
       (λ none. nearer-lost before (omega (arith, left)))
@@ -142,7 +143,7 @@ module _ (s : Settings) (call : Call) (left : call.lost < s.tries) where
 
   -- each step of a call leaves fewer
   nearer : (shared : Shared) (phase : Phase)
-      → IsNearer (5 * (s.tries - call.lost) - depth phase) (next_of s call phase (seen_by shared call.server (action_of call.number phase)))
+      → IsNearer (5 * (s.tries - call.lost) - depth phase) (next_of s call phase (seen_by s shared call.server (action_of call.number phase)))
   nearer shared Start =
       let found = server_at shared.servers call.server in
       let all : 5 * (s.tries - call.lost) ≡ 5 * (s.tries - call.lost) - 0 = omega arith in
@@ -150,11 +151,11 @@ module _ (s : Settings) (call : Call) (left : call.lost < s.tries) where
       subst P all (begun-from_start found)
   nearer shared (Read found mark answer) =
       nearer-won _ (writes (Exchange found mark) (word.Server (server_at shared.servers call.server))) (Answers answer) (omega (arith, left)) (omega (arith, left))
-  nearer shared (AtThreshold found) = nearer-at_threshold found shared.slots
+  nearer shared (AtThreshold found) = nearer-at_threshold found (slots_at shared.slots (group_of s call.server))
   nearer shared (Limit found) =
       nearer-won _ (same_server found (server_at shared.servers call.server)) (Answers reply.Full) (omega (arith, left)) (omega (arith, left))
   nearer shared (Reserving found slots) =
-      nearer-won _ (writes (Reserve slots) (word.Soft shared.slots)) (goes call (Holding found)) (omega (arith, left)) (omega (arith, left))
+      nearer-won _ (writes (Reserve slots) (word.Soft (slots_at shared.slots (group_of s call.server)))) (goes call (Holding found)) (omega (arith, left)) (omega (arith, left))
   nearer shared (Holding found) =
       let before = 5 * (s.tries - call.lost) - 3 in
       cond_both (writes (Exchange found (Soft call.number)) (word.Server (server_at shared.servers call.server))) (goes call Firming) (goes call Losing) (IsNearer before)

@@ -13,7 +13,7 @@ use Rattle.tko_runs.specs.declared.run.event.Event.{Event}
 use Rattle.tko_runs.specs.declared.run.event.Event.TheVariants.{Begin, Step}
 use Rattle.tko_runs.specs.States.{CanCome, HasCall, RunState, entry_at, moment_of, number_of, state_after, written, wrote}
 use Rattle.tko_runs.specs.CheckStates.{AllValid, HasBegun, HasEntered, HasFollowed, IsCheckOf}
-use Rattle.tko_runs.specs.Words.{CanLeave, CanLeaveServer, IsValid}
+use Rattle.tko_runs.specs.Words.{CanLeave, CanLeaveServer, IsValid, Room, room_at}
 use Rattle.tko_steps.specs.declared.step.Kind.{Kind}
 use Rattle.tko_steps.specs.declared.step.Kind.TheVariants as kind
 use Rattle.tko_steps.specs.declared.step.Place.{Place}
@@ -40,20 +40,20 @@ left-valid s held kind.Shift found left can valid = absurd can
 left-valid s held kind.Give found left can valid = absurd can
 left-valid s held kind.Enrol found left can valid = absurd can
 
-written-valid : (s : Settings) (held : ℕ) (servers : List ServerState) (by : Kind) (at : Place) (found left : Word)
+written-valid : (s : Settings) (room : Room) (servers : List ServerState) (by : Kind) (at : Place) (found left : Word)
     → AllValid s servers → ((server : ℕ) → at ≡ place.Server server → (server < length servers) × (found ≡ word.Server (server_at servers server)))
-    → CanLeave s held by found left → AllValid s (written servers at left)
-written-valid s held servers by (place.Server server) (word.Server found) (word.Server left) valid finds can =
+    → CanLeave s room by found left → AllValid s (written servers at left)
+written-valid s room servers by (place.Server server) (word.Server found) (word.Server left) valid finds can =
     let here = finds server refl in
     let same : found ≡ server_at servers server = cc here.1 in
     All-set (IsValid s) servers server left
-    (left-valid s held by found left can (subst (IsValid s) (sym same) (valid server _ here.0))) valid
-written-valid s held servers by (place.Server server) (word.Soft found) (word.Server left) valid finds can = absurd can
-written-valid s held servers by (place.Server server) (word.Enrolled found) (word.Server left) valid finds can = absurd can
-written-valid s held servers by (place.Server server) found (word.Soft left) valid finds can = valid
-written-valid s held servers by (place.Server server) found (word.Enrolled left) valid finds can = valid
-written-valid s held servers by place.Soft found left valid finds can = valid
-written-valid s held servers by place.Enrolment found left valid finds can = valid
+    (left-valid s room.held by found left can (subst (IsValid s) (sym same) (valid server _ here.0))) valid
+written-valid s room servers by (place.Server server) (word.Soft found) (word.Server left) valid finds can = absurd can
+written-valid s room servers by (place.Server server) (word.Enrolled found) (word.Server left) valid finds can = absurd can
+written-valid s room servers by (place.Server server) found (word.Soft left) valid finds can = valid
+written-valid s room servers by (place.Server server) found (word.Enrolled left) valid finds can = valid
+written-valid s room servers by (place.Soft group) found left valid finds can = valid
+written-valid s room servers by place.Enrolment found left valid finds can = valid
 
 -- The three kinds of events.
 
@@ -146,8 +146,8 @@ IsCheckOf-followed past old mid thread by at found left answer is steps come did
     let number : old.steps + 1 ≡ steps_in past + count_of by = ap (λ n. n + 1) is.steps ∙ ap (λ n. steps_in past + n) one in
     rw (did.settings, did.run, steps) (record {
       settings = is.settings;
-      valid = written-valid old.settings old.run.words.slots.held old.run.words.servers by at found left is.valid
-          (λ server there. (rw there at can.1, finds-server old.run at found server did.follows.finds there)) did.follows.can;
+      valid = written-valid old.settings (room_at old.settings old.run.words.slots at) old.run.words.servers by at found left is.valid
+          (λ server there. (rw there at can.1.0, finds-server old.run at found server did.follows.finds there)) did.follows.can;
       steps = did.steps ∙ number;
       calls = AreCalls-stepped old.settings old.run past old.calls mid.calls did.effect answer at left step is.calls did.grows
           can.0.0 can.0.1 refl

@@ -156,7 +156,7 @@ pub length-written : (servers : List ServerState) (at : Place) (left : Word) →
 length-written servers (place.Server server) (word.Server left) = length-set servers server left
 length-written servers (place.Server server) (word.Soft slots) = refl
 length-written servers (place.Server server) (word.Enrolled count) = refl
-length-written servers place.Soft left = refl
+length-written servers (place.Soft group) left = refl
 length-written servers place.Enrolment left = refl
 
 -- a thread took a step of its call

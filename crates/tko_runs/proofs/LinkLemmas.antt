@@ -34,6 +34,7 @@ use Rattle.tko_model.specs.Tracker.{server_at}
 use Rattle.tko_steps.proofs.EveryCallLemmas.{HoldsBoth, along}
 use Rattle.tko_steps.proofs.LegalLemmas.{Knows}
 use Rattle.tko_steps.proofs.WiringLemmas.{begun, stepped_from}
+use Rattle.tko_runs.specs.Words.{CanLeave, room_at}
 
 -- Events, one more at the end.
 
@@ -151,7 +152,7 @@ module _ (s : Settings) (w : World) (thread : ℕ) (call : Call) (phase : Phase)
   act = action_of call.number phase
 
   abbrev at_place : Place
-  at_place = place_of call.server act
+  at_place = place_of w.core.settings call.server act
 
   abbrev found_word : Word
   found_word = word_at w.core.shared at_place
@@ -165,19 +166,20 @@ module _ (s : Settings) (w : World) (thread : ℕ) (call : Call) (phase : Phase)
   abbrev step_event : Event
   step_event = event.Step thread (kind_of act) at_place found_word left_word (answer_of decision)
 
-  claimed-act : Acts s w.core.shared call.server act → thread_at w.core thread ≡ InCall call phase
+  claimed-act : Acts w.core.settings w.core.shared call.server act → thread_at w.core thread ≡ InCall call phase
       → claimed_after (claim_of w) step_event ≡ claim_of (stepped_from w thread (InCall call phase))
   claimed-act acts stands =
       rw (acts.steps, acts.servers, acts.slots, acts.wins, entry-at w.core thread (InCall call phase) stands, answered-decided call decision, map-set)
       refl
 
   Linked-act : Linked s w → thread < length w.core.threads → thread_at w.core thread ≡ InCall call phase
-      → Acts s w.core.shared call.server act → Linked s (stepped_from w thread (InCall call phase))
-  Linked-act linked inside stands acts =
+      → w.core.settings ≡ s → Acts w.core.settings w.core.shared call.server act → Linked s (stepped_from w thread (InCall call phase))
+  Linked-act linked inside stands under acts =
+      let P : Settings → Type 0 = λ it. CanLeave it (room_at it w.core.shared.slots at_place) (kind_of act) found_word left_word in
       let has = subst HasCall (sym (entry-at w.core thread (InCall call phase) stands)) tt in
       Linked-event s w (stepped_from w thread (InCall call phase)) step_event linked
       (rw acts.steps ((inside-at w.core thread inside, has), acts.place))
-      (record { finds = refl; can = acts.can })
+      (record { finds = refl; can = subst P under acts.can })
       (claimed-act acts stands)
 
 -- the step of the call, from what holds in each run
@@ -188,8 +190,7 @@ Linked-called s w thread call phase both linked inside stands =
     let mine = rw stands at (both.1.stand thread) in
     let K : Settings → Type 0 = λ settings. Knows settings thread call mine.0 (server_at (abstract_of w.core) call.server) phase in
     let does = acts w.core thread call both.0.core inside mine.0 phase stands (subst K (sym both.0.settings) mine.2) in
-    let P : Settings → Type 0 = λ settings. Acts settings w.core.shared call.server (action_of call.number phase) in
-    Linked-act s w thread call phase linked inside stands (subst P both.0.settings does)
+    Linked-act s w thread call phase linked inside stands both.0.settings does
 
 -- each run is what its events claim
 pub Linked-run : (s : Settings) → IsWithinRanges s → (turns : List Turn) → Linked s (run s turns)

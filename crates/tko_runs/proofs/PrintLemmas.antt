@@ -14,7 +14,7 @@ use Rattle.tko_runs.specs.declared.checking.order.Point.{Point}
 use Rattle.tko_runs.specs.declared.run.SkippedTurns.{SkippedTurns}
 use Rattle.tko_runs.proofs.EventLemmas.{count_of-le}
 use Rattle.tko_steps.specs.declared.phase.Slots.{Slots}
-use Rattle.tko_steps.specs.Core.{Shared, is_call_step}
+use Rattle.tko_steps.specs.Core.{Shared, is_call_step, slots_at}
 
 -- an event is at most one step
 steps_of-le : (event : Event) → steps_of event ≤ 1
@@ -115,7 +115,7 @@ pub run_told :
     → skips ≡ run.skips
     → words ≡ (state_after_all (opened_state run.settings) events).words
     → servers ≡ words.servers
-    → slots ≡ words.slots
+    → slots ≡ slots_at words.slots 0
     → opening ≡ []
     → told ≡ opening ++ lines_text 1 0 events skips
     → ordered ≡ told ++ order_text 1 order
@@ -127,5 +127,5 @@ unfolding run_text
 run_told run order events skips words servers slots opening told ordered served soft text is_events is_skips is_words is_servers is_slots is_opening is_told is_ordered is_served is_soft is_text =
     let left : Shared = (state_after_all (opened_state run.settings) run.events).words in
     let whole = regroup (lines_text 1 0 run.events run.skips) (order_text 1 order) (servers_text 0 left.servers)
-    (line (codes "soft " ++ slots_text left.slots)) (line (codes "ok")) in
+    (line (codes "soft " ++ slots_text (slots_at left.slots 0))) (line (codes "ok")) in
     rw (is_text, is_soft, is_served, is_ordered, is_told, is_opening, is_slots, is_servers, is_words, is_events, is_skips) whole

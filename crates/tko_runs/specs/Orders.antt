@@ -10,7 +10,7 @@ use Rattle.tko_runs.specs.declared.checking.order.Point.TheVariants as point
 use Rattle.tko_runs.specs.declared.checking.RunFault.{RunFault}
 use Rattle.tko_runs.specs.declared.checking.RunFault.TheVariants as fault
 use Rattle.tko_runs.specs.States.{RunState, calls_in, claimed, opened_state, state_after}
-use Rattle.tko_runs.specs.Words.{CanLeave}
+use Rattle.tko_runs.specs.Words.{CanLeave, room_at}
 use Rattle.tko_runs.specs.Runs.{RunData}
 use Rattle.tko_steps.specs.declared.step.Kind.{Kind}
 use Rattle.tko_steps.specs.declared.step.Place.{Place}
@@ -25,7 +25,7 @@ use Rattle.tko_steps.specs.Runs.{Call, OwnStep, steps_in}
 pub record FollowsAt
     (s : Settings) (state : RunState) (kind : Kind) (at : Place) (found left : Word) : Type 0 where
   pub finds : found ≡ word_at state.words at
-  pub can : CanLeave s state.words.slots.held kind found left
+  pub can : CanLeave s (room_at s state.words.slots at) kind found left
 
 abbrev pub Follows : Settings → RunState → Event → Type 0
 Follows s state (Begin thread op server) = Unit {0}

@@ -22,7 +22,7 @@ use Rattle.tko_steps.specs.declared.step.Place.TheVariants as place
 use Rattle.tko_steps.specs.declared.phase.Slots.{Slots}
 use Rattle.tko_steps.specs.declared.step.Word.{Word}
 use Rattle.tko_steps.specs.declared.step.Word.TheVariants as word
-use Rattle.tko_steps.specs.Core.{is_call_step}
+use Rattle.tko_steps.specs.Core.{is_call_step, slots_at}
 use Rattle.tko_steps.specs.Runs.{count_of}
 
 abbrev pub line : List ℕ → List ℕ
@@ -35,7 +35,7 @@ begin_text thread op server =
 
 abbrev pub place_text : Place → List ℕ
 place_text (place.Server server) = codes "server:" ++ decimal server
-place_text place.Soft = codes "soft"
+place_text (place.Soft group) = codes "soft"
 place_text place.Enrolment = codes "enrolment"
 
 abbrev pub kind_text : Kind → List ℕ
@@ -155,4 +155,4 @@ run_text run order =
     lines_text 1 0 run.events run.skips
     ++ (order_text 1 order
     ++ (servers_text 0 words.servers
-    ++ (line (codes "soft " ++ slots_text words.slots) ++ line (codes "ok"))))
+    ++ (line (codes "soft " ++ slots_text (slots_at words.slots 0)) ++ line (codes "ok"))))

@@ -66,8 +66,8 @@ abbrev pub written : List ServerState → Place → Word → List ServerState
 written servers (place.Server server) (word.Server left) = slice_set servers server left
 written servers at left = servers
 
-abbrev pub written_slots : Slots → Place → Word → Slots
-written_slots slots place.Soft (word.Soft left) = left
+abbrev pub written_slots : List Slots → Place → Word → List Slots
+written_slots slots (place.Soft group) (word.Soft left) = slice_set slots group left
 written_slots slots at left = slots
 
 abbrev pub with_word : RunState → Place → Word → RunState
@@ -120,11 +120,19 @@ HasCall NotEnrolled = ⊥
 HasCall (Idle number) = ⊥
 HasCall (InCall number) = Unit {0}
 
+-- the server of this place is there, if it is a server's
+abbrev pub HasServer : List ServerState → Place → Type 0
+HasServer servers (place.Server server) = server < length servers
+HasServer servers at = Unit {0}
+
+-- the group of this place is there, if it is a group's
+abbrev pub HasGroup : List Slots → Place → Type 0
+HasGroup slots (place.Soft group) = group < length slots
+HasGroup slots at = Unit {0}
+
 -- there is such a place
-abbrev pub IsPlace : List ServerState → Place → Type 0
-IsPlace servers (place.Server server) = server < length servers
-IsPlace servers place.Soft = Unit {0}
-IsPlace servers place.Enrolment = Unit {0}
+abbrev pub IsPlace : Shared → Place → Type 0
+IsPlace words at = HasServer words.servers at × HasGroup words.slots at
 
 -- an enrolment finds how many threads are enrolled, leaves one more, and has no answer
 pub record IsEnrolment
@@ -139,7 +147,7 @@ pub record IsEnrolment
 abbrev pub CanStep : Bool → RunState → ℕ → Place → Word → Word → Option Reply → Type 0
 CanStep true state thread at found left answer =
     ((thread < length state.threads) × HasCall (entry_at state thread))
-    × IsPlace state.words.servers at
+    × IsPlace state.words at
 CanStep false state thread at found left answer =
     ((thread < length state.threads) × (entry_at state thread ≡ NotEnrolled))
     × IsEnrolment state.words.enrolled at found left answer

@@ -1,17 +1,21 @@
 -- What a step of each kind can leave of the word that it finds, whoever takes it: the words alone
--- decide, that one and how many slots the soft word says are held. Whether the call may do that, as
+-- decide, that one and what the soft word of its group says. Whether the call may do that, as
 -- on a worn server, is for the call to answer.
-use Rattle.std.specs.Prelude.{◌≡◌, ℕ, ◌+◌, ◌<◌, ◌⊎◌}
+use Rattle.std.specs.Prelude.{◌≡◌, ℕ, ◌+◌, ◌<◌, ◌⊎◌, List}
 use Rattle.tko_model.specs.declared.mark.Mark.{Mark}
 use Rattle.tko_model.specs.declared.mark.Mark.TheVariants.{Up, Soft, Hard}
 use Rattle.tko_model.specs.declared.settings.Settings.{Settings}
 use Rattle.tko_model.specs.declared.state.ServerState.{ServerState}
 use Rattle.tko_word.specs.Words.{IsMarkOf, stamp_end}
+use Rattle.tko_steps.specs.declared.step.Place.{Place}
+use Rattle.tko_steps.specs.declared.step.Place.TheVariants as place
 use Rattle.tko_steps.specs.declared.phase.Slots.{Slots}
 use Rattle.tko_steps.specs.declared.step.Kind.{Kind}
 use Rattle.tko_steps.specs.declared.step.Kind.TheVariants as kind
 use Rattle.tko_steps.specs.declared.step.Word.{Word}
 use Rattle.tko_steps.specs.declared.step.Word.TheVariants as word
+use Rattle.tko_model.specs.Groups.{group_of, limit_of}
+use Rattle.tko_steps.specs.Core.{slots_at}
 
 -- which kind of exchange leaves which mark in place of another: a count leaves an unmarked server
 -- unmarked, a mark marks it for a thread, softly while a slot is held, and an own step clears a
@@ -53,10 +57,10 @@ CanLeaveServer s held kind.Give found left = ⊥
 CanLeaveServer s held kind.Enrol found left = ⊥
 
 -- one more slot is held, where one was left
-pub record IsReserved (s : Settings) (found left : Slots) : Type 0 where
+pub record IsReserved (limit : ℕ) (found left : Slots) : Type 0 where
   pub firm : left.firm ≡ found.firm
   pub held : left.held ≡ found.held + 1
-  pub room : found.firm + found.held < s.limit
+  pub room : found.firm + found.held < limit
 
 -- a held slot became a settled mark
 pub record IsSettled (found left : Slots) : Type 0 where
@@ -69,25 +73,44 @@ pub record IsGiven (found left : Slots) : Type 0 where
   pub held : found.held ≡ left.held + 1
 
 -- to loosen a settled mark is to undo its settling
-abbrev pub CanLeaveSlots : Settings → Kind → Slots → Slots → Type 0
-CanLeaveSlots s kind.Look found left = left ≡ found
-CanLeaveSlots s kind.Reserve found left = (left ≡ found) ⊎ IsReserved s found left
-CanLeaveSlots s kind.Shift found left = IsSettled found left ⊎ IsSettled left found
-CanLeaveSlots s kind.Give found left = IsGiven found left
-CanLeaveSlots s kind.Count found left = ⊥
-CanLeaveSlots s kind.Mark found left = ⊥
-CanLeaveSlots s kind.Own found left = ⊥
-CanLeaveSlots s kind.Enrol found left = ⊥
+abbrev pub CanLeaveSlots : ℕ → Kind → Slots → Slots → Type 0
+CanLeaveSlots limit kind.Look found left = left ≡ found
+CanLeaveSlots limit kind.Reserve found left = (left ≡ found) ⊎ IsReserved limit found left
+CanLeaveSlots limit kind.Shift found left = IsSettled found left ⊎ IsSettled left found
+CanLeaveSlots limit kind.Give found left = IsGiven found left
+CanLeaveSlots limit kind.Count found left = ⊥
+CanLeaveSlots limit kind.Mark found left = ⊥
+CanLeaveSlots limit kind.Own found left = ⊥
+CanLeaveSlots limit kind.Enrol found left = ⊥
 
--- a step of this kind can leave this of a word, while `held` slots are held
-abbrev pub CanLeave : Settings → ℕ → Kind → Word → Word → Type 0
-CanLeave s held by (word.Server found) (word.Server left) = CanLeaveServer s held by found left
-CanLeave s held by (word.Server found) (word.Soft left) = ⊥
-CanLeave s held by (word.Server found) (word.Enrolled left) = ⊥
-CanLeave s held by (word.Soft found) (word.Soft left) = CanLeaveSlots s by found left
-CanLeave s held by (word.Soft found) (word.Server left) = ⊥
-CanLeave s held by (word.Soft found) (word.Enrolled left) = ⊥
-CanLeave s held by (word.Enrolled found) (word.Enrolled left) =
+-- the group of a word: that of its server, or the one that a soft word counts
+abbrev pub group_at : Settings → Place → ℕ
+group_at s (place.Server server) = group_of s server
+group_at s (place.Soft group) = group
+group_at s place.Enrolment = 0
+
+-- how many slots of a group are held, and how many marks and slots it may have
+pub record Room : Type 0 where
+  pub held : ℕ
+  pub limit : ℕ
+
+-- that of the group of a place
+abbrev pub room_at : Settings → List Slots → Place → Room
+room_at s slots at =
+    record {
+      held = (slots_at slots (group_at s at)).held;
+      limit = limit_of s (group_at s at);
+    }
+
+-- a step of this kind can leave this of a word, where the group of the word has this room
+abbrev pub CanLeave : Settings → Room → Kind → Word → Word → Type 0
+CanLeave s room by (word.Server found) (word.Server left) = CanLeaveServer s room.held by found left
+CanLeave s room by (word.Server found) (word.Soft left) = ⊥
+CanLeave s room by (word.Server found) (word.Enrolled left) = ⊥
+CanLeave s room by (word.Soft found) (word.Soft left) = CanLeaveSlots room.limit by found left
+CanLeave s room by (word.Soft found) (word.Server left) = ⊥
+CanLeave s room by (word.Soft found) (word.Enrolled left) = ⊥
+CanLeave s room by (word.Enrolled found) (word.Enrolled left) =
     (by ≡ kind.Enrol) × (left ≡ found + 1)
-CanLeave s held by (word.Enrolled found) (word.Server left) = ⊥
-CanLeave s held by (word.Enrolled found) (word.Soft left) = ⊥
+CanLeave s room by (word.Enrolled found) (word.Server left) = ⊥
+CanLeave s room by (word.Enrolled found) (word.Soft left) = ⊥

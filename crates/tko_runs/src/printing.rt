@@ -30,7 +30,7 @@ impl Run {
         append_order(&mut out, order.points())?;
         let state = state_left(alloc, self.settings(), events)?;
         append_servers(&mut out, state.servers())?;
-        append_soft_word(&mut out, state.slots())?;
+        append_soft_word(&mut out, state.slots(0))?;
         out.extend_from_slice(b"ok\n")?;
         Ok(out)
     }

@@ -1,6 +1,6 @@
 -- What holds of the core is kept by begins and steps.
-use Rattle.std.proofs.Common.{◌≡◌, ℕ, ◌+◌, ◌-◌, ◌<◌, ◌≤◌, Bool, true, false, cond, List, [], ◌∷◌, length, get_or, set, All, Some, None, count_by, refl, sym, ap, ◌∙◌, subst, inl, inr, ⊎_elim, arith, length-set, get_or-set_same, get_or-set_other}
-use Rattle.std.proofs.lemmas.Bool.{cases_Bool, cases_eq, le-ltb}
+use Rattle.std.proofs.Common.{◌≡◌, ℕ, ◌+◌, ◌-◌, ◌<◌, ◌≤◌, Bool, true, false, ◌&&◌, cond, List, [], ◌∷◌, length, get_or, set, replicate, All, Some, None, count_by, refl, sym, ap, ◌∙◌, subst, inl, inr, ⊎_elim, arith, length-set, get_or-set_same, get_or-set_other}
+use Rattle.std.proofs.lemmas.Bool.{and_parts, cases_Bool, cases_eq, le-ltb}
 use Rattle.std.proofs.lemmas.List.{length-replicate}
 use Rattle.std.proofs.lemmas.List.Elements.{All-from_get_or, All-head, All-replicate, All-set, All-tail}
 use Rattle.std.proofs.lemmas.List.Sums.{count_by-le-length, sum_by-cons, sum_by-le-sum_by}
@@ -12,7 +12,9 @@ use Rattle.tko_model.specs.declared.mark.Reply.TheVariants as reply
 use Rattle.tko_model.specs.declared.settings.Settings.{Settings}
 use Rattle.tko_model.specs.declared.state.ServerState.{ServerState}
 use Rattle.tko_model.specs.Ranges.{IsWithinRanges}
-use Rattle.tko_model.specs.Tracker.{IsFit, is_soft, server_at, softs}
+use Rattle.tko_model.specs.Groups.{group_of, groups, is_in, limit_of}
+use Rattle.tko_model.specs.Tracker.{IsFit, is_soft, server_at, softs_in}
+use Rattle.tko_model.proofs.GroupLemmas.{group_of-lt, limit_of-le, softs_in-replicate, softs_in-set}
 use Rattle.tko_steps.specs.declared.phase.Call.{Call}
 use Rattle.tko_steps.specs.declared.phase.Phase.{Phase}
 use Rattle.tko_steps.specs.declared.phase.Phase.TheVariants.{Start, Read, AtThreshold, Limit, Reserving, Holding, Firming, Losing, Loosening, Loosened, Emptied}
@@ -23,12 +25,12 @@ use Rattle.tko_steps.specs.declared.table.Action.{Action}
 use Rattle.tko_steps.specs.declared.table.Action.TheVariants.{LookAtServer, LookAtSlots, Exchange, Reserve, Settle, Loosen, Give}
 use Rattle.tko_steps.specs.declared.table.Decision.{Decision}
 use Rattle.tko_steps.specs.declared.table.Decision.TheVariants.{Goes, Answers}
-use Rattle.tko_steps.specs.Core.{owner_of, CanAct, CoreState, IsPlace, Shared, abstract_of, after_act, after_enrol, has_number, is_enrolled, number_of, opened_core, thread_at, with_thread}
+use Rattle.tko_steps.specs.Core.{owner_of, CanAct, CoreState, IsPlace, Shared, abstract_of, after_act, after_enrol, has_number, is_enrolled, no_slots, number_of, opened_core, slots_at, thread_at, with_thread}
 use Rattle.tko_steps.specs.Steps.{begun_by, place_of, state_after}
 use Rattle.tko_word.specs.Words.{IsMark, stamp_end}
-use Rattle.tko_steps.specs.Invariant.{IsCore, IsFoundBy, IsOwnOrUp, IsPhase, IsThread, IsWrite, holds, holds_at, is_loose, is_loose_at}
+use Rattle.tko_steps.specs.Invariant.{IsCore, IsFoundBy, IsGroup, IsOwnOrUp, IsPhase, IsThread, IsWrite, firm_at, held_at, holds, holds_at, holds_in, is_loose, is_loose_at, is_loose_in}
 use Rattle.tko_steps.specs.Table.{action_of, goes, lost_try, same_server, same_slots}
-use Rattle.tko_steps.proofs.CountLemmas.{bit, count_by-replicate, count_by-set, owner-replicate, unread}
+use Rattle.tko_steps.proofs.CountLemmas.{AreCounts, bit, counts-same, counts-set, count_by-replicate, get_or-replicate_same, holds-other, holds-own, in_own, IsOn, loose-other, loose-own, owner-replicate, soft-other, soft-own, unread}
 use Rattle.tko_steps.proofs.ThreadLemmas.{OneEach, OneEach-enrol, count_by-enrol, count_by-moved, count_by-set_same, has_number-from, number-lt, number-once, one-le-count_by}
 use Rattle.tko_steps.proofs.TableLemmas.{IsCalm, IsCalm-at_limit, IsCalm-at_threshold, IsCalm-from_start, IsCalm-lost_try, IsDecided, eq-same_server, same_server-true, same_slots-true}
 
@@ -43,25 +45,25 @@ IsFoundBy-kept number now new found (Hard owner) kept is by =
     let mine : owner_of now.mark ≡ Some number = ap (λ (server : ServerState). owner_of server.mark) by.1 ∙ ap owner_of is ∙ ap Some by.0 in
     (by.0, kept mine ∙ by.1)
 
-pub IsPhase-kept : (s : Settings) (number : ℕ) (now new : ServerState) (phase : Phase) → (owner_of now.mark ≡ Some number → new ≡ now)
-    → IsPhase s number now phase → IsPhase s number new phase
-IsPhase-kept s number now new Start kept knows = tt
-IsPhase-kept s number now new (Read found mark answer) kept knows =
-    (knows.0, IsFoundBy-kept number now new found found.mark kept refl knows.1)
-IsPhase-kept s number now new (AtThreshold found) kept knows = knows
-IsPhase-kept s number now new (Limit found) kept knows = knows
-IsPhase-kept s number now new (Reserving found slots) kept knows = knows
-IsPhase-kept s number now new (Holding found) kept knows = knows
-IsPhase-kept s number now new Firming kept knows =
+pub IsPhase-kept : (s : Settings) (call : Call) (now new : ServerState) (phase : Phase) → (owner_of now.mark ≡ Some call.number → new ≡ now)
+    → IsPhase s call now phase → IsPhase s call new phase
+IsPhase-kept s call now new Start kept knows = tt
+IsPhase-kept s call now new (Read found mark answer) kept knows =
+    (knows.0, IsFoundBy-kept call.number now new found found.mark kept refl knows.1)
+IsPhase-kept s call now new (AtThreshold found) kept knows = knows
+IsPhase-kept s call now new (Limit found) kept knows = knows
+IsPhase-kept s call now new (Reserving found slots) kept knows = knows
+IsPhase-kept s call now new (Holding found) kept knows = knows
+IsPhase-kept s call now new Firming kept knows =
     ap (λ (server : ServerState). server.mark) (kept (ap owner_of knows)) ∙ knows
-IsPhase-kept s number now new Losing kept knows = tt
-IsPhase-kept s number now new (Loosening found mark answer) kept knows =
-    let mine : owner_of now.mark ≡ Some number = ap (λ (server : ServerState). owner_of server.mark) knows.2 ∙ ap owner_of knows.1 in
+IsPhase-kept s call now new Losing kept knows = tt
+IsPhase-kept s call now new (Loosening found mark answer) kept knows =
+    let mine : owner_of now.mark ≡ Some call.number = ap (λ (server : ServerState). owner_of server.mark) knows.2 ∙ ap owner_of knows.1 in
     (knows.0, knows.1, kept mine ∙ knows.2)
-IsPhase-kept s number now new (Loosened found mark answer) kept knows =
-    let mine : owner_of now.mark ≡ Some number = ap (λ (server : ServerState). owner_of server.mark) knows.2 ∙ ap owner_of knows.1 in
+IsPhase-kept s call now new (Loosened found mark answer) kept knows =
+    let mine : owner_of now.mark ≡ Some call.number = ap (λ (server : ServerState). owner_of server.mark) knows.2 ∙ ap owner_of knows.1 in
     (knows.0, knows.1, kept mine ∙ knows.2)
-IsPhase-kept s number now new (Emptied answer) kept knows = tt
+IsPhase-kept s call now new (Emptied answer) kept knows = tt
 
 -- the server that was written had no mark, or that of the thread with this number
 abbrev pub IsFreeFor : ℕ → ServerState → Type 0
@@ -89,7 +91,7 @@ IsThread-kept s servers written number new (Idle own) free apart is = tt
 IsThread-kept s servers written number new (InCall call phase) free apart is = (
   rw length-set is.0,
   is.1,
-  IsPhase-kept s call.number (server_at servers call.server) (server_at (set servers written new) call.server) phase
+  IsPhase-kept s call (server_at servers call.server) (server_at (set servers written new) call.server) phase
       (server-kept servers written call.server number call.number new free (λ e. apart (ap Some e))) is.2,
 )
 
@@ -102,9 +104,10 @@ has_soft_at (Loosening found mark answer) = true
 has_soft_at (Loosened found mark answer) = true
 has_soft_at phase = false
 
-abbrev has_soft : ThreadState → Bool
-has_soft (InCall call phase) = has_soft_at phase
-has_soft state = false
+-- whether it is one of this group
+abbrev has_soft_in : Settings → ℕ → ThreadState → Bool
+has_soft_in s group (InCall call phase) = has_soft_at phase && is_in s group call.server
+has_soft_in s group state = false
 
 -- the server of such a call is its own soft mark
 abbrev IsBacked : List ServerState → ThreadState → Type 0
@@ -112,25 +115,25 @@ IsBacked servers (InCall call phase) =
     has_soft_at phase ≡ true → (call.server < length servers) × ((server_at servers call.server).mark ≡ Soft call.number)
 IsBacked servers state = Unit {0}
 
-IsBacked-phase : (s : Settings) (number : ℕ) (now : ServerState) (phase : Phase) → IsPhase s number now phase
-    → has_soft_at phase ≡ true → now.mark ≡ Soft number
-IsBacked-phase s number now Start knows e = cc
-IsBacked-phase s number now (Read found mark answer) knows e = cc
-IsBacked-phase s number now (AtThreshold found) knows e = cc
-IsBacked-phase s number now (Limit found) knows e = cc
-IsBacked-phase s number now (Reserving found slots) knows e = cc
-IsBacked-phase s number now (Holding found) knows e = cc
-IsBacked-phase s number now Firming knows e = knows
-IsBacked-phase s number now Losing knows e = cc
-IsBacked-phase s number now (Loosening found mark answer) knows e = ap (λ (server : ServerState). server.mark) knows.2 ∙ knows.1
-IsBacked-phase s number now (Loosened found mark answer) knows e = ap (λ (server : ServerState). server.mark) knows.2 ∙ knows.1
-IsBacked-phase s number now (Emptied answer) knows e = cc
+IsBacked-phase : (s : Settings) (call : Call) (now : ServerState) (phase : Phase) → IsPhase s call now phase
+    → has_soft_at phase ≡ true → now.mark ≡ Soft call.number
+IsBacked-phase s call now Start knows e = cc
+IsBacked-phase s call now (Read found mark answer) knows e = cc
+IsBacked-phase s call now (AtThreshold found) knows e = cc
+IsBacked-phase s call now (Limit found) knows e = cc
+IsBacked-phase s call now (Reserving found slots) knows e = cc
+IsBacked-phase s call now (Holding found) knows e = cc
+IsBacked-phase s call now Firming knows e = knows
+IsBacked-phase s call now Losing knows e = cc
+IsBacked-phase s call now (Loosening found mark answer) knows e = ap (λ (server : ServerState). server.mark) knows.2 ∙ knows.1
+IsBacked-phase s call now (Loosened found mark answer) knows e = ap (λ (server : ServerState). server.mark) knows.2 ∙ knows.1
+IsBacked-phase s call now (Emptied answer) knows e = cc
 
 IsBacked-thread : (s : Settings) (servers : List ServerState) (state : ThreadState) → IsThread s servers state → IsBacked servers state
 IsBacked-thread s servers NotEnrolled is = tt
 IsBacked-thread s servers (Idle number) is = tt
 IsBacked-thread s servers (InCall call phase) is =
-    λ e. (is.0, IsBacked-phase s call.number (server_at servers call.server) phase is.2 e)
+    λ e. (is.0, IsBacked-phase s call (server_at servers call.server) phase is.2 e)
 
 -- once the soft mark of one thread is taken away, those of the others are still theirs
 IsBacked-others : (servers : List ServerState) (server number : ℕ) (state : ThreadState)
@@ -160,43 +163,56 @@ AreApart-head state threads number apart named i inside same =
     let rest = one-le-count_by (has_number number) threads i NotEnrolled inside (has_number-from (get_or threads i NotEnrolled) number same) in
     omega (arith, apart number, sum_by-cons (λ it. bit (has_number number it)) state threads, first, rest)
 
-count_softs-cleared : (servers : List ServerState) (server number : ℕ) → server < length servers
-    → (server_at servers server).mark ≡ Soft number → softs (set servers server unread) + 1 ≡ softs servers
-count_softs-cleared servers server number inside mine =
-    let soft = λ (it : ServerState). is_soft it.mark in
-    omega (arith, count_by-set soft servers server unread unread inside, ap (λ mark. bit (is_soft mark)) mine)
+module _ (s : Settings) (group : ℕ) where
+  softs_in-cleared : (servers : List ServerState) (server number : ℕ) → server < length servers
+      → (server_at servers server).mark ≡ Soft number → is_in s group server ≡ true
+      → softs_in s group (set servers server unread) + 1 ≡ softs_in s group servers
+  softs_in-cleared servers server number inside mine here =
+      omega (
+        arith,
+        softs_in-set s group servers server unread inside,
+        ap (λ mark. bit (is_soft mark && is_in s group server)) mine,
+        ap bit here,
+      )
 
--- a thread that stands on no soft mark adds none
-has_soft-none : (state : ThreadState) (threads : List ThreadState) (marks : ℕ) → has_soft state ≡ false
-    → count_by has_soft threads ≤ marks → count_by has_soft (state ∷ threads) ≤ marks
-has_soft-none state threads marks none le =
-    omega (arith, sum_by-cons (λ it. bit (has_soft it)) state threads, ap bit none, le)
+  -- a thread that stands on no soft mark of the group adds none
+  has_soft-none : (state : ThreadState) (threads : List ThreadState) (marks : ℕ) → has_soft_in s group state ≡ false
+      → count_by (has_soft_in s group) threads ≤ marks → count_by (has_soft_in s group) (state ∷ threads) ≤ marks
+  has_soft-none state threads marks none le =
+      omega (arith, sum_by-cons (λ it. bit (has_soft_in s group it)) state threads, ap bit none, le)
 
--- so many calls stand on a soft mark of their own, so there are as many soft marks
-has_soft-le : (threads : List ThreadState) (servers : List ServerState) → AreApart threads → All (IsBacked servers) threads
-    → count_by has_soft threads ≤ softs servers
-has_soft-le [] servers apart all = omega arith
-has_soft-le (NotEnrolled ∷ threads) servers apart all =
-    has_soft-none NotEnrolled threads (softs servers) refl
-    (has_soft-le threads servers (AreApart-tail NotEnrolled threads apart) (All-tail (IsBacked servers) NotEnrolled threads all))
-has_soft-le (Idle number ∷ threads) servers apart all =
-    has_soft-none (Idle number) threads (softs servers) refl
-    (has_soft-le threads servers (AreApart-tail (Idle number) threads apart) (All-tail (IsBacked servers) (Idle number) threads all))
-has_soft-le (InCall call phase ∷ threads) servers apart all =
-    let state : ThreadState = InCall call phase in
-    let rest_apart = AreApart-tail state threads apart in
-    let rest = All-tail (IsBacked servers) state threads all in
-    elim (cases_Bool (has_soft_at phase)) [
-      | inl has ↦
-          let mine = All-head (IsBacked servers) state threads all has in
-          let cleared = set servers call.server unread in
-          let still : All (IsBacked cleared) threads = All-from_get_or (IsBacked cleared) threads NotEnrolled (λ i inside.
-          IsBacked-others servers call.server call.number (get_or threads i NotEnrolled) mine.1
-          (AreApart-head state threads call.number apart refl i inside) (rest i NotEnrolled inside)) in
-          let fewer = has_soft-le threads cleared rest_apart still in
-          omega (arith, fewer, count_softs-cleared servers call.server call.number mine.0 mine.1, sum_by-cons (λ it. bit (has_soft it)) state threads, ap bit has)
-      | inr lacks ↦ has_soft-none state threads (softs servers) lacks (has_soft-le threads servers rest_apart rest)
-    ]
+  -- so many calls stand on a soft mark of their own in the group, so there are as many soft marks
+  has_soft-le : (threads : List ThreadState) (servers : List ServerState) → AreApart threads → All (IsBacked servers) threads
+      → count_by (has_soft_in s group) threads ≤ softs_in s group servers
+  has_soft-le [] servers apart all = omega arith
+  has_soft-le (NotEnrolled ∷ threads) servers apart all =
+      has_soft-none NotEnrolled threads (softs_in s group servers) refl
+      (has_soft-le threads servers (AreApart-tail NotEnrolled threads apart) (All-tail (IsBacked servers) NotEnrolled threads all))
+  has_soft-le (Idle number ∷ threads) servers apart all =
+      has_soft-none (Idle number) threads (softs_in s group servers) refl
+      (has_soft-le threads servers (AreApart-tail (Idle number) threads apart) (All-tail (IsBacked servers) (Idle number) threads all))
+  has_soft-le (InCall call phase ∷ threads) servers apart all =
+      let state : ThreadState = InCall call phase in
+      let rest_apart = AreApart-tail state threads apart in
+      let rest = All-tail (IsBacked servers) state threads all in
+      elim (cases_Bool (has_soft_in s group state)) [
+        | inl has ↦
+            let parts = and_parts (has_soft_at phase) (is_in s group call.server) has in
+            let mine = All-head (IsBacked servers) state threads all parts.0 in
+            let cleared = set servers call.server unread in
+            let still : All (IsBacked cleared) threads = All-from_get_or (IsBacked cleared) threads NotEnrolled (λ i inside.
+            IsBacked-others servers call.server call.number (get_or threads i NotEnrolled) mine.1
+            (AreApart-head state threads call.number apart refl i inside) (rest i NotEnrolled inside)) in
+            let fewer = has_soft-le threads cleared rest_apart still in
+            omega (
+              arith,
+              fewer,
+              softs_in-cleared servers call.server call.number mine.0 mine.1 parts.1,
+              sum_by-cons (λ it. bit (has_soft_in s group it)) state threads,
+              ap bit has,
+            )
+        | inr lacks ↦ has_soft-none state threads (softs_in s group servers) lacks (has_soft-le threads servers rest_apart rest)
+      ]
 
 -- a loose mark is one that such a test passes
 loose_at-le : (test : Phase → Bool) → test Firming ≡ true
@@ -214,16 +230,25 @@ loose_at-le test firming loosened (Loosening found mark answer) = omega arith
 loose_at-le test firming loosened (Loosened found mark answer) = omega (arith, ap bit (loosened found mark answer))
 loose_at-le test firming loosened (Emptied answer) = omega arith
 
-loose-le : (state : ThreadState) → bit (is_loose state) ≤ bit (has_soft state)
-loose-le NotEnrolled = omega arith
-loose-le (Idle number) = omega arith
-loose-le (InCall call phase) = loose_at-le has_soft_at refl (λ found mark answer. refl) phase
+bit-and : (one other test : Bool) → bit one ≤ bit other → bit (one && test) ≤ bit (other && test)
+bit-and false other test le = omega arith
+bit-and true false test le = omega (arith, le)
+bit-and true true test le = omega arith
+
+loose-le : (s : Settings) (group : ℕ) (state : ThreadState) → bit (is_loose_in s group state) ≤ bit (has_soft_in s group state)
+loose-le s group NotEnrolled = omega arith
+loose-le s group (Idle number) = omega arith
+loose-le s group (InCall call phase) =
+    bit-and (is_loose_at phase) (has_soft_at phase) (is_in s group call.server)
+    (loose_at-le has_soft_at refl (λ found mark answer. refl) phase)
 
 -- a loose mark holds a slot
-pub loose-le-holds : (state : ThreadState) → bit (is_loose state) ≤ bit (holds state)
-loose-le-holds NotEnrolled = omega arith
-loose-le-holds (Idle number) = omega arith
-loose-le-holds (InCall call phase) = loose_at-le holds_at refl (λ found mark answer. refl) phase
+pub loose-le-holds : (s : Settings) (group : ℕ) (state : ThreadState) → bit (is_loose_in s group state) ≤ bit (holds_in s group state)
+loose-le-holds s group NotEnrolled = omega arith
+loose-le-holds s group (Idle number) = omega arith
+loose-le-holds s group (InCall call phase) =
+    bit-and (is_loose_at phase) (holds_at phase) (is_in s group call.server)
+    (loose_at-le holds_at refl (λ found mark answer. refl) phase)
 
 at_most_one_bit : (test : Bool) → cond test 1 0 ≤ 1
 at_most_one_bit true = omega arith
@@ -232,41 +257,92 @@ at_most_one_bit false = omega arith
 AreApart-each : (threads : List ThreadState) (enrolled : ℕ) → OneEach enrolled threads → AreApart threads
 AreApart-each threads enrolled each number = rw (each number) (at_most_one_bit _)
 
+-- ---- the groups
+
+-- what the soft word of the group of a server counts
+pub own-group : (core : CoreState) (server : ℕ) → IsCore core → IsGroup core (group_of core.settings server)
+own-group core server is = is.counts (group_of core.settings server) (group_of-lt core.settings server is.settings)
+
+-- that word is there
+pub group-there : (core : CoreState) (server : ℕ) → IsCore core → group_of core.settings server < length core.shared.slots
+group-there core server is = omega (arith, is.soft_words, group_of-lt core.settings server is.settings)
+
 -- one soft mark is settled where a call is about to loosen its own
 pub one-le-firm : (core : CoreState) (thread : ℕ) (call : Call) (found : ServerState) (mark : Mark) (answer : Reply) → IsCore core
     → thread < length core.threads → thread_at core thread ≡ InCall call (Loosening found mark answer)
-    → 0 < core.shared.slots.firm
+    → 0 < firm_at core (group_of core.settings call.server)
 one-le-firm core thread call found mark answer is inside stands =
+    let s = core.settings in
+    let group = group_of s call.server in
     let servers = abstract_of core in
     let old : ThreadState = InCall call (Loosening found mark answer) in
     let others = set core.threads thread NotEnrolled in
     let backed : All (IsBacked servers) core.threads = λ i d at.
     IsBacked-thread core.settings servers (get_or core.threads i d) (is.calls i d at) in
-    let most = has_soft-le core.threads servers (AreApart-each core.threads core.shared.enrolled is.numbers) backed in
-    let loose = count_by-moved is_loose core.threads thread old NotEnrolled inside stands in
-    let soft = count_by-moved has_soft core.threads thread old NotEnrolled inside stands in
-    let le = sum_by-le-sum_by (λ it. bit (is_loose it)) (λ it. bit (has_soft it)) others loose-le in
-    omega (arith, most, loose, soft, le, is.firm)
+    let most = has_soft-le s group core.threads servers (AreApart-each core.threads core.shared.enrolled is.numbers) backed in
+    let loose = count_by-moved (is_loose_in s group) core.threads thread old NotEnrolled inside stands in
+    let soft = count_by-moved (has_soft_in s group) core.threads thread old NotEnrolled inside stands in
+    let le = sum_by-le-sum_by (λ it. bit (is_loose_in s group it)) (λ it. bit (has_soft_in s group it)) others (loose-le s group) in
+    omega (arith, most, loose, soft, le, (own-group core call.server is).firm, ap bit (in_own s call.server))
 
 -- ---- one step
 
 -- what is counted of threads that changed state
 module _ (core : CoreState) (thread : ℕ) (old new : ThreadState) (is : IsCore core) (inside : thread < length core.threads)
     (stands : thread_at core thread ≡ old) (same_enrolled : is_enrolled new ≡ is_enrolled old)
-    (same_number : (number : ℕ) → has_number number new ≡ has_number number old) where
-  -- a step that writes no health word, and leaves these counts in the soft word
-  pub IsCore-slots : (slots : Slots) → IsThread core.settings (abstract_of core) new
-      → slots.held + bit (holds old) ≡ core.shared.slots.held + bit (holds new)
-      → slots.firm + bit (is_loose new) ≡ core.shared.slots.firm + bit (is_loose old)
-      → slots.firm + slots.held ≤ core.settings.limit
+    (same_number : (number : ℕ) → has_number number new ≡ has_number number old)
+    (server : ℕ) (on_old : IsOn server old) (on_new : IsOn server new) where
+  abbrev own : ℕ
+  own = group_of core.settings server
+
+  -- what is counted of another group stays
+  others-held : (group : ℕ) → (group ≡ own → ⊥)
+      → count_by (holds_in core.settings group) (set core.threads thread new) ≡ count_by (holds_in core.settings group) core.threads
+  others-held group apart =
+      count_by-set_same (holds_in core.settings group) core.threads thread old new inside stands
+      (holds-other core.settings server group new on_new apart ∙ sym (holds-other core.settings server group old on_old apart))
+
+  others-loose : (group : ℕ) → (group ≡ own → ⊥)
+      → count_by (is_loose_in core.settings group) (set core.threads thread new) ≡ count_by (is_loose_in core.settings group) core.threads
+  others-loose group apart =
+      count_by-set_same (is_loose_in core.settings group) core.threads thread old new inside stands
+      (loose-other core.settings server group new on_new apart ∙ sym (loose-other core.settings server group old on_old apart))
+
+  -- what is counted of the group
+  own-held : count_by (holds_in core.settings own) (set core.threads thread new) + bit (holds old)
+      ≡ count_by (holds_in core.settings own) core.threads + bit (holds new)
+  own-held =
+      omega (
+        arith,
+        count_by-moved (holds_in core.settings own) core.threads thread old new inside stands,
+        ap bit (holds-own core.settings server old on_old),
+        ap bit (holds-own core.settings server new on_new),
+      )
+
+  own-loose : count_by (is_loose_in core.settings own) (set core.threads thread new) + bit (is_loose old)
+      ≡ count_by (is_loose_in core.settings own) core.threads + bit (is_loose new)
+  own-loose =
+      omega (
+        arith,
+        count_by-moved (is_loose_in core.settings own) core.threads thread old new inside stands,
+        ap bit (loose-own core.settings server old on_old),
+        ap bit (loose-own core.settings server new on_new),
+      )
+
+  -- a step that writes no health word, and leaves these counts in the soft word of its group
+  pub IsCore-slots : (now : Slots) (slots : List Slots) → AreCounts core.shared.slots own now slots
+      → IsThread core.settings (abstract_of core) new
+      → now.held + bit (holds old) ≡ held_at core own + bit (holds new)
+      → now.firm + bit (is_loose new) ≡ firm_at core own + bit (is_loose old)
+      → now.firm + now.held ≤ limit_of core.settings own
       → IsCore (record {
         settings = core.settings;
         shared = record { servers = abstract_of core; slots = slots; enrolled = core.shared.enrolled };
         threads = set core.threads thread new;
       })
-  IsCore-slots slots knows held firm room =
-      let holding = count_by-moved holds core.threads thread old new inside stands in
-      let loose = count_by-moved is_loose core.threads thread old new inside stands in
+  IsCore-slots now slots counts knows held firm room =
+      let mine = own-group core server is in
+      let here = counts.here in
       record {
         settings = is.settings;
         count = is.count;
@@ -277,13 +353,28 @@ module _ (core : CoreState) (thread : ℕ) (old new : ThreadState) (is : IsCore 
             count_by-set_same (has_number number) core.threads thread old new inside stands (same_number number) ∙ is.numbers number;
         owners = is.owners;
         calls = All-set (IsThread core.settings (abstract_of core)) core.threads thread new knows is.calls;
-        held = omega (arith, holding, held, is.held);
-        firm = omega (arith, loose, firm, is.firm);
-        room = room;
+        soft_words = counts.count ∙ is.soft_words;
+        counts = λ group below.
+            ⊎_elim
+            (λ (same : group ≡ own).
+            rw same (record {
+              held = omega (arith, own-held, held, mine.held, ap (λ (it : Slots). it.held) here);
+              firm = omega (arith, own-loose, firm, mine.firm, ap (λ (it : Slots). it.firm) here);
+              room = omega (arith, room, ap (λ (it : Slots). it.held) here, ap (λ (it : Slots). it.firm) here);
+            }))
+            (λ (apart : group ≡ own → ⊥).
+            let theirs = is.counts group below in
+            let there = counts.others group apart in
+            record {
+              held = omega (arith, others-held group apart, theirs.held, ap (λ (it : Slots). it.held) there);
+              firm = omega (arith, others-loose group apart, theirs.firm, ap (λ (it : Slots). it.firm) there);
+              room = omega (arith, theirs.room, ap (λ (it : Slots). it.held) there, ap (λ (it : Slots). it.firm) there);
+            })
+            (cases_eq group own);
       }
 
   -- a step that writes the server's health word, which its thread may
-  pub IsCore-written : (number server : ℕ) (now : ServerState) → number_of old ≡ Some number → server < length (abstract_of core)
+  pub IsCore-written : (number : ℕ) (now : ServerState) → number_of old ≡ Some number → server < length (abstract_of core)
       → IsFreeFor number (server_at (abstract_of core) server)
       → ((other : ℕ) → owner_of now.mark ≡ Some other → other ≡ number)
       → IsFit core.settings now.mark now.stamp
@@ -295,11 +386,10 @@ module _ (core : CoreState) (thread : ℕ) (old new : ThreadState) (is : IsCore 
         shared = record { servers = set (abstract_of core) server now; slots = core.shared.slots; enrolled = core.shared.enrolled };
         threads = set core.threads thread new;
       })
-  IsCore-written number server now named on_server free owned fit knows held soft =
+  IsCore-written number now named on_server free owned fit knows held soft =
       let servers = abstract_of core in
-      let holding = count_by-moved holds core.threads thread old new inside stands in
-      let loose = count_by-moved is_loose core.threads thread old new inside stands in
-      let marks = count_by-set (λ (it : ServerState). is_soft it.mark) servers server now unread on_server in
+      let mine = own-group core server is in
+      let was = server_at servers server in
       let named_at : number_of (get_or core.threads thread NotEnrolled) ≡ Some number = ap number_of stands ∙ named in
       let drawn = number-lt core.threads core.shared.enrolled thread number is.numbers inside named_at in
       record {
@@ -330,9 +420,32 @@ module _ (core : CoreState) (thread : ℕ) (old new : ThreadState) (is : IsCore 
             (λ theirs. apart (number-once core.threads core.shared.enrolled thread i number is.numbers inside was named_at theirs))
             (is.calls i NotEnrolled was)))
             (cases_eq i thread));
-        held = omega (arith, holding, held, is.held);
-        firm = omega (arith, loose, marks, soft, is.firm);
-        room = is.room;
+        soft_words = is.soft_words;
+        counts = λ group below.
+            let marks = softs_in-set core.settings group servers server now on_server in
+            ⊎_elim
+            (λ (same : group ≡ own).
+            let own_marks = softs_in-set core.settings own servers server now on_server in
+            rw same (record {
+              held = omega (arith, own-held, held, mine.held);
+              firm = omega (arith, own-loose, own_marks, soft, mine.firm, soft-own core.settings server now, soft-own core.settings server was);
+              room = mine.room;
+            }))
+            (λ (apart : group ≡ own → ⊥).
+            let theirs = is.counts group below in
+            record {
+              held = others-held group apart ∙ theirs.held;
+              firm = omega (
+                arith,
+                others-loose group apart,
+                marks,
+                theirs.firm,
+                soft-other core.settings server group now apart,
+                soft-other core.settings server group was apart,
+              );
+              room = theirs.room;
+            })
+            (cases_eq group own);
       }
 
 -- ---- the step of each phase
@@ -352,8 +465,12 @@ number-after : (call : Call) (decision : Decision) (phase : Phase) (number : ℕ
 number-after call (Goes lost at) phase number = refl
 number-after call (Answers answer) phase number = refl
 
--- what holds once a step left these counts and this decision, and no health word changed
-abbrev pub decided_core : CoreState → ℕ → Call → Slots → Decision → CoreState
+on-after : (call : Call) (decision : Decision) → IsOn call.server (state_after call decision)
+on-after call (Goes lost phase) = refl
+on-after call (Answers answer) = tt
+
+-- what holds once a step left these soft words and this decision, and no health word changed
+abbrev pub decided_core : CoreState → ℕ → Call → List Slots → Decision → CoreState
 decided_core core thread call slots decision =
     record {
       settings = core.settings;
@@ -418,30 +535,68 @@ module _ (core : CoreState) (thread : ℕ) (call : Call) (is : IsCore core) (ins
   pub knows_at : (phase : Phase) → thread_at core thread ≡ InCall call phase → IsThread core.settings (abstract_of core) (InCall call phase)
   knows_at phase stands = subst (IsThread core.settings (abstract_of core)) stands (is.calls thread NotEnrolled inside)
 
+  -- the group of its server, the soft words, and that one of the group
+  abbrev own_group : ℕ
+  own_group = group_of core.settings call.server
+
+  abbrev all_slots : List Slots
+  all_slots = core.shared.slots
+
+  abbrev own_slots : Slots
+  own_slots = slots_at all_slots own_group
+
+  -- these counts in the soft word of the group
+  abbrev with_slots : Slots → List Slots
+  with_slots now = set all_slots own_group now
+
+  room-left : own_slots.firm + own_slots.held ≤ limit_of core.settings own_group
+  room-left = (own-group core call.server is).room
+
   -- a step that leaves every health word, whose decision is that
-  decided : (phase : Phase) (slots : Slots) (decision : Decision) → thread_at core thread ≡ InCall call phase
+  decided : (phase : Phase) (now : Slots) (slots : List Slots) (decision : Decision) → AreCounts all_slots own_group now slots
+      → thread_at core thread ≡ InCall call phase
       → IsDecided core.settings call (server_at (abstract_of core) call.server) decision
-      → slots.held + bit (holds_at phase) ≡ core.shared.slots.held + bit (holds (state_after call decision))
-      → slots.firm + bit (is_loose (state_after call decision)) ≡ core.shared.slots.firm + bit (is_loose_at phase)
-      → slots.firm + slots.held ≤ core.settings.limit
+      → now.held + bit (holds_at phase) ≡ own_slots.held + bit (holds (state_after call decision))
+      → now.firm + bit (is_loose (state_after call decision)) ≡ own_slots.firm + bit (is_loose_at phase)
+      → now.firm + now.held ≤ limit_of core.settings own_group
       → IsCore (decided_core core thread call slots decision)
-  decided phase slots decision stands knows held firm room =
+  decided phase now slots decision counts stands knows held firm room =
       IsCore-slots core thread (InCall call phase) (state_after call decision) is inside stands
-      (enrolled-after call decision) (number-after call decision phase) slots
+      (enrolled-after call decision) (number-after call decision phase) call.server refl (on-after call decision) now slots counts
       (IsThread-decided core.settings (abstract_of core) call decision (knows_at phase stands).0 knows) held firm room
+
+  -- the same, where the soft word stays
+  same_slots_decided : (phase : Phase) (decision : Decision) → thread_at core thread ≡ InCall call phase
+      → IsDecided core.settings call (server_at (abstract_of core) call.server) decision
+      → own_slots.held + bit (holds_at phase) ≡ own_slots.held + bit (holds (state_after call decision))
+      → own_slots.firm + bit (is_loose (state_after call decision)) ≡ own_slots.firm + bit (is_loose_at phase)
+      → IsCore (decided_core core thread call all_slots decision)
+  same_slots_decided phase decision stands knows held firm =
+      decided phase own_slots all_slots decision (counts-same all_slots own_group) stands knows held firm room-left
+
+  -- the same, where the soft word of the group is written
+  shifted : (phase : Phase) (now : Slots) (decision : Decision) → thread_at core thread ≡ InCall call phase
+      → IsDecided core.settings call (server_at (abstract_of core) call.server) decision
+      → now.held + bit (holds_at phase) ≡ own_slots.held + bit (holds (state_after call decision))
+      → now.firm + bit (is_loose (state_after call decision)) ≡ own_slots.firm + bit (is_loose_at phase)
+      → now.firm + now.held ≤ limit_of core.settings own_group
+      → IsCore (decided_core core thread call (with_slots now) decision)
+  shifted phase now decision stands knows held firm room =
+      decided phase now (with_slots now) decision (counts-set all_slots own_group now (group-there core call.server is)) stands knows
+      held firm room
 
   -- the same, where no slot was held and none is
   calm : (phase : Phase) (decision : Decision) → thread_at core thread ≡ InCall call phase
       → holds_at phase ≡ false → is_loose_at phase ≡ false
       → IsCalm core.settings call (server_at (abstract_of core) call.server) decision
-      → IsCore (decided_core core thread call core.shared.slots decision)
+      → IsCore (decided_core core thread call all_slots decision)
   calm phase decision stands held loose next =
-      decided phase core.shared.slots decision stands next.decided
-      (omega (arith, ap bit held, ap bit next.holds)) (omega (arith, ap bit loose, ap bit next.loose)) is.room
+      same_slots_decided phase decision stands next.decided
+      (omega (arith, ap bit held, ap bit next.holds)) (omega (arith, ap bit loose, ap bit next.loose))
 
   -- a try that is lost, where no slot was held
   lost : (phase : Phase) → thread_at core thread ≡ InCall call phase → holds_at phase ≡ false → is_loose_at phase ≡ false
-      → IsCore (decided_core core thread call core.shared.slots (lost_try core.settings call))
+      → IsCore (decided_core core thread call all_slots (lost_try core.settings call))
   lost phase stands held loose =
       calm phase (lost_try core.settings call) stands held loose
       (IsCalm-lost_try core.settings call (server_at (abstract_of core) call.server) (knows_at phase stands).1)
@@ -463,15 +618,18 @@ module _ (core : CoreState) (thread : ℕ) (call : Call) (is : IsCore core) (ins
       let there : call.server < length (set servers call.server now) = rw length-set on_server in
       let P : ServerState → Type 0 = λ it. IsDecided core.settings call it decision in
       IsCore-written core thread (InCall call phase) (state_after call decision) is inside stands
-      (enrolled-after call decision) (number-after call decision phase) call.number call.server now refl on_server free owned fit
+      (enrolled-after call decision) (number-after call decision phase) call.server refl (on-after call decision) call.number now refl
+      on_server free owned fit
       (IsThread-decided core.settings (set servers call.server now) call decision there (subst P (sym here) knows))
       held soft
 
   -- a slot is held by the thread that holds it
-  pub one-le-held : (phase : Phase) → thread_at core thread ≡ InCall call phase → holds_at phase ≡ true → 0 < core.shared.slots.held
+  pub one-le-held : (phase : Phase) → thread_at core thread ≡ InCall call phase → holds_at phase ≡ true → 0 < own_slots.held
   one-le-held phase stands held =
-      let mine : holds (get_or core.threads thread NotEnrolled) ≡ true = ap holds stands ∙ held in
-      omega (arith, one-le-count_by holds core.threads thread NotEnrolled inside mine, is.held)
+      let mine : holds_in core.settings own_group (get_or core.threads thread NotEnrolled) ≡ true =
+      ap (holds_in core.settings own_group) stands ∙ holds-own core.settings call.server (InCall call phase) refl ∙ held in
+      let one = one-le-count_by (holds_in core.settings own_group) core.threads thread NotEnrolled inside mine in
+      omega (arith, one, (own-group core call.server is).held)
 
   -- what its step leaves, at each phase
   pub IsCore-after_act : (phase : Phase) → thread_at core thread ≡ InCall call phase → IsCore (after_act core thread call phase)
@@ -497,8 +655,8 @@ module _ (core : CoreState) (thread : ℕ) (call : Call) (is : IsCore core) (ins
   IsCore-after_act (AtThreshold found) stands =
       let knows = knows_at (AtThreshold found) stands in
       calm (AtThreshold found) _ stands refl refl
-      (IsCalm-at_threshold core.settings call (server_at (abstract_of core) call.server) is.settings knows.1 found core.shared.slots
-      knows.2.0 knows.2.1 is.room)
+      (IsCalm-at_threshold core.settings call (server_at (abstract_of core) call.server) is.settings knows.1 found own_slots
+      knows.2.0 knows.2.1 room-left)
   IsCore-after_act (Limit found) stands =
       let knows = knows_at (Limit found) stands in
       calm (Limit found) _ stands refl refl
@@ -506,14 +664,14 @@ module _ (core : CoreState) (thread : ℕ) (call : Call) (is : IsCore core) (ins
   IsCore-after_act (Reserving found slots) stands =
       let phase : Phase = Reserving found slots in
       let knows = knows_at phase stands in
-      let now = core.shared.slots in
+      let now = own_slots in
       let one_more : Slots = record { firm = now.firm; held = now.held + 1 } in
       let P : Bool → Type 0 = λ won.
-      IsCore (decided_core core thread call (cond won one_more now) (cond won (goes call (Holding found)) (lost_try core.settings call))) in
+      IsCore (decided_core core thread call (cond won (with_slots one_more) all_slots) (cond won (goes call (Holding found)) (lost_try core.settings call))) in
       elim (cases_Bool (same_slots now slots)) as (λ test. P (same_slots now slots)) [
         | inl won ↦
             let same = same_slots-true now slots won in
-            subst P (sym won) (decided phase one_more (goes call (Holding found)) stands (knows.1, knows.2.0) (omega arith) refl
+            subst P (sym won) (shifted phase one_more (goes call (Holding found)) stands (knows.1, knows.2.0) (omega arith) refl
             (omega (arith, same.0, same.1, knows.2.1)))
         | inr lost_it ↦ subst P (sym lost_it) (lost phase stands refl refl)
       ]
@@ -532,24 +690,24 @@ module _ (core : CoreState) (thread : ℕ) (call : Call) (is : IsCore core) (ins
             (λ other e. let both : call.number ≡ other = cc in sym both) (omega (arith, knows.2.1)) (knows.1, refl) refl
             (omega (arith, ap bit free.1)))
         | inr lost_it ↦
-            subst P (sym lost_it) (decided phase core.shared.slots (goes call Losing) stands (knows.1, tt) refl refl is.room)
+            subst P (sym lost_it) (same_slots_decided phase (goes call Losing) stands (knows.1, tt) refl refl)
       ]
   IsCore-after_act Firming stands =
       let one = one-le-held Firming stands refl in
-      decided Firming (record { firm = core.shared.slots.firm + 1; held = core.shared.slots.held - 1 }) (Answers reply.TookSoft) stands tt
-      (omega arith) (omega arith) (omega (arith, is.room))
+      shifted Firming (record { firm = own_slots.firm + 1; held = own_slots.held - 1 }) (Answers reply.TookSoft) stands tt
+      (omega arith) (omega arith) (omega (arith, room-left))
   IsCore-after_act Losing stands =
       let one = one-le-held Losing stands refl in
       let knows = knows_at Losing stands in
       let next = IsCalm-lost_try core.settings call (server_at (abstract_of core) call.server) knows.1 in
-      decided Losing (record { firm = core.shared.slots.firm; held = core.shared.slots.held - 1 }) (lost_try core.settings call) stands
-      next.decided (omega (arith, ap bit next.holds)) (omega (arith, ap bit next.loose)) (omega (arith, is.room))
+      shifted Losing (record { firm = own_slots.firm; held = own_slots.held - 1 }) (lost_try core.settings call) stands
+      next.decided (omega (arith, ap bit next.holds)) (omega (arith, ap bit next.loose)) (omega (arith, room-left))
   IsCore-after_act (Loosening found mark answer) stands =
       let phase : Phase = Loosening found mark answer in
       let knows = knows_at phase stands in
       let one = one-le-firm core thread call found mark answer is inside stands in
-      decided phase (record { firm = core.shared.slots.firm - 1; held = core.shared.slots.held + 1 }) (goes call (Loosened found mark answer)) stands
-      (knows.1, knows.2) (omega arith) (omega arith) (omega (arith, is.room))
+      shifted phase (record { firm = own_slots.firm - 1; held = own_slots.held + 1 }) (goes call (Loosened found mark answer)) stands
+      (knows.1, knows.2) (omega arith) (omega arith) (omega (arith, room-left))
   IsCore-after_act (Loosened found mark answer) stands =
       let phase : Phase = Loosened found mark answer in
       let knows = knows_at phase stands in
@@ -570,8 +728,8 @@ module _ (core : CoreState) (thread : ℕ) (call : Call) (is : IsCore core) (ins
       (omega (arith, ap bit (soft-written call.number mark knows.2.0.own), ap (λ it. bit (is_soft it)) here)))
   IsCore-after_act (Emptied answer) stands =
       let one = one-le-held (Emptied answer) stands refl in
-      decided (Emptied answer) (record { firm = core.shared.slots.firm; held = core.shared.slots.held - 1 }) (Answers answer) stands tt
-      (omega arith) (omega arith) (omega (arith, is.room))
+      shifted (Emptied answer) (record { firm = own_slots.firm; held = own_slots.held - 1 }) (Answers answer) stands tt
+      (omega arith) (omega arith) (omega (arith, room-left))
 
 -- ---- begins, enrolments, and the core as it opens
 
@@ -579,15 +737,15 @@ pub IsCore-after_begin : (core : CoreState) (thread number : ℕ) (op : Op) (ser
     → thread_at core thread ≡ Idle number → server < length (abstract_of core)
     → IsCore (with_thread core thread (InCall (begun_by number op server) Start))
 IsCore-after_begin core thread number op server is inside stands on_server =
+    let group = group_of core.settings server in
     IsCore-slots core thread (Idle number) (InCall (begun_by number op server) Start) is inside stands refl (λ n. refl)
-    core.shared.slots (on_server, (is.settings.tries.0), tt) refl refl is.room
+    server tt refl (slots_at core.shared.slots group) core.shared.slots (counts-same core.shared.slots group)
+    (on_server, (is.settings.tries.0), tt) refl refl (own-group core server is).room
 
 pub IsCore-after_enrol : (core : CoreState) (thread : ℕ) → IsCore core → thread < length core.threads
     → thread_at core thread ≡ NotEnrolled → IsCore (after_enrol core thread)
 IsCore-after_enrol core thread is inside stands =
     let new : ThreadState = Idle core.shared.enrolled in
-    let holding = count_by-moved holds core.threads thread NotEnrolled new inside stands in
-    let loose = count_by-moved is_loose core.threads thread NotEnrolled new inside stands in
     record {
       settings = is.settings;
       count = is.count;
@@ -597,15 +755,21 @@ IsCore-after_enrol core thread is inside stands =
       numbers = OneEach-enrol core.threads core.shared.enrolled thread is.numbers inside stands;
       owners = λ server number owned. omega (arith, is.owners server number owned);
       calls = All-set (IsThread core.settings (abstract_of core)) core.threads thread new tt is.calls;
-      held = omega (arith, holding, is.held);
-      firm = omega (arith, loose, is.firm);
-      room = is.room;
+      soft_words = is.soft_words;
+      counts = λ group below.
+          let was = is.counts group below in
+          let holding = count_by-moved (holds_in core.settings group) core.threads thread NotEnrolled new inside stands in
+          let loose = count_by-moved (is_loose_in core.settings group) core.threads thread NotEnrolled new inside stands in
+          record {
+            held = omega (arith, holding, was.held);
+            firm = omega (arith, loose, was.firm);
+            room = was.room;
+          };
     }
 
 pub IsCore-opened_core : (s : Settings) → IsWithinRanges s → IsCore (opened_core s)
 IsCore-opened_core s ranges =
     let server : ServerState = record { mark = Up 0; stamp = s.opening_stamp } in
-    let none = count_by-replicate is_loose s.threads NotEnrolled refl in
     record {
       settings = ranges;
       count = length-replicate s.servers server;
@@ -617,9 +781,21 @@ IsCore-opened_core s ranges =
           count_by-replicate (has_number number) s.threads NotEnrolled refl ∙ sym (ap bit (le-ltb number 0 (omega arith)));
       owners = λ at number owned. absurd (owner-replicate s.servers s.opening_stamp at number owned);
       calls = All-replicate (IsThread s (abstract_of (opened_core s))) s.threads NotEnrolled tt;
-      held = count_by-replicate holds s.threads NotEnrolled refl;
-      firm = omega (arith, none, count_by-replicate (λ (state : ServerState). is_soft state.mark) s.servers server refl);
-      room = omega arith;
+      soft_words = length-replicate (groups s) no_slots;
+      counts = λ group below.
+          let empty : slots_at (replicate (groups s) no_slots) group ≡ no_slots = get_or-replicate_same (groups s) group no_slots in
+          let firm = ap (λ (it : Slots). it.firm) empty in
+          let held = ap (λ (it : Slots). it.held) empty in
+          record {
+            held = count_by-replicate (holds_in s group) s.threads NotEnrolled refl ∙ sym held;
+            firm = omega (
+              arith,
+              firm,
+              count_by-replicate (is_loose_in s group) s.threads NotEnrolled refl,
+              softs_in-replicate s group s.servers s.opening_stamp,
+            );
+            room = omega (arith, firm, held);
+          };
     }
 
 -- ---- what the steps on the words need
@@ -634,14 +810,15 @@ stamp-fits s (Soft owner) stamp fit = omega arith
 stamp-fits s (Hard owner) stamp fit = omega arith
 
 -- the word of each step on a server that is there
-place-there : (shared : Shared) (server : ℕ) (action : Action) → server < length shared.servers → IsPlace shared (place_of server action)
-place-there shared server LookAtServer there = there
-place-there shared server LookAtSlots there = tt
-place-there shared server (Exchange found mark) there = there
-place-there shared server (Reserve slots) there = tt
-place-there shared server Settle there = tt
-place-there shared server Loosen there = tt
-place-there shared server Give there = tt
+place-there : (s : Settings) (shared : Shared) (server : ℕ) (action : Action) → server < length shared.servers
+    → group_of s server < length shared.slots → IsPlace shared (place_of s server action)
+place-there s shared server LookAtServer there group = there
+place-there s shared server LookAtSlots there group = group
+place-there s shared server (Exchange found mark) there group = there
+place-there s shared server (Reserve slots) there group = group
+place-there s shared server Settle there group = group
+place-there s shared server Loosen there group = group
+place-there s shared server Give there group = group
 
 mark-fits : (s : Settings) (number : ℕ) (mark : Mark) (stamp : ℕ) → IsWithinRanges s → number < 64 → IsFit s mark stamp
     → IsOwnOrUp number mark → IsMark mark
@@ -655,40 +832,45 @@ module _ (core : CoreState) (thread : ℕ) (call : Call) (is : IsCore core) (ins
       let drawn = number-lt core.threads core.shared.enrolled thread call.number is.numbers inside (ap number_of stands) in
       omega (arith, drawn, enrolled-le core is, is.settings.threads.1)
 
-  few-slots : core.shared.slots.firm + core.shared.slots.held ≤ 256
-  few-slots = omega (arith, is.room, is.settings.limit)
+  few-slots : firm_at core (group_of core.settings call.server) + held_at core (group_of core.settings call.server) ≤ 256
+  few-slots = omega (arith, (own-group core call.server is).room, limit_of-le core.settings (group_of core.settings call.server) is.settings)
+
+  there : group_of core.settings call.server < length core.shared.slots
+  there = group-there core call.server is
 
   -- a write that the thread may make
   can-write : (phase : Phase) → thread_at core thread ≡ InCall call phase → (found : ServerState) (mark : Mark)
-      → IsWrite core.settings call.number found mark → CanAct core.shared call.server (Exchange found mark)
+      → IsWrite core.settings call.number found mark → CanAct core.settings core.shared call.server (Exchange found mark)
   can-write phase stands found mark write = (
     (knows_at core thread call is inside phase stands).0,
     mark-fits core.settings call.number mark (found.stamp + 1) is.settings (number-fits phase stands) write.fit write.own,
     stamp-fits core.settings mark (found.stamp + 1) write.fit,
   )
 
-  pub CanAct-at : (phase : Phase) → thread_at core thread ≡ InCall call phase → CanAct core.shared call.server (action_of call.number phase)
+  pub CanAct-at : (phase : Phase) → thread_at core thread ≡ InCall call phase → CanAct core.settings core.shared call.server (action_of call.number phase)
   CanAct-at Start stands = (knows_at core thread call is inside Start stands).0
   CanAct-at (Read found mark answer) stands =
       can-write (Read found mark answer) stands found mark (knows_at core thread call is inside (Read found mark answer) stands).2.0
-  CanAct-at (AtThreshold found) stands = tt
+  CanAct-at (AtThreshold found) stands = (there, tt)
   CanAct-at (Limit found) stands = (knows_at core thread call is inside (Limit found) stands).0
-  CanAct-at (Reserving found slots) stands = omega (arith, few-slots)
+  CanAct-at (Reserving found slots) stands = (there, omega (arith, few-slots))
   CanAct-at (Holding found) stands =
       let phase : Phase = Holding found in
       let knows = knows_at core thread call is inside phase stands in
       (knows.0, number-fits phase stands, omega (arith, knows.2.1))
-  CanAct-at Firming stands = (one-le-held core thread call is inside Firming stands refl, omega (arith, few-slots))
-  CanAct-at Losing stands = one-le-held core thread call is inside Losing stands refl
+  CanAct-at Firming stands = (there, (one-le-held core thread call is inside Firming stands refl, omega (arith, few-slots)))
+  CanAct-at Losing stands = (there, one-le-held core thread call is inside Losing stands refl)
   CanAct-at (Loosening found mark answer) stands =
-      (one-le-firm core thread call found mark answer is inside stands, omega (arith, few-slots))
+      (there, (one-le-firm core thread call found mark answer is inside stands, omega (arith, few-slots)))
   CanAct-at (Loosened found mark answer) stands =
       can-write (Loosened found mark answer) stands found mark (knows_at core thread call is inside (Loosened found mark answer) stands).2.0
-  CanAct-at (Emptied answer) stands = one-le-held core thread call is inside (Emptied answer) stands refl
+  CanAct-at (Emptied answer) stands = (there, one-le-held core thread call is inside (Emptied answer) stands refl)
 
   pub lost-lt : (phase : Phase) → thread_at core thread ≡ InCall call phase → call.lost < core.settings.tries
   lost-lt phase stands = (knows_at core thread call is inside phase stands).1
 
   pub IsPlace-at : (phase : Phase) → thread_at core thread ≡ InCall call phase
-      → IsPlace core.shared (place_of call.server (action_of call.number phase))
-  IsPlace-at phase stands = place-there core.shared call.server (action_of call.number phase) (knows_at core thread call is inside phase stands).0
+      → IsPlace core.shared (place_of core.settings call.server (action_of call.number phase))
+  IsPlace-at phase stands =
+      place-there core.settings core.shared call.server (action_of call.number phase) (knows_at core thread call is inside phase stands).0
+      there

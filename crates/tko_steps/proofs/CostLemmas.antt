@@ -16,7 +16,7 @@ use Rattle.tko_steps.specs.declared.phase.Phase.TheVariants.{Start, Read, AtThre
 use Rattle.tko_steps.specs.declared.phase.ThreadState.TheVariants.{InCall}
 use Rattle.tko_steps.specs.declared.table.Decision.{Decision}
 use Rattle.tko_steps.specs.declared.table.Decision.TheVariants.{Goes, Answers}
-use Rattle.tko_steps.specs.Core.{Shared, follows, word_at}
+use Rattle.tko_steps.specs.Core.{Shared, follows, word_at, slots_at}
 use Rattle.tko_steps.specs.Cost.{IsShort, most_steps}
 use Rattle.tko_steps.specs.Invariant.{IsFoundBy, IsThread}
 use Rattle.tko_steps.specs.Steps.{answer_of, begun_by, decided_by, place_of}
@@ -28,6 +28,7 @@ use Rattle.tko_steps.proofs.FamilyLemmas.{Follows, act_own}
 use Rattle.tko_steps.proofs.StartLemmas.{CanLoosen, CanRead, from_start-is}
 use Rattle.tko_steps.proofs.TableLemmas.{eq-same_server}
 use Rattle.tko_steps.proofs.WiringLemmas.{stepped_from}
+use Rattle.tko_model.specs.Groups.{group_of, limit_at}
 
 -- how many steps a lost try takes
 abbrev pub per_try : Op → ℕ
@@ -170,7 +171,7 @@ module _ (s : Settings) (shared : Shared) (call : CallState) (taken : ℕ) where
       (ends-soft s call.op taken call.lost (depth phase) soft deep knows.few knows.left)
 
   pub cost-act : (phase : Phase) → IsThread s shared.servers (InCall call phase) → KnowsCost s call taken phase
-      → Next (decided_by s call phase (word_at shared (place_of call.server (action_of call.number phase))))
+      → Next (decided_by s call phase (word_at shared (place_of s call.server (action_of call.number phase))))
   cost-act Start here knows =
       from_start-is s call now Next
       (λ answer is_answer is. ends-any s call.op taken call.lost knows.few knows.left)
@@ -189,11 +190,11 @@ module _ (s : Settings) (shared : Shared) (call : CallState) (taken : ℕ) where
       (λ hard. let same = eq-same_server now found (own-hard call.number now found found.mark hard by) in cc) knows.few) short)
   cost-act (AtThreshold found) here knows =
       let phase : Phase = AtThreshold found in
-      let slots = shared.slots in
-      let rest = cond (eqb (slots.firm + slots.held) s.limit) (lost_try s call) (goes call (Reserving found slots)) in
-      cond_both (eqb slots.firm s.limit) (goes call (Limit found)) rest Next
+      let slots = slots_at shared.slots (group_of s call.server) in
+      let rest = cond (eqb (slots.firm + slots.held) (limit_at s call.server)) (lost_try s call) (goes call (Reserving found slots)) in
+      cond_both (eqb slots.firm (limit_at s call.server)) (goes call (Limit found)) rest Next
       (λ full. goes-on phase (Limit found) knows refl knows.fits)
-      (λ below. cond_both (eqb (slots.firm + slots.held) s.limit) (lost_try s call) (goes call (Reserving found slots)) Next
+      (λ below. cond_both (eqb (slots.firm + slots.held) (limit_at s call.server)) (lost_try s call) (goes call (Reserving found slots)) Next
       (λ held. loses-its phase knows knows.fits (omega arith))
       (λ left. goes-on phase (Reserving found slots) knows refl knows.fits))
   cost-act (Limit found) here knows =
@@ -203,7 +204,7 @@ module _ (s : Settings) (shared : Shared) (call : CallState) (taken : ℕ) where
       (λ other. loses-its phase knows knows.fits (omega arith))
   cost-act (Reserving found before) here knows =
       let phase : Phase = Reserving found before in
-      cond_both (same_slots shared.slots before) (goes call (Holding found)) (lost_try s call) Next
+      cond_both (same_slots (slots_at shared.slots (group_of s call.server)) before) (goes call (Holding found)) (lost_try s call) Next
       (λ won. goes-on phase (Holding found) knows refl knows.fits)
       (λ lost. loses-its phase knows knows.fits (omega arith))
   cost-act (Holding found) here knows =

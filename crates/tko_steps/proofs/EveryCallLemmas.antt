@@ -8,7 +8,9 @@ use Rattle.tko_model.specs.declared.mark.Mark.TheVariants.{Soft}
 use Rattle.tko_model.specs.declared.mark.Reply.TheVariants.{Full, TookSoft}
 use Rattle.tko_model.specs.declared.settings.Settings.{Settings}
 use Rattle.tko_model.specs.declared.state.ServerState.{ServerState}
-use Rattle.tko_model.specs.Tracker.{becomes, has_room, server_at, softs, stays}
+use Rattle.tko_model.specs.Groups.{group_of, groups, limit_at, limit_of}
+use Rattle.tko_model.specs.Tracker.{becomes, has_room, server_at, softs_beside, softs_in, stays}
+use Rattle.tko_model.proofs.GroupLemmas.{group_of-lt}
 use Rattle.tko_steps.specs.declared.phase.Call.{Call as CallState}
 use Rattle.tko_steps.specs.declared.phase.Phase.{Phase}
 use Rattle.tko_steps.specs.declared.phase.Phase.TheVariants.{Start, Read, AtThreshold, Limit, Reserving, Holding, Firming, Losing, Loosening, Loosened, Emptied}
@@ -20,12 +22,12 @@ use Rattle.tko_steps.specs.declared.table.Decision.{Decision}
 use Rattle.tko_steps.specs.declared.table.Decision.TheVariants.{Goes, Answers}
 use Rattle.tko_model.specs.Ranges.{IsWithinRanges}
 use Rattle.tko_steps.specs.Runs.{Turn, Call, InEveryRun, OwnStep, StepTaken, World, and_step, calls_of, happens, run, start}
-use Rattle.tko_steps.specs.Core.{CoreState, abstract_of, after_act, follows, servers_after, thread_at}
-use Rattle.tko_steps.specs.Invariant.{IsCore, holds, is_loose}
+use Rattle.tko_steps.specs.Core.{CoreState, abstract_of, after_act, follows, servers_after, slots_at, thread_at}
+use Rattle.tko_steps.specs.Invariant.{IsCore, holds_at, holds_in, is_loose_at, is_loose_in}
 use Rattle.tko_steps.specs.Legal.{IsQuiet}
 use Rattle.tko_steps.specs.Table.{action_of, goes, lost_try, same_server, same_slots}
-use Rattle.tko_steps.proofs.CountLemmas.{bit, unread}
-use Rattle.tko_steps.proofs.CoreLemmas.{knows_at, loose-le-holds, written}
+use Rattle.tko_steps.proofs.CountLemmas.{bit, holds-own, loose-own, unread}
+use Rattle.tko_steps.proofs.CoreLemmas.{knows_at, loose-le-holds, own-group, written}
 use Rattle.tko_steps.proofs.LegalLemmas.{IsNotNewer, IsSoundCall, Knows, Knows-kept, Told, done-before, done-write, open_call, sound-answered, sound-open, still_quiet, told-full, told-limit, told-lost, told-start, with_decision}
 use Rattle.tko_steps.proofs.OwnLemmas.{act_step, exchange_step}
 use Rattle.tko_steps.proofs.AlongLemmas.{AtAct, AtBegin, AtEnrol, along-turn, along-turns}
@@ -37,20 +39,35 @@ use Rattle.tko_steps.proofs.WiringLemmas.{stepped_from}
 
 -- ---- the limit
 
-pub softs-le : (core : CoreState) → IsCore core → softs (abstract_of core) ≤ core.settings.limit
-softs-le core is =
-    let le = sum_by-le-sum_by (λ it. bit (is_loose it)) (λ it. bit (holds it)) core.threads loose-le-holds in
-    omega (arith, is.firm, is.held, is.room, le)
+pub softs_in-le : (core : CoreState) (group : ℕ) → IsCore core → group < groups core.settings
+    → softs_in core.settings group (abstract_of core) ≤ limit_of core.settings group
+softs_in-le core group is below =
+    let s = core.settings in
+    let mine = is.counts group below in
+    let le = sum_by-le-sum_by (λ it. bit (is_loose_in s group it)) (λ it. bit (holds_in s group it)) core.threads (loose-le-holds s group) in
+    omega (arith, mine.firm, mine.held, mine.room, le)
+
+-- in the group of a server
+pub softs-le : (core : CoreState) (server : ℕ) → IsCore core
+    → softs_beside core.settings server (abstract_of core) ≤ limit_at core.settings server
+softs-le core server is = softs_in-le core (group_of core.settings server) is (group_of-lt core.settings server is.settings)
 
 -- while a call holds a slot for a mark that it has yet to make, there is room for it
-softs-lt : (core : CoreState) (thread : ℕ) (state : ThreadState) → IsCore core → thread < length core.threads
-    → thread_at core thread ≡ state → holds state ≡ true → is_loose state ≡ false → softs (abstract_of core) < core.settings.limit
-softs-lt core thread state is inside stands held firm =
+pub softs-lt : (core : CoreState) (thread : ℕ) (call : CallState) (phase : Phase) → IsCore core → thread < length core.threads
+    → thread_at core thread ≡ InCall call phase → holds_at phase ≡ true → is_loose_at phase ≡ false
+    → softs_beside core.settings call.server (abstract_of core) < limit_at core.settings call.server
+softs-lt core thread call phase is inside stands held firm =
+    let s = core.settings in
+    let group = group_of s call.server in
+    let state : ThreadState = InCall call phase in
+    let mine = own-group core call.server is in
     let others = set core.threads thread NotEnrolled in
-    let le = sum_by-le-sum_by (λ it. bit (is_loose it)) (λ it. bit (holds it)) others loose-le-holds in
-    let holding = count_by-moved holds core.threads thread state NotEnrolled inside stands in
-    let loose = count_by-moved is_loose core.threads thread state NotEnrolled inside stands in
-    omega (arith, is.firm, is.held, is.room, le, holding, loose, ap bit held, ap bit firm)
+    let le = sum_by-le-sum_by (λ it. bit (is_loose_in s group it)) (λ it. bit (holds_in s group it)) others (loose-le-holds s group) in
+    let holding = count_by-moved (holds_in s group) core.threads thread state NotEnrolled inside stands in
+    let loose = count_by-moved (is_loose_in s group) core.threads thread state NotEnrolled inside stands in
+    let one : bit (holds_in s group state) ≡ 1 = ap bit (holds-own s call.server state refl ∙ held) in
+    let none : bit (is_loose_in s group state) ≡ 0 = ap bit (loose-own s call.server state refl ∙ firm) in
+    omega (arith, mine.firm, mine.held, mine.room, le, holding, loose, one, none)
 
 -- ---- the words move on
 
@@ -106,7 +123,7 @@ module _ (core : CoreState) (thread : ℕ) (call : CallState) (is : IsCore core)
 
     told-act : (phase : Phase) → thread_at core thread ≡ InCall call phase → Knows core.settings thread call steps now phase → ToldBy phase
     told-act Start stands knows =
-        told-start core.settings thread call steps number (act_step core thread call Start) refl knows (softs-le core is)
+        told-start core.settings thread call steps number (act_step core thread call Start) refl knows (softs-le core call.server is)
     told-act (Read found mark answer) stands knows =
         let s = core.settings in
         let decide = λ (won : Bool). cond won (Answers answer) (lost_try s call) in
@@ -118,22 +135,23 @@ module _ (core : CoreState) (thread : ℕ) (call : CallState) (is : IsCore core)
               subst P (sym won)
               (sound-answered s (and_step (open_call thread call steps) (with_decision number base (Answers answer))) answer refl
               (done-write s thread call steps number base (Answers answer) found mark answer knows.0
-              (knows.1 (has_room s (softs servers))) same refl (softs-le core is)))
+              (knows.1 (has_room s servers call.server)) same refl (softs-le core call.server is)))
           | inr lost ↦
               subst P (sym lost) (told-lost s thread call steps number (exchange_step core thread call found mark decide false) now refl knows.0)
         ]
     told-act (AtThreshold found) stands knows =
         let s = core.settings in
         let base = act_step core thread call (AtThreshold found) in
-        let slots = core.shared.slots in
+        let slots = slots_at core.shared.slots (group_of s call.server) in
+        let limit = limit_at s call.server in
         let P : Decision → Type 0 = Told s thread call steps number base now in
         let goes_on : Decision = goes call (Reserving found slots) in
-        cond_both (eqb slots.firm s.limit) (goes call (Limit found)) (cond (eqb (slots.firm + slots.held) s.limit) (lost_try s call) goes_on) P
+        cond_both (eqb slots.firm limit) (goes call (Limit found)) (cond (eqb (slots.firm + slots.held) limit) (lost_try s call) goes_on) P
         (λ full.
         told-limit s thread call steps number base found call.lost refl knows.0 knows.1 knows.2
-        (let firm = eqb-true slots.firm s.limit full in let le = softs-le core is in omega (arith, firm, le, is.firm)))
+        (let firm = eqb-true slots.firm limit full in let le = softs-le core call.server is in omega (arith, firm, le, (own-group core call.server is).firm)))
         (λ room.
-        cond_both (eqb (slots.firm + slots.held) s.limit) (lost_try s call) goes_on P
+        cond_both (eqb (slots.firm + slots.held) limit) (lost_try s call) goes_on P
         (λ held. told-lost s thread call steps number base now refl knows.0)
         (λ left. (still_quiet s thread call steps number base goes_on refl knows.0, knows.1)))
     told-act (Limit found) stands knows =
@@ -145,23 +163,24 @@ module _ (core : CoreState) (thread : ℕ) (call : CallState) (is : IsCore core)
     told-act (Reserving found slots) stands knows =
         let s = core.settings in
         let base = act_step core thread call (Reserving found slots) in
-        cond_both (same_slots core.shared.slots slots) (goes call (Holding found)) (lost_try s call) (Told s thread call steps number base now)
+        cond_both (same_slots (slots_at core.shared.slots (group_of s call.server)) slots) (goes call (Holding found)) (lost_try s call) (Told s thread call steps number base now)
         (λ won. (still_quiet s thread call steps number base (goes call (Holding found)) refl knows.0, knows.1))
         (λ lost. told-lost s thread call steps number base now refl knows.0)
     told-act (Holding found) stands knows =
         let s = core.settings in
         let decide = λ (won : Bool). cond won (goes call Firming) (goes call Losing) in
         let P : Bool → Type 0 = ToldExchange found (Soft call.number) decide in
-        let room : has_room s (softs servers) ≡ true =
-        lt-ltb (softs servers) s.limit (softs-lt core thread (InCall call (Holding found)) is inside stands refl refl) in
+        let room : has_room s servers call.server ≡ true =
+        lt-ltb (softs_beside s call.server servers) (limit_at s call.server)
+        (softs-lt core thread call (Holding found) is inside stands refl refl) in
         elim (cases_Bool (same_server now found)) as (λ test. P (same_server now found)) [
           | inl won ↦
               let base = exchange_step core thread call found (Soft call.number) decide true in
               let same = same_server-true now found won in
               subst P (sym won)
               (done-write s thread call steps number base (goes call Firming) found (Soft call.number) TookSoft knows.0
-              (knows.1 (has_room s (softs servers)) ∙ ap (λ it. cond it (becomes (Soft call.number) TookSoft) (stays Full)) room)
-              same refl (softs-le core is))
+              (knows.1 (has_room s servers call.server) ∙ ap (λ it. cond it (becomes (Soft call.number) TookSoft) (stays Full)) room)
+              same refl (softs-le core call.server is))
           | inr lost ↦
               subst P (sym lost)
               (still_quiet s thread call steps number (exchange_step core thread call found (Soft call.number) decide false) (goes call Losing) refl knows.0)
@@ -182,7 +201,7 @@ module _ (core : CoreState) (thread : ℕ) (call : CallState) (is : IsCore core)
         let base = exchange_step core thread call found mark decide true in
         subst P (sym (eq-same_server now found (knows_at core thread call is inside (Loosened found mark answer) stands).2.2))
         (done-write s thread call steps number base (goes call (Emptied answer)) found mark answer knows.0
-        (knows.1 (has_room s (softs servers))) (knows_at core thread call is inside (Loosened found mark answer) stands).2.2 refl (softs-le core is))
+        (knows.1 (has_room s servers call.server)) (knows_at core thread call is inside (Loosened found mark answer) stands).2.2 refl (softs-le core call.server is))
     told-act (Emptied answer) stands knows =
         let own = with_decision number (act_step core thread call (Emptied answer)) (Answers answer) in
         let opened = open_call thread call steps in

@@ -11,8 +11,8 @@ use Rattle.tko_steps.specs.declared.phase.Phase.{Phase}
 use Rattle.tko_steps.specs.declared.phase.Phase.TheVariants.{Start}
 use Rattle.tko_steps.specs.declared.phase.ThreadState.{ThreadState}
 use Rattle.tko_steps.specs.declared.phase.ThreadState.TheVariants.{NotEnrolled, Idle, InCall}
-use Rattle.tko_steps.specs.Core.{CanAct, CoreState, Shared, has_number, is_enrolled, shared_after, word_at}
-use Rattle.tko_steps.specs.Invariant.{IsCore, IsThread, holds, is_loose}
+use Rattle.tko_steps.specs.Core.{CanAct, CoreState, Shared, has_number, is_enrolled, shared_after, slots_at, word_at}
+use Rattle.tko_steps.specs.Invariant.{IsCore, IsThread, holds_in, is_loose_in}
 use Rattle.tko_steps.specs.Steps.{after_first_look, begun_by, place_of, thread_after}
 use Rattle.tko_steps.specs.Table.{action_of}
 use Rattle.tko_steps.proofs.CountLemmas.{bit}
@@ -36,9 +36,16 @@ core-permuted s shared threads others same is =
       numbers = λ number. sum_by-IsPermutation (λ it. bit (has_number number it)) threads others same ∙ is.numbers number;
       owners = is.owners;
       calls = All-permutation (IsThread s shared.servers) threads others same is.calls;
-      held = sum_by-IsPermutation (λ it. bit (holds it)) threads others same ∙ is.held;
-      firm = is.firm ∙ ap (λ n. shared.slots.firm + n) (sym (sum_by-IsPermutation (λ it. bit (is_loose it)) threads others same));
-      room = is.room;
+      soft_words = is.soft_words;
+      counts = λ group below.
+          let was = is.counts group below in
+          record {
+            held = sum_by-IsPermutation (λ it. bit (holds_in s group it)) threads others same ∙ was.held;
+            firm = was.firm
+                ∙ ap (λ n. (slots_at shared.slots group).firm + n)
+                (sym (sum_by-IsPermutation (λ it. bit (is_loose_in s group it)) threads others same));
+            room = was.room;
+          };
     }
 
 -- ---- one thread among the others
@@ -72,7 +79,7 @@ module _ (s : Settings) (shared : Shared) (before after : List ThreadState) wher
 
   -- what its step on the word needs
   pub core-can_act : (call : Call) (phase : Phase) → IsCore (core_of s shared (among before (InCall call phase) after))
-      → CanAct shared call.server (action_of call.number phase)
+      → CanAct s shared call.server (action_of call.number phase)
   core-can_act call phase is =
       let threads = among before (InCall call phase) after in
       CanAct-at (core_of s shared threads) (length before) call is (inside-among before (InCall call phase) after) phase
@@ -81,13 +88,13 @@ module _ (s : Settings) (shared : Shared) (before after : List ThreadState) wher
   -- the step of a call, of each kind
   pub core-act : (call : Call) (phase : Phase) → IsCore (core_of s shared (among before (InCall call phase) after))
       → (let act = action_of call.number phase in
-      IsCore (core_of s (shared_after shared call.server act)
-      (among before (thread_after s call phase (word_at shared (place_of call.server act))) after)))
+      IsCore (core_of s (shared_after s shared call.server act)
+      (among before (thread_after s call phase (word_at shared (place_of s call.server act))) after)))
   core-act call phase is =
       let old : ThreadState = InCall call phase in
       let act = action_of call.number phase in
-      let new = thread_after s call phase (word_at shared (place_of call.server act)) in
-      let P : List ThreadState → Type 0 = λ threads. IsCore (core_of s (shared_after shared call.server act) threads) in
+      let new = thread_after s call phase (word_at shared (place_of s call.server act)) in
+      let P : List ThreadState → Type 0 = λ threads. IsCore (core_of s (shared_after s shared call.server act) threads) in
       subst P (set-among before old new after)
       (IsCore-after_act (core_of s shared (among before old after)) (length before) call is (inside-among before old after) phase (at-among before old after))
 

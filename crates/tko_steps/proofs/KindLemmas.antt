@@ -50,25 +50,25 @@ loosened-kind number (Up count) new is = cc
 loosened-kind number (Soft owner) new is = refl
 loosened-kind number (Hard owner) new is = refl
 
-kind-at : (s : Settings) (number : ℕ) (now : ServerState) (phase : Phase) → IsPhase s number now phase
-    → IsKindAt number phase (kind_of (action_of number phase))
-kind-at s number now Start knows = refl
-kind-at s number now (Read found mark answer) knows = read-kind number now found found.mark mark knows.1 knows.0.own
-kind-at s number now (AtThreshold found) knows = refl
-kind-at s number now (Limit found) knows = refl
-kind-at s number now (Reserving found slots) knows = refl
-kind-at s number now (Holding found) knows = holding-kind number found.mark knows.0
-kind-at s number now Firming knows = refl
-kind-at s number now Losing knows = refl
-kind-at s number now (Loosening found mark answer) knows = refl
-kind-at s number now (Loosened found mark answer) knows =
-    (loosened-kind number found.mark mark knows.1, knows.1, cleared-or-hard number mark knows.0.own)
-kind-at s number now (Emptied answer) knows = refl
+kind-at : (s : Settings) (call : Call) (now : ServerState) (phase : Phase) → IsPhase s call now phase
+    → IsKindAt call.number phase (kind_of (action_of call.number phase))
+kind-at s call now Start knows = refl
+kind-at s call now (Read found mark answer) knows = read-kind call.number now found found.mark mark knows.1 knows.0.own
+kind-at s call now (AtThreshold found) knows = refl
+kind-at s call now (Limit found) knows = refl
+kind-at s call now (Reserving found slots) knows = refl
+kind-at s call now (Holding found) knows = holding-kind call.number found.mark knows.0
+kind-at s call now Firming knows = refl
+kind-at s call now Losing knows = refl
+kind-at s call now (Loosening found mark answer) knows = refl
+kind-at s call now (Loosened found mark answer) knows =
+    (loosened-kind call.number found.mark mark knows.1, knows.1, cleared-or-hard call.number mark knows.0.own)
+kind-at s call now (Emptied answer) knows = refl
 
 has-kind : (s : Settings) (servers : List ServerState) (state : ThreadState) → IsThread s servers state → HasKind state
 has-kind s servers NotEnrolled is = tt
 has-kind s servers (Idle number) is = tt
-has-kind s servers (InCall call phase) is = kind-at s call.number (server_at servers call.server) phase is.2
+has-kind s servers (InCall call phase) is = kind-at s call (server_at servers call.server) phase is.2
 
 pub HaveKinds-core : (core : CoreState) → IsCore core → HaveKinds core
 HaveKinds-core core is =
@@ -92,7 +92,7 @@ module _ (s : Settings) (shared : Shared) (call : Call) where
   -- a step of a kind that cannot be lost does what it meant to
   pub sure-act : (phase : Phase) → IsThread s shared.servers (InCall call phase)
       → can_be_lost (kind_of (action_of call.number phase)) ≡ false
-      → is_done (seen_in (action_of call.number phase) (word_at shared (place_of call.server (action_of call.number phase)))) ≡ true
+      → is_done (seen_in (action_of call.number phase) (word_at shared (place_of s call.server (action_of call.number phase)))) ≡ true
   sure-act Start knows sure = refl
   sure-act (Read found mark answer) knows sure =
       read-sure call.number now_at found found.mark mark refl knows.2.1 knows.2.0.own sure

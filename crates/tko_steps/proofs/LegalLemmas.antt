@@ -9,7 +9,8 @@ use Rattle.tko_model.specs.declared.mark.Reply.TheVariants.{Contended, Full, Too
 use Rattle.tko_model.specs.declared.settings.Settings.{Settings}
 use Rattle.tko_model.specs.declared.state.ServerState.{ServerState}
 use Rattle.tko_model.specs.declared.transition.Transition.{Transition}
-use Rattle.tko_model.specs.Tracker.{becomes, changed, has_room, server_at, softs, stays, transition}
+use Rattle.tko_model.specs.Groups.{limit_at}
+use Rattle.tko_model.specs.Tracker.{becomes, changed, has_room, server_at, softs_beside, stays, transition}
 use Rattle.tko_steps.specs.declared.phase.Call.{Call as CallState}
 use Rattle.tko_steps.specs.declared.phase.Phase.{Phase}
 use Rattle.tko_steps.specs.declared.phase.Phase.TheVariants.{Start, Read, AtThreshold, Limit, Reserving, Holding, Firming, Losing, Loosening, Loosened, Emptied}
@@ -38,7 +39,7 @@ once-but_one (first ∷ newer) older own quiet =
 pub record IsDone (s : Settings) (call : Call) (answer : Reply) : Type 0 where
   pub own : OwnStep
   pub legal : IsLegalAt s call answer own
-  pub limit : softs own.step.before ≤ s.limit
+  pub limit : softs_beside s call.server own.step.before ≤ limit_at s call.server
 
 -- what the law says of each call
 pub record IsSoundCall (s : Settings) (call : Call) : Type 0 where
@@ -87,7 +88,7 @@ pub sound-answered : (s : Settings) (call : Call) (answer : Reply) → call.answ
 sound-answered s call answer answered done =
     let before = done.own.step.before in
     let it = server_at before call.server in
-    let sound = transition-sound s (softs before) call.number call.op it.mark it.stamp in
+    let sound = transition-sound s (limit_at s call.server) (softs_beside s call.server before) call.number call.op it.mark it.stamp in
     let told = done.legal.effect.reply in
     record {
       legal = record {
@@ -114,7 +115,7 @@ open_call thread call steps =
 
 -- the newest step takes effect, and the older ones changed nothing
 pub done-here : (s : Settings) (call : Call) (own : OwnStep) (answer : Reply) → All IsQuiet call.steps → TakesEffect s call answer own.step
-    → softs own.step.before ≤ s.limit → IsDone s (and_step call own) answer
+    → softs_beside s call.server own.step.before ≤ limit_at s call.server → IsDone s (and_step call own) answer
 done-here s call own answer quiet effect limit =
     record {
       own = own;
@@ -146,7 +147,7 @@ module _ (s : Settings) (call : Call) (step : StepTaken) where
   it = server_at step.before call.server
 
   -- an operation that changes nothing here
-  pub effect-stays : (answer : Reply) → transition s (has_room s (softs step.before)) call.number call.op it.mark it.stamp ≡ stays answer
+  pub effect-stays : (answer : Reply) → transition s (has_room s step.before call.server) call.number call.op it.mark it.stamp ≡ stays answer
       → step.after ≡ step.before → TakesEffect s call answer step
   effect-stays answer decides quiet =
       record {
@@ -156,7 +157,7 @@ module _ (s : Settings) (call : Call) (step : StepTaken) where
 
   -- an operation that puts this mark there
   pub effect-becomes : (mark : Mark) (answer : Reply)
-      → transition s (has_room s (softs step.before)) call.number call.op it.mark it.stamp ≡ becomes mark answer
+      → transition s (has_room s step.before call.server) call.number call.op it.mark it.stamp ≡ becomes mark answer
       → step.after ≡ set step.before call.server (record { mark = mark; stamp = it.stamp + 1 }) → TakesEffect s call answer step
   effect-becomes mark answer decides wrote =
       record {
@@ -178,7 +179,7 @@ pub record SawLimit (s : Settings) (server : ℕ) (found now : ServerState) (ste
   pub among : steps ≡ newer ++ own ∷ older
   pub others : All IsQuiet (newer ++ older)
   pub quiet : IsQuiet own
-  pub limit : softs own.step.before ≡ s.limit
+  pub limit : softs_beside s server own.step.before ≡ limit_at s server
   pub after_found : IsNotNewer found (server_at own.step.before server)
   pub before_now : IsNotNewer (server_at own.step.before server) now
 
@@ -309,15 +310,15 @@ module _ (s : Settings) (thread : ℕ) (call : CallState) (steps : List OwnStep)
       (λ e. still_quiet again same quiet)
 
   -- an answer that changes nothing
-  pub told-stays : (now : ServerState) (answer : Reply) → base.after ≡ base.before → All IsQuiet steps → softs base.before ≤ s.limit
+  pub told-stays : (now : ServerState) (answer : Reply) → base.after ≡ base.before → All IsQuiet steps → softs_beside s call.server base.before ≤ limit_at s call.server
       → Decides s call.number call.op (server_at base.before call.server) (stays answer) → told now (Answers answer)
   told-stays now answer same quiet limit decides =
       let last = own (Answers answer) in
       sound-answered s (and_step opened last) answer refl
-      (done-here s opened last answer quiet (effect-stays s opened last.step answer (decides (has_room s (softs base.before))) same) limit)
+      (done-here s opened last answer quiet (effect-stays s opened last.step answer (decides (has_room s base.before call.server)) same) limit)
 
   -- the look that begins a try
-  pub told-start : base.after ≡ base.before → All IsQuiet steps → softs base.before ≤ s.limit
+  pub told-start : base.after ≡ base.before → All IsQuiet steps → softs_beside s call.server base.before ≤ limit_at s call.server
       → (let now = server_at base.before call.server in told now (from_start s call now))
   told-start same quiet limit =
       let now = server_at base.before call.server in
@@ -334,10 +335,10 @@ module _ (s : Settings) (thread : ℕ) (call : CallState) (steps : List OwnStep)
       let last = own (Answers Full) in
       let there = server_at saw.own.step.before call.server in
       let pinned : there ≡ found = IsNotNewer-same found there now saw.after_found saw.before_now is in
-      let no_room : has_room s (softs saw.own.step.before) ≡ false = le-ltb (softs saw.own.step.before) s.limit (omega (arith, saw.limit)) in
-      let decides : transition s (has_room s (softs saw.own.step.before)) call.number call.op there.mark there.stamp ≡ stays Full =
-      ap (λ (it : ServerState). transition s (has_room s (softs saw.own.step.before)) call.number call.op it.mark it.stamp) pinned
-      ∙ marks (has_room s (softs saw.own.step.before))
+      let no_room : has_room s saw.own.step.before call.server ≡ false = le-ltb (softs_beside s call.server saw.own.step.before) (limit_at s call.server) (omega (arith, saw.limit)) in
+      let decides : transition s (has_room s saw.own.step.before call.server) call.number call.op there.mark there.stamp ≡ stays Full =
+      ap (λ (it : ServerState). transition s (has_room s saw.own.step.before call.server) call.number call.op it.mark it.stamp) pinned
+      ∙ marks (has_room s saw.own.step.before call.server)
       ∙ ap (λ room. cond room (becomes (Soft call.number) TookSoft) (stays Full)) no_room in
       sound-answered s (and_step opened last) Full refl
       (record {
@@ -354,7 +355,7 @@ module _ (s : Settings) (thread : ℕ) (call : CallState) (steps : List OwnStep)
 
   -- the look at the soft word, which finds as many settled marks as may be
   pub told-limit : (found : ServerState) (lost : ℕ) → base.after ≡ base.before → All IsQuiet steps → Marks s call.number call.op found
-      → IsNotNewer found (server_at base.before call.server) → softs base.before ≡ s.limit
+      → IsNotNewer found (server_at base.before call.server) → softs_beside s call.server base.before ≡ limit_at s call.server
       → told (server_at base.before call.server) (Goes lost (Limit found))
   told-limit found lost same quiet marks older limit =
       let next : Decision = Goes lost (Limit found) in (
@@ -375,12 +376,12 @@ module _ (s : Settings) (thread : ℕ) (call : CallState) (steps : List OwnStep)
 
   -- a write of what the operation makes of the word that it found
   pub done-write : (decision : Decision) (found : ServerState) (mark : Mark) (answer : Reply) → All IsQuiet steps
-      → transition s (has_room s (softs base.before)) call.number call.op found.mark found.stamp ≡ becomes mark answer
+      → transition s (has_room s base.before call.server) call.number call.op found.mark found.stamp ≡ becomes mark answer
       → server_at base.before call.server ≡ found
       → base.after ≡ set base.before call.server (record { mark = mark; stamp = found.stamp + 1 })
-      → softs base.before ≤ s.limit → IsDone s (and_step opened (own decision)) answer
+      → softs_beside s call.server base.before ≤ limit_at s call.server → IsDone s (and_step opened (own decision)) answer
   done-write decision found mark answer quiet decides same wrote limit =
-      let P : ServerState → Type 0 = λ it. transition s (has_room s (softs base.before)) call.number call.op it.mark it.stamp ≡ becomes mark answer in
+      let P : ServerState → Type 0 = λ it. transition s (has_room s base.before call.server) call.number call.op it.mark it.stamp ≡ becomes mark answer in
       let Q : ServerState → Type 0 = λ it. base.after ≡ set base.before call.server (record { mark = mark; stamp = it.stamp + 1 }) in
       done-here s opened (own decision) answer quiet
       (effect-becomes s opened (own decision).step mark answer (subst P (sym same) decides) (subst Q (sym same) wrote)) limit

@@ -14,9 +14,9 @@ use Rattle.tko_steps.specs.declared.phase.Slots.{Slots}
 use Rattle.tko_steps.specs.declared.phase.ThreadState.{ThreadState}
 use Rattle.tko_steps.specs.declared.phase.ThreadState.TheVariants.{NotEnrolled, Idle, InCall}
 use Rattle.tko_steps.specs.declared.step.Place.TheVariants as place
-use Rattle.tko_steps.specs.Core.{abstract_of, thread_at}
+use Rattle.tko_steps.specs.Core.{abstract_of, thread_at, slots_at}
 use Rattle.tko_steps.specs.Steps.{kind_of_exchange}
-use Rattle.tko_steps.specs.Invariant.{IsCore, holds}
+use Rattle.tko_steps.specs.Invariant.{IsCore, holds_in}
 use Rattle.tko_steps.specs.Lost.{IsChangedSince, IsLostToOther, IsSlotOfOther, LosesToOthers, finds_change, finds_no_slot, is_look, last_look, newest_steps}
 use Rattle.tko_steps.specs.Runs.{Call, InEveryRun, OwnStep, StepTaken, Took, World, calls_of, run}
 use Rattle.tko_steps.specs.Table.{same_server, same_slots}
@@ -31,6 +31,8 @@ use Rattle.tko_steps.proofs.TableLemmas.{eq-same_server}
 use Rattle.tko_steps.proofs.TryLemmas.{exchange-not_look}
 use Rattle.tko_steps.proofs.WiringLemmas.{keeps-step, stepped_from}
 use Rattle.tko_steps.proofs.CountLemmas.{bit}
+use Rattle.tko_model.specs.Groups.{group_of, limit_of}
+use Rattle.tko_steps.proofs.CoreLemmas.{own-group}
 
 same_slots_refl : (slots : Slots) → same_slots slots slots ≡ true
 same_slots_refl slots = rw (eq-eqb slots.firm slots.firm refl) (eq-eqb slots.held slots.held refl)
@@ -74,7 +76,7 @@ module _ (w : World) (thread : ℕ) (call : CallState) (steps : List OwnStep) (i
   now = server_at (abstract_of w.core) call.server
 
   abbrev slots : Slots
-  slots = w.core.shared.slots
+  slots = slots_at w.core.shared.slots (group_of s call.server)
 
   abbrev step : Phase → StepTaken
   step phase = act_step w.core thread call phase
@@ -83,7 +85,7 @@ module _ (w : World) (thread : ℕ) (call : CallState) (steps : List OwnStep) (i
   abbrev IsLost : Phase → Type 0
   IsLost phase =
       (finds_change (step phase) (last_look s (step phase).place steps) ≡ true → IsChangedSince thread (step phase).place w.past)
-      × (finds_no_slot s (step phase) ≡ true → IsSlotOfOther w.core thread)
+      × ((group : ℕ) → (step phase).place ≡ place.Soft group → finds_no_slot s (step phase) ≡ true → IsSlotOfOther w.core thread group)
 
   -- a server that isn't as found was changed
   changed-server : (held : Bool) (found : ServerState) → HasLooked s w thread call.server call.lost steps held found → (same_server now found ≡ true → ⊥)
@@ -104,32 +106,35 @@ module _ (w : World) (thread : ℕ) (call : CallState) (steps : List OwnStep) (i
             let lost : not (step phase).won ≡ true = (and_parts (not (step phase).won) (is_some (last_look s (step phase).place steps)) both).0 in
             let changed = changed-server held found has (λ won. not-true (step phase).won lost (is_won ∙ won)) in
             subst (λ at. IsChangedSince thread at w.past) (sym on) changed,
-        λ e. let no : finds_no_slot s (step phase) ≡ false = and_left _ _ no_look in cc,
+        λ group at e. let no : finds_no_slot s (step phase) ≡ false = and_left _ _ no_look in cc,
       )
 
   lost-AtThreshold : (found : ServerState) → thread_at w.core thread ≡ InCall call (AtThreshold found) → IsLost (AtThreshold found)
   lost-AtThreshold found stands = (
     λ e. cc,
-    λ e.
-        let parts = and_parts (ltb slots.firm s.limit) (eqb (slots.firm + slots.held) s.limit) e in
-        let below = ltb-true slots.firm s.limit parts.0 in
-        let all = eqb-true (slots.firm + slots.held) s.limit parts.1 in
-        let one : 1 ≤ count_by holds w.core.threads = omega (arith, below, all, is.held) in
-        let found_one = passes-count_by holds w.core.threads NotEnrolled one in
-        record {
+    λ group at e.
+        let own = group_of s call.server in
+        let same : own ≡ group = cc in
+        let parts = and_parts (ltb slots.firm (limit_of s own)) (eqb (slots.firm + slots.held) (limit_of s own)) e in
+        let below = ltb-true slots.firm (limit_of s own) parts.0 in
+        let all = eqb-true (slots.firm + slots.held) (limit_of s own) parts.1 in
+        let one : 1 ≤ count_by (holds_in s own) w.core.threads = omega (arith, below, all, (own-group w.core call.server is).held) in
+        let found_one = passes-count_by (holds_in s own) w.core.threads NotEnrolled one in
+        subst (IsSlotOfOther w.core thread) same (record {
           holder = found_one.at;
           other = λ same.
-              let mine : holds (thread_at w.core thread) ≡ true = ap (λ at. holds (thread_at w.core at)) (sym same) ∙ found_one.passes in
-              let none : holds (thread_at w.core thread) ≡ false = ap holds stands in
+              let mine : holds_in s own (thread_at w.core thread) ≡ true =
+              ap (λ at. holds_in s own (thread_at w.core at)) (sym same) ∙ found_one.passes in
+              let none : holds_in s own (thread_at w.core thread) ≡ false = ap (holds_in s own) stands in
               cc;
           holds = found_one.passes;
-        },
+        }),
   )
 
   lost-to : (phase : Phase) → thread_at w.core thread ≡ InCall call phase → Tries s w thread call steps phase → IsLost phase
   lost-to Start stands knows = (
     λ e. let none : finds_change (step Start) (last_look s (place.Server call.server) steps) ≡ false = ap (λ it. finds_change (step Start) it) knows.looked in cc,
-    λ e. cc,
+    λ group at e. cc,
   )
   lost-to (Read found mark answer) stands knows = lost-exchange (Read found mark answer) found mark false knows.0 refl refl refl
   lost-to (AtThreshold found) stands knows = lost-AtThreshold found stands
@@ -141,24 +146,24 @@ module _ (w : World) (thread : ℕ) (call : CallState) (steps : List OwnStep) (i
         (λ (same : now ≡ found). absurd (not-true (same_server found now) other (eq-same_server found now (sym same))))
         (λ (changed : IsChangedSince thread (place.Server call.server) w.past). changed)
         knows.since,
-    λ e. cc,
+    λ group at e. cc,
   )
   lost-to (Reserving found before) stands knows = (
     λ e.
         ⊎_elim
         (λ (same : slots ≡ before).
-        let lost = (and_parts (not (same_slots slots before)) (is_some (last_look s place.Soft steps)) e).0 in
+        let lost = (and_parts (not (same_slots slots before)) (is_some (last_look s (place.Soft (group_of s call.server)) steps)) e).0 in
         absurd (not-true (same_slots slots before) lost (eq-same_slots slots before same)))
-        (λ (changed : IsChangedSince thread place.Soft w.past). changed)
+        (λ (changed : IsChangedSince thread (place.Soft (group_of s call.server)) w.past). changed)
         knows.1.since,
-    λ e. cc,
+    λ group at e. cc,
   )
   lost-to (Holding found) stands knows = lost-exchange (Holding found) found (Soft call.number) true knows refl refl refl
-  lost-to Firming stands knows = (λ e. cc, λ e. cc)
-  lost-to Losing stands knows = (λ e. cc, λ e. cc)
-  lost-to (Loosening found mark answer) stands knows = (λ e. cc, λ e. cc)
+  lost-to Firming stands knows = (λ e. cc, λ group at e. cc)
+  lost-to Losing stands knows = (λ e. cc, λ group at e. cc)
+  lost-to (Loosening found mark answer) stands knows = (λ e. cc, λ group at e. cc)
   lost-to (Loosened found mark answer) stands knows = lost-exchange (Loosened found mark answer) found mark true knows.0 refl refl refl
-  lost-to (Emptied answer) stands knows = (λ e. cc, λ e. cc)
+  lost-to (Emptied answer) stands knows = (λ e. cc, λ group at e. cc)
 
   pub lost-act : (phase : Phase) → thread_at w.core thread ≡ InCall call phase → latest thread (calls_of w.past) ≡ Some (open_call thread call steps)
       → Tries s w thread call steps phase → IsLostToOther s w (step phase)
@@ -178,7 +183,7 @@ lost-stepped_from : (s : Settings) (w : World) (thread : ℕ) (state : ThreadSta
     → (stepped_from w thread state).past ≡ Took step ∷ w.past → IsLostToOther s w step
 lost-stepped_from s w thread NotEnrolled step both holds inside stands e =
     let same : enrol_step w.core thread ≡ step = cc in
-    subst (IsLostToOther s w) same (record { changed = λ e. cc; held = λ e. cc })
+    subst (IsLostToOther s w) same (record { changed = λ e. cc; held = λ group at e. cc })
 lost-stepped_from s w thread (Idle number) step both holds inside stands e = absurd (not-longer (Took step) w.past e)
 lost-stepped_from s w thread (InCall call phase) step both holds inside stands e =
     let same : act_step w.core thread call phase ≡ step = cc in

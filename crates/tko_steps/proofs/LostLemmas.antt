@@ -18,7 +18,7 @@ use Rattle.tko_steps.specs.declared.step.Place.TheVariants as place
 use Rattle.tko_steps.specs.declared.step.Word.TheVariants as word
 use Rattle.tko_steps.specs.declared.table.Decision.{Decision}
 use Rattle.tko_steps.specs.declared.table.Decision.TheVariants.{Goes, Answers}
-use Rattle.tko_steps.specs.Core.{abstract_of, follows, thread_at}
+use Rattle.tko_steps.specs.Core.{abstract_of, follows, thread_at, slots_at}
 use Rattle.tko_steps.specs.Steps.{answer_of, kind_of_exchange}
 use Rattle.tko_steps.specs.Invariant.{IsCore}
 use Rattle.tko_steps.specs.Lost.{ExpectsWhatItSaw, HasLostEachTry, IsChangedSince, holds_slot, is_exchange, is_give, is_look, is_look_of, last_look, loses_try, lost_tries, owes_slot, same_place, was_seen}
@@ -28,6 +28,8 @@ use Rattle.tko_steps.proofs.FamilyLemmas.{Follows, act_own}
 use Rattle.tko_steps.proofs.StartLemmas.{from_start-is, is_plain, plain≢}
 use Rattle.tko_steps.proofs.TryLemmas.{exchange-holds, exchange-is_exchange, exchange-no_give, exchange-not_look, last_look-elsewhere, last_look-here, last_look-lost, loses_try-change, lost_tries-given, lost_tries-held, lost_tries-kept, lost_tries-lost, owes_slot-held}
 use Rattle.tko_steps.proofs.WiringLemmas.{stepped_from}
+use Rattle.tko_model.specs.Groups.{group_of, limit_at}
+use Rattle.tko_steps.proofs.CoreLemmas.{own-group}
 
 -- ---- what a call knows of its tries
 
@@ -50,10 +52,10 @@ pub record HasLooked (s : Settings) (w : World) (thread server lost : ℕ) (step
   pub looked : last_look s (place.Server server) steps ≡ Some (word.Server found)
   pub since : (server_at (abstract_of w.core) server ≡ found) ⊎ IsChangedSince thread (place.Server server) w.past
 
--- the same of the soft word
-pub record HasCounted (s : Settings) (w : World) (thread : ℕ) (steps : List OwnStep) (slots : Slots) : Type 0 where
-  pub looked : last_look s place.Soft steps ≡ Some (word.Soft slots)
-  pub since : (w.core.shared.slots ≡ slots) ⊎ IsChangedSince thread place.Soft w.past
+-- the same of the soft word of a group
+pub record HasCounted (s : Settings) (w : World) (thread group : ℕ) (steps : List OwnStep) (slots : Slots) : Type 0 where
+  pub looked : last_look s (place.Soft group) steps ≡ Some (word.Soft slots)
+  pub since : (slots_at w.core.shared.slots group ≡ slots) ⊎ IsChangedSince thread (place.Soft group) w.past
 
 abbrev pub Tries : Settings → World → ℕ → CallState → List OwnStep → Phase → Type 0
 Tries s w thread call steps Start = HasNotLooked s call.server call.lost steps
@@ -62,7 +64,7 @@ Tries s w thread call steps (Read found mark answer) =
 Tries s w thread call steps (AtThreshold found) = HasLooked s w thread call.server call.lost steps false found
 Tries s w thread call steps (Limit found) = HasLooked s w thread call.server call.lost steps false found
 Tries s w thread call steps (Reserving found slots) =
-    HasLooked s w thread call.server call.lost steps false found × HasCounted s w thread steps slots
+    HasLooked s w thread call.server call.lost steps false found × HasCounted s w thread (group_of s call.server) steps slots
 Tries s w thread call steps (Holding found) = HasLooked s w thread call.server call.lost steps true found
 Tries s w thread call steps Firming = Unit {0}
 Tries s w thread call steps Losing = HasLost s call.server call.lost steps
@@ -99,7 +101,10 @@ module _ (w : World) (thread : ℕ) (call : CallState) (steps : List OwnStep) (i
   now = server_at (abstract_of w.core) call.server
 
   abbrev slots : Slots
-  slots = w.core.shared.slots
+  slots = slots_at w.core.shared.slots (group_of s call.server)
+
+  abbrev at_slots : Place
+  at_slots = place.Soft (group_of s call.server)
 
   abbrev at_server : Place
   at_server = place.Server call.server
@@ -116,6 +121,9 @@ module _ (w : World) (thread : ℕ) (call : CallState) (steps : List OwnStep) (i
 
   here : same_place at_server at_server ≡ true
   here = eq-eqb call.server call.server refl
+
+  here_slots : same_place at_slots at_slots ≡ true
+  here_slots = eq-eqb (group_of s call.server) (group_of s call.server) refl
 
   abbrev loses : Phase → Bool
   loses phase = loses_try s (own phase).step (last_look s (own phase).step.place steps)
@@ -147,7 +155,7 @@ module _ (w : World) (thread : ℕ) (call : CallState) (steps : List OwnStep) (i
 
   -- the try goes on after a step on the soft word
   goes-on : (phase : Phase) (found : ServerState) (held now_held : Bool) → HasLooked s w thread call.server call.lost steps held found
-      → loses phase ≡ false → is_give (own phase).step.kind ≡ false → holds_slot (own phase ∷ steps) ≡ now_held → (own phase).step.place ≡ place.Soft
+      → loses phase ≡ false → is_give (own phase).step.kind ≡ false → holds_slot (own phase ∷ steps) ≡ now_held → (own phase).step.place ≡ at_slots
       → ((server_at (abstract_of (after phase).core) call.server ≡ found) ⊎ IsChangedSince thread at_server (after phase).past)
       → HasLooked s (after phase) thread call.server call.lost (own phase ∷ steps) now_held found
   goes-on phase found held now_held has goes_on no_give holds soft since =
@@ -208,25 +216,25 @@ module _ (w : World) (thread : ℕ) (call : CallState) (steps : List OwnStep) (i
       (exchange-no_give found.mark mark) (exchange-holds found.mark mark (own phase).step.won (holds_slot steps) ∙ has.holds) expected)
   tries-act (AtThreshold found) stands (expects, has) =
       let phase : Phase = AtThreshold found in
-      let rest = cond (eqb (slots.firm + slots.held) s.limit) (lost_try s call) (goes call (Reserving found slots)) in
+      let rest = cond (eqb (slots.firm + slots.held) (limit_at s call.server)) (lost_try s call) (goes call (Reserving found slots)) in
       let since = since-push thread at_server (own phase).step w.past refl has.since in
-      cond_both (eqb slots.firm s.limit) (goes call (Limit found)) rest (Next phase)
+      cond_both (eqb slots.firm (limit_at s call.server)) (goes call (Limit found)) rest (Next phase)
       (λ full.
-      let firm = eqb-true slots.firm s.limit full in
-      let goes_on : loses phase ≡ false = and_left _ _ (le-ltb slots.firm s.limit (omega (arith, firm))) in
+      let firm = eqb-true slots.firm (limit_at s call.server) full in
+      let goes_on : loses phase ≡ false = and_left _ _ (le-ltb slots.firm (limit_at s call.server) (omega (arith, firm))) in
       ((refl, expects), goes-on phase found false false has goes_on refl has.holds refl since))
       (λ below.
-      let apart = eqb-false slots.firm s.limit below in
-      cond_both (eqb (slots.firm + slots.held) s.limit) (lost_try s call) (goes call (Reserving found slots)) (Next phase)
+      let apart = eqb-false slots.firm (limit_at s call.server) below in
+      cond_both (eqb (slots.firm + slots.held) (limit_at s call.server)) (lost_try s call) (goes call (Reserving found slots)) (Next phase)
       (λ held.
-      let loses : loses phase ≡ true = and_from _ _ (lt-ltb slots.firm s.limit (omega (arith, is.room))) held in
+      let loses : loses phase ≡ true = and_from _ _ (lt-ltb slots.firm (limit_at s call.server) (omega (arith, (own-group w.core call.server is).room))) held in
       loses-now phase found (cond-false _ _ _ below ∙ cond-true _ _ _ held) has loses refl has.holds (refl, expects))
       (λ left.
       let goes_on : loses phase ≡ false = and_right _ _ left in (
         (refl, expects),
         (
           goes-on phase found false false has goes_on refl has.holds refl since,
-          record { looked = last_look-here s (own phase) steps place.Soft goes_on refl; since = inl refl },
+          record { looked = last_look-here s (own phase) steps at_slots goes_on here_slots; since = inl refl },
         ),
       )))
   tries-act (Limit found) stands (expects, has) =
@@ -239,10 +247,10 @@ module _ (w : World) (thread : ℕ) (call : CallState) (steps : List OwnStep) (i
       loses-now phase found (cond-false _ _ _ other) has (looks ∙ ap (λ b. not b || false) other) refl has.holds (refl, expects))
   tries-act (Reserving found before) stands (expects, (has, counted)) =
       let phase : Phase = Reserving found before in
-      let seen : was_seen (last_look s place.Soft steps) (word.Soft slots) ≡ same_slots slots before =
+      let seen : was_seen (last_look s at_slots steps) (word.Soft slots) ≡ same_slots slots before =
       ap (λ it. was_seen it (word.Soft slots)) counted.looked in
       let loses_not_won : loses phase ≡ not (same_slots slots before) =
-      loses_try-change s (own phase).step (last_look s place.Soft steps) refl (ap is_some counted.looked) in
+      loses_try-change s (own phase).step (last_look s at_slots steps) refl (ap is_some counted.looked) in
       let since = since-push thread at_server (own phase).step w.past refl has.since in
       cond_both (same_slots slots before) (goes call (Holding found)) (lost_try s call) (Next phase)
       (λ won. ((sym seen, expects), goes-on phase found false true has (loses_not_won ∙ ap not won) refl (ap (λ b. b || holds_slot steps) won) refl since))

@@ -19,8 +19,8 @@ use Rattle.tko_steps.specs.declared.table.Action.{Action}
 use Rattle.tko_steps.specs.declared.table.Action.TheVariants.{LookAtServer, LookAtSlots, Exchange, Reserve, Settle, Loosen, Give}
 use Rattle.tko_model.specs.Ranges.{IsWithinRanges}
 use Rattle.tko_steps.specs.Runs.{Turn, Moment, OwnStep, StepTaken, Took, World, run}
-use Rattle.tko_steps.specs.Core.{CanAct, Shared, abstract_of, follows, servers_after, thread_at, word_at}
-use Rattle.tko_steps.specs.Steps.{place_of, slots_after, word_after}
+use Rattle.tko_steps.specs.Core.{CanAct, Shared, abstract_of, follows, servers_after, thread_at, word_at, no_slots, slots_at, soft_words_after}
+use Rattle.tko_steps.specs.Steps.{place_of, word_after, slots_written}
 use Rattle.tko_steps.specs.Invariant.{IsCore}
 use Rattle.tko_steps.specs.Lost.{IsChangedSince}
 use Rattle.tko_steps.specs.Table.{action_of, same_server, same_slots}
@@ -34,6 +34,7 @@ use Rattle.tko_steps.proofs.LostLemmas.{HasLooked, IsTried, KnowsTries, Tries, t
 use Rattle.tko_steps.proofs.OwnLemmas.{act_step, enrol_step}
 use Rattle.tko_steps.proofs.TableLemmas.{same_server-true}
 use Rattle.tko_steps.proofs.WiringLemmas.{begun, stepped_from}
+use Rattle.tko_model.specs.Groups.{group_of}
 
 -- ---- what another thread's step changes
 
@@ -55,10 +56,10 @@ abbrev IsSince : {A : Type 0} → A → A → ℕ → Place → List Moment → 
 IsSince now found thread at past = (now ≡ found) ⊎ IsChangedSince thread at past
 
 -- a word that a step on a server leaves as it is, or changes as the word that the step is on
-module _ (shared : Shared) (server : ℕ) where
+module _ (s : Settings) (shared : Shared) (server : ℕ) where
   abbrev Moves : {A : Type 0} → A → A → Place → Action → Type 0
   Moves new now at action =
-      let on = place_of server action in
+      let on = place_of s server action in
       (new ≡ now) ⊎ ((on ≡ at) × (word_after action (word_at shared on) ≢ word_at shared on))
 
   abbrev here : ServerState
@@ -91,20 +92,39 @@ module _ (shared : Shared) (server : ℕ) where
   server-moves Loosen at = inl refl
   server-moves Give at = inl refl
 
-  reserve-moves : (won : Bool)
-      → (let new : Slots = cond won (record { firm = shared.slots.firm; held = shared.slots.held + 1 }) shared.slots in
-      (new ≡ shared.slots) ⊎ ((place.Soft ≡ place.Soft) × (word.Soft new ≢ word.Soft shared.slots)))
-  reserve-moves true = inr (refl, λ e. let more : shared.slots.held + 1 ≡ shared.slots.held = ap held_of e in omega (arith, more))
-  reserve-moves false = inl refl
+  abbrev group : ℕ
+  group = group_of s server
 
-  soft-moves : (action : Action) → CanAct shared server action → Moves (slots_after action shared.slots) shared.slots place.Soft action
-  soft-moves LookAtServer can = inl refl
-  soft-moves LookAtSlots can = inl refl
-  soft-moves (Exchange found mark) can = inl refl
-  soft-moves (Reserve slots) can = reserve-moves (same_slots shared.slots slots)
-  soft-moves Settle can = inr (refl, λ e. let more : shared.slots.firm + 1 ≡ shared.slots.firm = ap firm_of e in omega (arith, more))
-  soft-moves Loosen can = inr (refl, λ e. let more : shared.slots.held + 1 ≡ shared.slots.held = ap held_of e in omega (arith, more))
-  soft-moves Give can = inr (refl, λ e. let fewer : shared.slots.held - 1 ≡ shared.slots.held = ap held_of e in omega (arith, fewer, can))
+  abbrev counts : Slots
+  counts = slots_at shared.slots group
+
+  shift-moves : (new : Slots) (won : Bool) (at : ℕ) → (won ≡ true → word.Soft new ≢ word.Soft counts)
+      → (slots_at (cond won (set shared.slots group new) shared.slots) at ≡ slots_at shared.slots at)
+      ⊎ ((place.Soft group ≡ place.Soft at) × (word.Soft (cond won new counts) ≢ word.Soft counts))
+  shift-moves new false at differs = inl refl
+  shift-moves new true at differs =
+      ⊎_elim
+      (λ (same : at ≡ group). inr (ap place.Soft (sym same), differs refl))
+      (λ (elsewhere : at ≡ group → ⊥). inl (get_or-set_other shared.slots group at new no_slots elsewhere))
+      (cases_eq at group)
+
+  soft-moves : (action : Action) (at : ℕ) → CanAct s shared server action
+      → Moves (slots_at (soft_words_after shared.slots group action) at) (slots_at shared.slots at) (place.Soft at) action
+  soft-moves LookAtServer at can = inl refl
+  soft-moves LookAtSlots at can = inl refl
+  soft-moves (Exchange found mark) at can = inl refl
+  soft-moves (Reserve slots) at can =
+      shift-moves (slots_written (Reserve slots) counts) (same_slots counts slots) at
+      (λ won e. let more : counts.held + 1 ≡ counts.held = ap held_of e in omega (arith, more))
+  soft-moves Settle at can =
+      shift-moves (slots_written Settle counts) true at
+      (λ won e. let more : counts.firm + 1 ≡ counts.firm = ap firm_of e in omega (arith, more))
+  soft-moves Loosen at can =
+      shift-moves (slots_written Loosen counts) true at
+      (λ won e. let more : counts.held + 1 ≡ counts.held = ap held_of e in omega (arith, more))
+  soft-moves Give at can =
+      shift-moves (slots_written Give counts) true at
+      (λ won e. let fewer : counts.held - 1 ≡ counts.held = ap held_of e in omega (arith, fewer, can.1))
 
 -- what was known of a word since the last look at it, after a step of another thread
 since-moved : {A : Type 0} (thread other : ℕ) (new now seen : A) (at : Place) (step : StepTaken) (past : List Moment) → (thread ≡ other → ⊥)
@@ -123,8 +143,8 @@ abbrev KeepsSince : World → World → ℕ → Type 0
 KeepsSince w new thread =
     ((server : ℕ) (seen : ServerState) → IsSince (server_at (abstract_of w.core) server) seen thread (place.Server server) w.past
     → IsSince (server_at (abstract_of new.core) server) seen thread (place.Server server) new.past)
-    × ((seen : Slots) → IsSince w.core.shared.slots seen thread place.Soft w.past
-    → IsSince new.core.shared.slots seen thread place.Soft new.past)
+    × ((group : ℕ) (seen : Slots) → IsSince (slots_at w.core.shared.slots group) seen thread (place.Soft group) w.past
+    → IsSince (slots_at new.core.shared.slots group) seen thread (place.Soft group) new.past)
 
 module _ (s : Settings) (w new : World) (thread : ℕ) (call : CallState) (steps : List OwnStep) (keeps : KeepsSince w new thread) where
   looked-kept : (held : Bool) (found : ServerState) → HasLooked s w thread call.server call.lost steps held found
@@ -137,7 +157,7 @@ module _ (s : Settings) (w new : World) (thread : ℕ) (call : CallState) (steps
   tries-kept (AtThreshold found) knows = looked-kept false found knows
   tries-kept (Limit found) knows = looked-kept false found knows
   tries-kept (Reserving found slots) knows =
-      (looked-kept false found knows.0, record { looked = knows.1.looked; since = keeps.1 slots knows.1.since })
+      (looked-kept false found knows.0, record { looked = knows.1.looked; since = keeps.1 (group_of s call.server) slots knows.1.since })
   tries-kept (Holding found) knows = looked-kept true found knows
   tries-kept Firming knows = tt
   tries-kept Losing knows = knows
@@ -150,17 +170,17 @@ KeepsSince-stepped : (w : World) (thread other : ℕ) (state : ThreadState) → 
 KeepsSince-stepped w thread other NotEnrolled is inside stands apart =
     let step = enrol_step w.core other in (
       λ server seen since. since-moved thread other _ _ seen (place.Server server) step w.past apart refl (inl refl) since,
-      λ seen since. since-moved thread other _ _ seen place.Soft step w.past apart refl (inl refl) since,
+      λ group seen since. since-moved thread other _ _ seen (place.Soft group) step w.past apart refl (inl refl) since,
     )
-KeepsSince-stepped w thread other (Idle number) is inside stands apart = (λ server seen since. since, λ seen since. since)
+KeepsSince-stepped w thread other (Idle number) is inside stands apart = (λ server seen since. since, λ group seen since. since)
 KeepsSince-stepped w thread other (InCall call phase) is inside stands apart =
     let step = act_step w.core other call phase in
     let action = action_of call.number phase in (
       λ server seen since.
-          since-moved thread other _ _ seen (place.Server server) step w.past apart refl (server-moves w.core.shared call.server action server) since,
-      λ seen since.
-          since-moved thread other _ _ seen place.Soft step w.past apart refl
-          (soft-moves w.core.shared call.server action (CanAct-at w.core other call is inside phase stands)) since,
+          since-moved thread other _ _ seen (place.Server server) step w.past apart refl (server-moves w.core.settings w.core.shared call.server action server) since,
+      λ group seen since.
+          since-moved thread other _ _ seen (place.Soft group) step w.past apart refl
+          (soft-moves w.core.settings w.core.shared call.server action group (CanAct-at w.core other call is inside phase stands)) since,
     )
 
 tried-open : (s : Settings) (w : World) (thread : ℕ) (call : CallState) (steps : List OwnStep) (phase : Phase)
@@ -181,7 +201,7 @@ TriedCalls-run s ranges turns =
     Follows it (KnowsTries it) (IsTried it) (stepped_from w thread (InCall call phase)) thread call steps (act_own w thread call phase) (follows w.core call phase) in
     subst Q both.0.settings (tries-act w thread call steps both.0.core inside phase stands (subst P (sym both.0.settings) knows)))
     (λ w thread other op server call steps phase knows.
-    (knows.0, tries-kept s w (begun w other op server) thread call steps (λ at seen since. since, λ seen since. since) phase knows.1))
+    (knows.0, tries-kept s w (begun w other op server) thread call steps (λ at seen since. since, λ group seen since. since) phase knows.1))
     (λ w thread other state call steps phase both inside at here apart knows.
     (knows.0, tries-kept s w (stepped_from w other state) thread call steps (KeepsSince-stepped w thread other state both.0.core inside at apart) phase knows.1))
     ranges turns

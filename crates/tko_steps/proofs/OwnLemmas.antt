@@ -51,7 +51,7 @@ number-after-step call (Answers answer) = refl
 abbrev pub act_step : CoreState → ℕ → Call → Phase → StepTaken
 act_step core thread call phase =
     let act = action_of call.number phase in
-    let at = place_of call.server act in
+    let at = place_of core.settings call.server act in
     record {
       thread = thread;
       kind = kind_of act;

@@ -137,10 +137,10 @@ module _ (servers : List ServerState) (server number : ℕ) (found : ServerState
 
 module _ (s : Settings) (shared : Shared) (call : Call) where
   abbrev found_at : Phase → Word
-  found_at phase = word_at shared (place_of call.server (action_of call.number phase))
+  found_at phase = word_at shared (place_of s call.server (action_of call.number phase))
 
   abbrev servers_then : Phase → List ServerState
-  servers_then phase = (shared_after shared call.server (action_of call.number phase)).servers
+  servers_then phase = (shared_after s shared call.server (action_of call.number phase)).servers
 
   abbrev at_server : ServerState
   at_server = server_at shared.servers call.server
@@ -183,7 +183,7 @@ module _ (s : Settings) (shared : Shared) (call : Call) where
   -- the thread of the call owns what its step leaves it
   pub own-step : (phase : Phase) → IsThread s shared.servers (InCall call phase) → (owned : ℕ → Bool)
       → IsOwnedBy shared.servers (Some call.number) owned
-      → IsOwnedBy (servers_then phase) (Some call.number) (owned_after call phase (found_at phase) owned)
+      → IsOwnedBy (servers_then phase) (Some call.number) (owned_after s call phase (found_at phase) owned)
   own-step Start knows owned is = λ at. cond_same (eqb call.server at) (owned at) (owned at) refl ∙ is at
   own-step (Read found mark answer) knows owned is =
       own-exchange shared.servers call.server call.number found mark knows.0 (owners-written call.number mark knows.2.0.own)

@@ -17,7 +17,7 @@ use Rattle.tko_steps.specs.declared.phase.ThreadState.TheVariants.{NotEnrolled, 
 use Rattle.tko_steps.specs.declared.step.Kind.TheVariants as kind
 use Rattle.tko_steps.specs.declared.table.Decision.{Decision}
 use Rattle.tko_steps.specs.declared.table.Decision.TheVariants.{Goes, Answers}
-use Rattle.tko_steps.specs.Core.{IsOwner, owner_of, abstract_of, follows, names, number_of, thread_at}
+use Rattle.tko_steps.specs.Core.{IsOwner, owner_of, abstract_of, follows, names, number_of, thread_at, slots_at}
 use Rattle.tko_steps.specs.Steps.{answer_of, kind_of_exchange}
 use Rattle.tko_steps.specs.Invariant.{IsCore, IsFoundBy}
 use Rattle.tko_steps.specs.Legal.{IsOwnersAnswer}
@@ -33,6 +33,7 @@ use Rattle.tko_steps.proofs.OwnLemmas.{AreOwned, act_step, enrol_step, owns-apar
 use Rattle.tko_steps.proofs.OwnedLemmas.{cond_same, owns_after-lost, true-names}
 use Rattle.tko_steps.proofs.TableLemmas.{eq-same_server}
 use Rattle.tko_steps.proofs.WiringLemmas.{begun, stepped_from}
+use Rattle.tko_model.specs.Groups.{group_of, limit_at}
 
 -- a step before which the server's mark did not name this number
 abbrev pub IsNotOwners : ℕ → ℕ → OwnStep → Type 0
@@ -186,12 +187,12 @@ module _ (w : World) (thread : ℕ) (call : CallState) (steps : List OwnStep) (i
       (none-step phase stands (unowned (found-unmarked call.number now found found.mark refl knows.2.1 lost))))
   owner-act (AtThreshold found) stands knows =
       let phase : Phase = AtThreshold found in
-      let slots = w.core.shared.slots in
+      let slots = slots_at w.core.shared.slots (group_of s call.server) in
       let next = unowned-step phase stands knows refl in
-      let rest = cond (eqb (slots.firm + slots.held) s.limit) (lost_try s call) (goes call (Reserving found slots)) in
-      cond_both (eqb slots.firm s.limit) (goes call (Limit found)) rest (Next phase)
+      let rest = cond (eqb (slots.firm + slots.held) (limit_at s call.server)) (lost_try s call) (goes call (Reserving found slots)) in
+      cond_both (eqb slots.firm (limit_at s call.server)) (goes call (Limit found)) rest (Next phase)
       (λ full. next)
-      (λ below. cond_both (eqb (slots.firm + slots.held) s.limit) (lost_try s call) (goes call (Reserving found slots)) (Next phase)
+      (λ below. cond_both (eqb (slots.firm + slots.held) (limit_at s call.server)) (lost_try s call) (goes call (Reserving found slots)) (Next phase)
       (λ held. lost-unowned phase next.none) (λ left. next))
   owner-act (Limit found) stands knows =
       let phase : Phase = Limit found in
@@ -201,7 +202,7 @@ module _ (w : World) (thread : ℕ) (call : CallState) (steps : List OwnStep) (i
   owner-act (Reserving found before) stands knows =
       let phase : Phase = Reserving found before in
       let next = unowned-step phase stands knows refl in
-      cond_both (same_slots w.core.shared.slots before) (goes call (Holding found)) (lost_try s call) (Next phase)
+      cond_both (same_slots (slots_at w.core.shared.slots (group_of s call.server)) before) (goes call (Holding found)) (lost_try s call) (Next phase)
       (λ won. next) (λ lost. lost-unowned phase next.none)
   owner-act (Holding found) stands knows =
       let phase : Phase = Holding found in

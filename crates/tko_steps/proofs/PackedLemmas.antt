@@ -8,13 +8,10 @@ use Rattle.tko_word.proofs.SoftLemmas.{firm_in-lt, firm_in-soft_word, held_in-so
 use Rattle.tko_word.proofs.WordLemmas.{server_in-health_word, server_in_same}
 use Rattle.tko_steps.specs.declared.phase.Slots.{Slots}
 use Rattle.tko_steps.specs.declared.table.Action.TheVariants.{Exchange, Give, Loosen, Reserve, Settle}
+use Rattle.tko_steps.specs.Core.{slots_in}
 use Rattle.tko_steps.specs.Steps.{server_after, slots_after}
 use Rattle.tko_steps.specs.Table.{same_server, same_slots}
 use Rattle.tko_steps.proofs.TableLemmas.{eq-same_server, same_server-true, same_slots-true}
-
--- the counts that a soft word holds
-abbrev pub slots_in : ℕ → Slots
-slots_in word = record { firm = firm_in word; held = held_in word }
 
 slots_is : (word firm held : ℕ) → firm_in word ≡ firm → held_in word ≡ held → slots_in word ≡ record { firm = firm; held = held }
 slots_is word firm held firms helds =

@@ -11,8 +11,8 @@ use Rattle.tko_steps.specs.declared.phase.ThreadState.TheVariants.{NotEnrolled, 
 use Rattle.tko_steps.specs.Runs.{Turn, InEveryRun, World, happens, start}
 use Rattle.tko_steps.specs.Core.{CoreState, abstract_of, names, number_of, opened_core, thread_at}
 use Rattle.tko_steps.specs.Steps.{begun_by}
-use Rattle.tko_steps.specs.Invariant.{IsCore, holds, is_loose}
-use Rattle.tko_steps.specs.Safe.{CountsSlots, HasOneResponsible, OwnsItsMarks}
+use Rattle.tko_steps.specs.Invariant.{IsCore, holds_in, is_loose_in}
+use Rattle.tko_steps.specs.Safe.{CountSlots, HasOneResponsible, OwnsItsMarks}
 use Rattle.tko_steps.proofs.CountLemmas.{get_or-replicate_same, bit}
 use Rattle.tko_steps.proofs.CoreLemmas.{loose-le-holds, IsCore-after_act, IsCore-after_begin, IsCore-after_enrol, IsCore-opened_core}
 use Rattle.tko_steps.proofs.OwnLemmas.{AreOwned, AreOwned-act, AreOwned-begun, AreOwned-enrolled}
@@ -68,15 +68,17 @@ Holds-turn s w turn holds =
 pub Holds-run : InEveryRun Holds
 Holds-run s ranges turns = along-turns Holds Holds-turn s (start s) turns (Holds-start s ranges)
 
-pub CountsSlots-core : (core : CoreState) → IsCore core → CountsSlots core
-CountsSlots-core core is =
-    let le = sum_by-le-sum_by (λ it. bit (is_loose it)) (λ it. bit (holds it)) core.threads loose-le-holds in
+pub CountSlots-core : (core : CoreState) → IsCore core → CountSlots core
+CountSlots-core core is group below =
+    let s = core.settings in
+    let mine = is.counts group below in
+    let le = sum_by-le-sum_by (λ it. bit (is_loose_in s group it)) (λ it. bit (holds_in s group it)) core.threads (loose-le-holds s group) in
     record {
-      settled = omega (arith, is.firm);
-      marked = omega (arith, is.firm, is.held, le);
-      limit = is.room;
-      held = sym is.held;
-      loose = is.firm;
+      settled = omega (arith, mine.firm);
+      marked = omega (arith, mine.firm, mine.held, le);
+      limit = mine.room;
+      held = sym mine.held;
+      loose = mine.firm;
     }
 
 pub OwnsItsMarks-world : (w : World) → AreOwned w.past (abstract_of w.core) w.core.threads → OwnsItsMarks w

@@ -19,12 +19,12 @@ use Rattle.tko_steps.specs.declared.table.Decision.{Decision}
 use Rattle.tko_steps.specs.declared.table.Decision.TheVariants.{Goes, Answers}
 use Rattle.tko_steps.specs.Runs.{InEveryRun, Call, Moment, OwnStep, Took, World, and_step, began, begun_call, calls_of, own_step, run, start, with_step}
 use Rattle.tko_steps.specs.Alone.{InEveryRunAlone, IsIdleUnlessOf, IsStepOf, Replays}
-use Rattle.tko_steps.specs.Core.{CoreState, abstract_of, after_act, follows, is_call_step, thread_at}
+use Rattle.tko_steps.specs.Core.{CoreState, abstract_of, after_act, follows, is_call_step, thread_at, slots_at}
 use Rattle.tko_steps.specs.Steps.{answer_of, begun_by, kind_of, state_after}
-use Rattle.tko_steps.specs.Invariant.{IsCore, holds, holds_at}
+use Rattle.tko_steps.specs.Invariant.{IsCore, holds, holds_at, holds_in}
 use Rattle.tko_steps.specs.Legal.{tracker_in}
 use Rattle.tko_steps.specs.Table.{action_of, goes, lost_try, same_server, same_slots}
-use Rattle.tko_steps.proofs.CountLemmas.{get_or-replicate_same}
+use Rattle.tko_steps.proofs.CountLemmas.{get_or-replicate_same, holds_in-holds}
 use Rattle.tko_steps.proofs.AloneLemmas.{IsNotContended, Plays, Plays-with_step, Replays-plays}
 use Rattle.tko_steps.proofs.CallLemmas.{All-with_step, latest, with_step-none}
 use Rattle.tko_steps.proofs.EveryCallLemmas.{HoldsBoth, HoldsBoth-run, along}
@@ -35,6 +35,8 @@ use Rattle.tko_steps.proofs.OwnLemmas.{act_step, enrol_step}
 use Rattle.tko_steps.proofs.TableLemmas.{eq-same_server}
 use Rattle.tko_steps.proofs.TryLemmas.{by_exchange}
 use Rattle.tko_steps.proofs.WiringLemmas.{begun, stepped_from}
+use Rattle.tko_model.specs.Groups.{group_of, limit_at}
+use Rattle.tko_steps.proofs.CoreLemmas.{own-group}
 
 -- ---- what the thread saw still is there
 
@@ -51,24 +53,25 @@ SteadyAt now slots (Loosening found mark answer) = is_plain answer ≡ true
 SteadyAt now slots (Loosened found mark answer) = is_plain answer ≡ true
 SteadyAt now slots (Emptied answer) = is_plain answer ≡ true
 
-abbrev IsSteady : List ServerState → Slots → ThreadState → Type 0
-IsSteady servers slots NotEnrolled = Unit {0}
-IsSteady servers slots (Idle number) = Unit {0}
-IsSteady servers slots (InCall call phase) = SteadyAt (server_at servers call.server) slots phase
+abbrev IsSteady : Settings → List ServerState → List Slots → ThreadState → Type 0
+IsSteady s servers slots NotEnrolled = Unit {0}
+IsSteady s servers slots (Idle number) = Unit {0}
+IsSteady s servers slots (InCall call phase) = SteadyAt (server_at servers call.server) (slots_at slots (group_of s call.server)) phase
 
-abbrev SteadyNext : CallState → List ServerState → Slots → Decision → Type 0
-SteadyNext call servers slots (Goes lost phase) = SteadyAt (server_at servers call.server) slots phase
-SteadyNext call servers slots (Answers answer) = answer ≢ Contended
+abbrev SteadyNext : Settings → CallState → List ServerState → List Slots → Decision → Type 0
+SteadyNext s call servers slots (Goes lost phase) =
+    SteadyAt (server_at servers call.server) (slots_at slots (group_of s call.server)) phase
+SteadyNext s call servers slots (Answers answer) = answer ≢ Contended
 
-steady-state : (call : CallState) (servers : List ServerState) (slots : Slots) (decision : Decision) → SteadyNext call servers slots decision
-    → IsSteady servers slots (state_after call decision)
-steady-state call servers slots (Goes lost phase) next = next
-steady-state call servers slots (Answers answer) next = tt
+steady-state : (s : Settings) (call : CallState) (servers : List ServerState) (slots : List Slots) (decision : Decision) → SteadyNext s call servers slots decision
+    → IsSteady s servers slots (state_after call decision)
+steady-state s call servers slots (Goes lost phase) next = next
+steady-state s call servers slots (Answers answer) next = tt
 
-steady-plain : (call : CallState) (servers : List ServerState) (slots : Slots) (decision : Decision) → SteadyNext call servers slots decision
+steady-plain : (s : Settings) (call : CallState) (servers : List ServerState) (slots : List Slots) (decision : Decision) → SteadyNext s call servers slots decision
     → answer_of decision ≢ Some Contended
-steady-plain call servers slots (Goes lost phase) next = λ e. cc
-steady-plain call servers slots (Answers answer) next = λ e. let same : answer ≡ Contended = cc in next same
+steady-plain s call servers slots (Goes lost phase) next = λ e. cc
+steady-plain s call servers slots (Answers answer) next = λ e. let same : answer ≡ Contended = cc in next same
 
 -- no other thread holds a slot
 abbrev NoOtherHolds : CoreState → ℕ → Type 0
@@ -82,24 +85,24 @@ module _ (core : CoreState) (thread : ℕ) (call : CallState) (is : IsCore core)
   now = server_at (abstract_of core) call.server
 
   abbrev slots : Slots
-  slots = core.shared.slots
+  slots = slots_at core.shared.slots (group_of s call.server)
 
   abbrev Next : Phase → Decision → Type 0
   Next phase decision =
       let new = after_act core thread call phase in
-      SteadyNext call (abstract_of new) new.shared.slots decision
+      SteadyNext s call (abstract_of new) new.shared.slots decision
 
   -- while the thread holds no slot, nobody does
   none-held : (phase : Phase) → thread_at core thread ≡ InCall call phase → holds_at phase ≡ false → 1 ≤ slots.held → ⊥
   none-held phase stands none one =
-      let found = passes-count_by holds core.threads NotEnrolled (omega (arith, one, is.held)) in
+      let own = group_of s call.server in
+      let found = passes-count_by (holds_in s own) core.threads NotEnrolled (omega (arith, one, (own-group core call.server is).held)) in
+      let theirs = holds_in-holds s own (thread_at core found.at) found.passes in
       ⊎_elim
       (λ (same : found.at ≡ thread).
       let mine : holds (thread_at core found.at) ≡ false = ap (λ at. holds (thread_at core at)) same ∙ ap holds stands ∙ none in
-      let theirs = found.passes in
       cc)
       (λ (apart : found.at ≡ thread → ⊥).
-      let theirs = found.passes in
       let not = alone found.at apart in
       cc)
       (cases_eq found.at thread)
@@ -118,13 +121,13 @@ module _ (core : CoreState) (thread : ℕ) (call : CallState) (is : IsCore core)
       (λ lost. let same = eq-same_server now found knows.0 in cc)
   steady-act (AtThreshold found) stands knows =
       let phase : Phase = AtThreshold found in
-      let rest = cond (eqb (slots.firm + slots.held) s.limit) (lost_try s call) (goes call (Reserving found slots)) in
-      cond_both (eqb slots.firm s.limit) (goes call (Limit found)) rest (Next phase)
+      let rest = cond (eqb (slots.firm + slots.held) (limit_at s call.server)) (lost_try s call) (goes call (Reserving found slots)) in
+      cond_both (eqb slots.firm (limit_at s call.server)) (goes call (Limit found)) rest (Next phase)
       (λ full. knows)
-      (λ below. cond_both (eqb (slots.firm + slots.held) s.limit) (lost_try s call) (goes call (Reserving found slots)) (Next phase)
+      (λ below. cond_both (eqb (slots.firm + slots.held) (limit_at s call.server)) (lost_try s call) (goes call (Reserving found slots)) (Next phase)
       (λ held.
-      let all = eqb-true (slots.firm + slots.held) s.limit held in
-      let apart = eqb-false slots.firm s.limit below in
+      let all = eqb-true (slots.firm + slots.held) (limit_at s call.server) held in
+      let apart = eqb-false slots.firm (limit_at s call.server) below in
       absurd (none-held phase stands refl (omega (arith, all, apart))))
       (λ left. (knows, refl)))
   steady-act (Limit found) stands knows =
@@ -165,7 +168,7 @@ pub record HoldsAlone (s : Settings) (thread : ℕ) (w : World) : Type 0 where
   pub plain : All IsNotContended (calls_of w.past)
   pub plays : Plays s (opened s).servers thread (calls_of w.past) (abstract_of w.core)
   pub others : NoOtherHolds w.core thread
-  pub steady : IsSteady (abstract_of w.core) w.core.shared.slots (thread_at w.core thread)
+  pub steady : IsSteady w.core.settings (abstract_of w.core) w.core.shared.slots (thread_at w.core thread)
 
 HoldsAlone-start : (s : Settings) (thread : ℕ) → HoldsAlone s thread (start s)
 HoldsAlone-start s thread =
@@ -174,7 +177,7 @@ HoldsAlone-start s thread =
       plain = All-nil IsNotContended;
       plays = refl;
       others = λ other apart. ap holds (get_or-replicate_same s.threads other NotEnrolled);
-      steady = let P : ThreadState → Type 0 = λ it. IsSteady (opened s).servers (start s).core.shared.slots it in
+      steady = let P : ThreadState → Type 0 = λ it. IsSteady s (opened s).servers (start s).core.shared.slots it in
           subst P (sym (get_or-replicate_same s.threads thread NotEnrolled)) tt;
     }
 
@@ -189,11 +192,11 @@ others-set threads thread own new inside none others other apart =
     (cases_eq other own)
 
 -- the state of a thread that begins or enrols knows nothing of the words
-steady-set : (servers : List ServerState) (slots : Slots) (threads : List ThreadState) (thread own : ℕ) (new : ThreadState) → own < length threads
-    → IsSteady servers slots new → IsSteady servers slots (get_or threads thread NotEnrolled)
-    → IsSteady servers slots (get_or (set threads own new) thread NotEnrolled)
-steady-set servers slots threads thread own new inside fresh steady =
-    let P : ThreadState → Type 0 = IsSteady servers slots in
+steady-set : (s : Settings) (servers : List ServerState) (slots : List Slots) (threads : List ThreadState) (thread own : ℕ) (new : ThreadState) → own < length threads
+    → IsSteady s servers slots new → IsSteady s servers slots (get_or threads thread NotEnrolled)
+    → IsSteady s servers slots (get_or (set threads own new) thread NotEnrolled)
+steady-set s servers slots threads thread own new inside fresh steady =
+    let P : ThreadState → Type 0 = IsSteady s servers slots in
     ⊎_elim
     (λ (here : thread ≡ own).
     let now : get_or (set threads own new) thread NotEnrolled ≡ new = rw (here, get_or-set_same threads own new NotEnrolled inside) refl in
@@ -216,7 +219,7 @@ HoldsAlone-begun s w thread own number op server both kept inside stands =
     let N : List Call → Type 0 = λ all. All IsNotContended all in
     let L : List Call → Type 0 = λ all. Plays s first thread all servers in
     let O : List ThreadState → Type 0 = λ all. (other : ℕ) → (other ≡ thread → ⊥) → holds (get_or all other NotEnrolled) ≡ false in
-    let S : List ThreadState → Type 0 = λ all. IsSteady servers w.core.shared.slots (get_or all thread NotEnrolled) in
+    let S : List ThreadState → Type 0 = λ all. IsSteady w.core.settings servers w.core.shared.slots (get_or all thread NotEnrolled) in
     let plays : Plays s first thread (call ∷ calls) servers =
     ⊎_elim
     (λ (mine : own ≡ thread).
@@ -234,7 +237,7 @@ HoldsAlone-begun s w thread own number op server both kept inside stands =
       plain = subst N (sym is_call) (All-cons IsNotContended call calls (λ e. cc) kept.plain);
       plays = subst L (sym is_call) plays;
       others = subst O (sym is_set) (others-set w.core.threads thread own new inside refl kept.others);
-      steady = subst S (sym is_set) (steady-set servers w.core.shared.slots w.core.threads thread own new inside tt kept.steady);
+      steady = subst S (sym is_set) (steady-set w.core.settings servers w.core.shared.slots w.core.threads thread own new inside tt kept.steady);
     }
 
 HoldsAlone-enrolled : (s : Settings) (w : World) (thread own : ℕ) → HoldsBoth s w → HoldsAlone s thread w → own < length w.core.threads
@@ -252,7 +255,7 @@ HoldsAlone-enrolled s w thread own both kept inside stands =
       plain = subst N (sym same) kept.plain;
       plays = subst L (sym same) kept.plays;
       others = others-set w.core.threads thread own (Idle w.core.shared.enrolled) inside refl kept.others;
-      steady = steady-set (abstract_of w.core) w.core.shared.slots w.core.threads thread own (Idle w.core.shared.enrolled) inside tt kept.steady;
+      steady = steady-set w.core.settings (abstract_of w.core) w.core.shared.slots w.core.threads thread own (Idle w.core.shared.enrolled) inside tt kept.steady;
     }
 
 HoldsAlone-act : (s : Settings) (w : World) (thread : ℕ) (call : CallState) (phase : Phase) → HoldsBoth s w → HoldsAlone s thread w
@@ -265,10 +268,10 @@ HoldsAlone-act s w thread call phase both kept inside stands =
     let new = after_act w.core thread call phase in
     let mine = rw stands at (both.1.stand thread) in
     let open_one = open_call thread call mine.0 in
-    let knows : SteadyAt (server_at (abstract_of w.core) call.server) w.core.shared.slots phase =
-    (let P : ThreadState → Type 0 = IsSteady (abstract_of w.core) w.core.shared.slots in subst P stands kept.steady) in
+    let knows : SteadyAt (server_at (abstract_of w.core) call.server) (slots_at w.core.shared.slots (group_of w.core.settings call.server)) phase =
+    (let P : ThreadState → Type 0 = IsSteady w.core.settings (abstract_of w.core) w.core.shared.slots in subst P stands kept.steady) in
     let next = steady-act w.core thread call both.0.core kept.others phase stands knows in
-    let S : ThreadState → Type 0 = IsSteady (abstract_of new) new.shared.slots in
+    let S : ThreadState → Type 0 = IsSteady w.core.settings (abstract_of new) new.shared.slots in
     let now : get_or new.threads thread NotEnrolled ≡ state_after call decision =
     get_or-set_same w.core.threads thread (state_after call decision) NotEnrolled inside in
     record {
@@ -277,11 +280,11 @@ HoldsAlone-act s w thread call phase both kept inside stands =
           let Q : Call → Type 0 = λ at. IsIdleUnlessOf thread (and_step at own) in
           subst Q same (λ apart. absurd (apart refl)));
       plain = All-with_step IsNotContended own calls kept.plain
-          (λ it found. steady-plain call (abstract_of new) new.shared.slots decision next);
+          (λ it found. steady-plain w.core.settings call (abstract_of new) new.shared.slots decision next);
       plays = Plays-with_step s (opened s).servers thread own open_one calls (abstract_of w.core) refl refl mine.1 kept.plays;
       others = λ other apart.
           ap holds (get_or-set_other w.core.threads thread other (state_after call decision) NotEnrolled apart) ∙ kept.others other apart;
-      steady = subst S (sym now) (steady-state call (abstract_of new) new.shared.slots decision next);
+      steady = subst S (sym now) (steady-state w.core.settings call (abstract_of new) new.shared.slots decision next);
     }
 
 -- the same, where no other thread took a step of a call up to now

@@ -13,7 +13,7 @@ use Rattle.tko_model.specs.declared.state.ServerState.{ServerState}
 use Rattle.tko_model.specs.declared.transition.Transition.{Transition}
 use Rattle.tko_model.specs.Looks.{look_reply}
 use Rattle.tko_model.specs.Ranges.{IsWithinRanges, worn}
-use Rattle.tko_model.specs.Tracker.{IsFit, becomes, has_room, is_soft, on_others, on_own_hard, on_own_soft, on_unmarked, stays, transition}
+use Rattle.tko_model.specs.Tracker.{IsFit, becomes, is_soft, on_others, on_own_hard, on_own_soft, on_unmarked, stays, transition}
 use Rattle.tko_steps.specs.declared.phase.Call.{Call}
 use Rattle.tko_steps.specs.declared.phase.Phase.TheVariants.{Read, AtThreshold, Loosening}
 use Rattle.tko_steps.specs.declared.table.Decision.{Decision}
@@ -176,32 +176,32 @@ module _ (s : Settings) (number : ℕ) where
 -- ---- replies of the tracker
 
 -- a transition where there are so many soft marks: no reply is Contended, and Full only where no room is left
-pub record IsSound (s : Settings) (softs : ℕ) (given : Transition) : Type 0 where
+pub record IsSound (limit softs : ℕ) (given : Transition) : Type 0 where
   pub contended : given.reply ≢ reply.Contended
-  pub full : given.reply ≡ reply.Full → s.limit ≤ softs
+  pub full : given.reply ≡ reply.Full → limit ≤ softs
 
-pub transition-sound : (s : Settings) (softs number : ℕ) (op : Op) (mark : Mark) (stamp : ℕ)
-    → IsSound s softs (transition s (has_room s softs) number op mark stamp)
-transition-sound s softs number op mark stamp = sound (row s number op mark stamp)
+pub transition-sound : (s : Settings) (limit softs number : ℕ) (op : Op) (mark : Mark) (stamp : ℕ)
+    → IsSound limit softs (transition s (ltb softs limit) number op mark stamp)
+transition-sound s limit softs number op mark stamp = sound (row s number op mark stamp)
   where
     P : Transition → Type 0
-    P = IsSound s softs
+    P = IsSound limit softs
 
     puts-sound : (new : Mark) (answer : Reply) → is_plain answer ≡ true → P (becomes new answer)
     puts-sound new answer plain =
         record { contended = plain≢ answer reply.Contended plain refl; full = λ e. absurd (plain≢ answer reply.Full plain refl e) }
 
     sound : Row s number op (record { mark = mark; stamp = stamp }) (λ room. transition s room number op mark stamp)
-        → P (transition s (has_room s softs) number op mark stamp)
+        → P (transition s (ltb softs limit) number op mark stamp)
     sound (Stays answer plain is) =
-        subst P (sym (is (has_room s softs))) (record { contended = plain.contended; full = λ e. absurd (plain.full e) })
+        subst P (sym (is (ltb softs limit))) (record { contended = plain.contended; full = λ e. absurd (plain.full e) })
     sound (Takes soft fresh is) =
-        subst P (sym (is (has_room s softs)))
-        (cond_both (ltb softs s.limit) (becomes (Soft number) reply.TookSoft) (stays reply.Full) P
+        subst P (sym (is (ltb softs limit)))
+        (cond_both (ltb softs limit) (becomes (Soft number) reply.TookSoft) (stays reply.Full) P
         (λ room. puts-sound (Soft number) reply.TookSoft refl)
-        (λ above. record { contended = λ e. cc; full = λ e. ltb-false softs s.limit above }))
-    sound (Reads new answer put can by is) = subst P (sym (is (has_room s softs))) (puts-sound new answer put.plain)
-    sound (Loosens new answer put can own is) = subst P (sym (is (has_room s softs))) (puts-sound new answer put.plain)
+        (λ above. record { contended = λ e. cc; full = λ e. ltb-false softs limit above }))
+    sound (Reads new answer put can by is) = subst P (sym (is (ltb softs limit))) (puts-sound new answer put.plain)
+    sound (Loosens new answer put can own is) = subst P (sym (is (ltb softs limit))) (puts-sound new answer put.plain)
 
 -- ---- the first look of a try
 

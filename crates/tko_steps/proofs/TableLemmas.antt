@@ -9,6 +9,7 @@ use Rattle.tko_model.specs.declared.settings.Settings.{Settings}
 use Rattle.tko_model.specs.declared.state.ServerState.{ServerState}
 use Rattle.tko_model.specs.Ranges.{IsWithinRanges, worn}
 use Rattle.tko_model.specs.Tracker.{IsFit}
+use Rattle.tko_model.specs.Groups.{limit_at}
 use Rattle.tko_steps.specs.declared.phase.Call.{Call}
 use Rattle.tko_steps.specs.declared.phase.Phase.TheVariants.{Start, Limit, Reserving}
 use Rattle.tko_steps.specs.declared.phase.Slots.{Slots}
@@ -63,7 +64,7 @@ same_slots-true one other e =
 
 -- what a decision leaves the call with, where its server now is this
 abbrev pub IsDecided : Settings → Call → ServerState → Decision → Type 0
-IsDecided s call now (Goes lost phase) = (lost < s.tries) × IsPhase s call.number now phase
+IsDecided s call now (Goes lost phase) = (lost < s.tries) × IsPhase s (record call { lost = lost }) now phase
 IsDecided s call now (Answers answer) = Unit {0}
 
 -- it also holds no slot
@@ -98,12 +99,12 @@ module _ (s : Settings) (call : Call) (now : ServerState) (ranges : IsWithinRang
       (λ e. IsCalm-lost_try s call now left)
 
   pub IsCalm-at_threshold : (found : ServerState) (slots : Slots) → owner_of found.mark ≡ None → found.stamp < worn
-      → slots.firm + slots.held ≤ s.limit → IsCalm s call now (at_threshold s call found slots)
+      → slots.firm + slots.held ≤ limit_at s call.server → IsCalm s call now (at_threshold s call found slots)
   IsCalm-at_threshold found slots unmarked fresh room =
-      let rest = cond (eqb (slots.firm + slots.held) s.limit) (lost_try s call) (goes call (Reserving found slots)) in
-      cond_both (eqb slots.firm s.limit) (goes call (Limit found)) rest (IsCalm s call now)
+      let rest = cond (eqb (slots.firm + slots.held) (limit_at s call.server)) (lost_try s call) (goes call (Reserving found slots)) in
+      cond_both (eqb slots.firm (limit_at s call.server)) (goes call (Limit found)) rest (IsCalm s call now)
       (λ e. record { decided = (left, (unmarked, fresh)); holds = refl; loose = refl })
-      (λ e. cond_both (eqb (slots.firm + slots.held) s.limit) (lost_try s call) (goes call (Reserving found slots)) (IsCalm s call now)
+      (λ e. cond_both (eqb (slots.firm + slots.held) (limit_at s call.server)) (lost_try s call) (goes call (Reserving found slots)) (IsCalm s call now)
       (λ full. IsCalm-lost_try s call now left)
-      (λ room_left. let apart = eqb-false (slots.firm + slots.held) s.limit room_left in
+      (λ room_left. let apart = eqb-false (slots.firm + slots.held) (limit_at s call.server) room_left in
       record { decided = (left, ((unmarked, fresh), omega arith)); holds = refl; loose = refl }))

@@ -6,12 +6,13 @@ use Rattle.tko_model.specs.declared.mark.Mark.TheVariants as mark
 use Rattle.tko_model.specs.declared.mark.Op.{Op}
 use Rattle.tko_model.specs.declared.settings.Settings.{Settings}
 use Rattle.tko_model.specs.declared.state.ServerState.{ServerState}
+use Rattle.tko_model.specs.Groups.{group_of, groups}
 use Rattle.tko_model.specs.Tracker.{opened, server_at}
-use Rattle.tko_word.specs.Words.{IsMark, stamp_end}
+use Rattle.tko_word.specs.Words.{IsMark, firm_in, held_in, stamp_end}
 use Rattle.tko_steps.specs.declared.step.BeginFault.{BeginFault}
 use Rattle.tko_steps.specs.declared.step.BeginFault.TheVariants as fault
 use Rattle.tko_steps.specs.declared.table.Action.{Action}
-use Rattle.tko_steps.specs.declared.table.Action.TheVariants.{LookAtServer, LookAtSlots, Exchange, Reserve, Settle, Loosen, Give}
+use Rattle.tko_steps.specs.declared.table.Action.TheVariants.{LookAtServer, Exchange, Reserve, Settle, Loosen, Give}
 use Rattle.tko_steps.specs.declared.table.Decision.{Decision}
 use Rattle.tko_steps.specs.declared.table.Observed.{Observed}
 use Rattle.tko_steps.specs.declared.phase.Call.{Call}
@@ -27,14 +28,14 @@ use Rattle.tko_steps.specs.declared.step.Stepped.{Stepped}
 use Rattle.tko_steps.specs.declared.step.Stepped.TheVariants as stepped
 use Rattle.tko_steps.specs.declared.step.Word.{Word}
 use Rattle.tko_steps.specs.declared.step.Word.TheVariants as word
-use Rattle.tko_steps.specs.Steps.{decided_by, in_call, place_of, seen_in, server_written, slots_after, state_after, reported_by, word_after, writes}
+use Rattle.tko_steps.specs.Steps.{decided_by, in_call, place_of, seen_in, server_written, slots_written, state_after, reported_by, word_after, writes}
 use Rattle.tko_steps.specs.Table.{action_of}
 
--- what the words hold: each server's mark and stamp, the counts of the soft word, and how many
--- threads are enrolled
+-- what the words hold: each server's mark and stamp, the counts of each group's soft word, and how
+-- many threads are enrolled
 pub record Shared : Type 0 where
   pub servers : List ServerState
-  pub slots : Slots
+  pub slots : List Slots
   pub enrolled : ℕ
 
 pub record CoreState : Type 0 where
@@ -66,10 +67,22 @@ number_of NotEnrolled = None
 number_of (Idle number) = Some number
 number_of (InCall call phase) = Some call.number
 
+-- a soft word with no slot taken
+abbrev pub no_slots : Slots
+no_slots = record { firm = 0; held = 0 }
+
+-- the counts that a soft word holds
+abbrev pub slots_in : ℕ → Slots
+slots_in word = record { firm = firm_in word; held = held_in word }
+
+-- the counts of the soft word of a group
+abbrev pub slots_at : List Slots → ℕ → Slots
+slots_at slots group = slice_index_or slots group no_slots
+
 -- opened words: each server up, no slot taken, no thread enrolled
 abbrev pub opened_words : Settings → Shared
 opened_words s =
-    record { servers = (opened s).servers; slots = record { firm = 0; held = 0 }; enrolled = 0 }
+    record { servers = (opened s).servers; slots = replicate (groups s) no_slots; enrolled = 0 }
 
 abbrev pub opened_core : Settings → CoreState
 opened_core s =
@@ -107,14 +120,15 @@ after_begin core thread op server =
 -- what the word of this place holds
 abbrev pub word_at : Shared → Place → Word
 word_at shared (place.Server server) = word.Server (server_at shared.servers server)
-word_at shared place.Soft = word.Soft shared.slots
+word_at shared (place.Soft group) = word.Soft (slots_at shared.slots group)
 word_at shared place.Enrolment = word.Enrolled shared.enrolled
 
 -- the words with this one in that place
 abbrev pub with_word : Shared → Place → Word → Shared
 with_word shared (place.Server server) (word.Server now) =
     record shared { servers = slice_set shared.servers server now }
-with_word shared place.Soft (word.Soft slots) = record shared { slots = slots }
+with_word shared (place.Soft group) (word.Soft now) =
+    record shared { slots = slice_set shared.slots group now }
 with_word shared place.Enrolment (word.Enrolled count) = record shared { enrolled = count }
 with_word shared at other = shared
 
@@ -126,46 +140,72 @@ servers_after servers server action =
     then slice_set servers server (server_written action now)
     else servers
 
+-- the words with these counts in the soft word of a group
+abbrev pub with_slots : Shared → ℕ → Slots → Shared
+with_slots shared group now = record shared { slots = slice_set shared.slots group now }
+
+-- the soft words after a step of a call on a server of this group
+abbrev pub soft_words_after : List Slots → ℕ → Action → List Slots
+soft_words_after slots group action =
+    let now = slots_at slots group in
+    if writes action (word.Soft now)
+    then slice_set slots group (slots_written action now)
+    else slots
+
 -- the words after a step: the one that it is on is what the step leaves there (`IsOnOneWord`), and
 -- the others are as they were
-abbrev pub shared_after : Shared → ℕ → Action → Shared
-shared_after shared server action =
+abbrev pub shared_after : Settings → Shared → ℕ → Action → Shared
+shared_after s shared server action =
     record {
       servers = servers_after shared.servers server action;
-      slots = slots_after action shared.slots;
+      slots = soft_words_after shared.slots (group_of s server) action;
       enrolled = shared.enrolled;
     }
 
 -- what a step reads
-abbrev pub seen_by : Shared → ℕ → Action → Observed
-seen_by shared server action = seen_in action (word_at shared (place_of server action))
+abbrev pub seen_by : Settings → Shared → ℕ → Action → Observed
+seen_by s shared server action = seen_in action (word_at shared (place_of s server action))
 
 -- a step changes the word that it is on alone, to what that word alone decides
-abbrev pub IsOnOneWord : Shared → ℕ → Action → Type 0
-IsOnOneWord shared server action =
-    let at = place_of server action in
-    shared_after shared server action ≡ with_word shared at (word_after action (word_at shared at))
+abbrev pub IsOnOneWord : Settings → Shared → ℕ → Action → Type 0
+IsOnOneWord s shared server action =
+    let at = place_of s server action in
+    shared_after s shared server action ≡ with_word shared at (word_after action (word_at shared at))
 
--- what a step on the words needs: no count goes below 0, and nothing wraps
-abbrev pub CanAct : Shared → ℕ → Action → Type 0
-CanAct shared server LookAtServer = server < length shared.servers
-CanAct shared server LookAtSlots = Unit {0}
-CanAct shared server (Exchange found mark) =
+-- the words after a step on the soft word of this group
+abbrev pub with_soft_words : Shared → ℕ → Action → Shared
+with_soft_words shared group action =
+    record shared { slots = soft_words_after shared.slots group action }
+
+-- what a step on the soft word of this group needs: no count goes below 0, and nothing wraps
+abbrev pub CanShift : Slots → Action → Type 0
+CanShift now (Reserve slots) = now.held + 1 < 2 ^ 32
+CanShift now Settle = (0 < now.held) × (now.firm + 1 < 2 ^ 32)
+CanShift now Loosen = (0 < now.firm) × (now.held + 1 < 2 ^ 32)
+CanShift now Give = 0 < now.held
+CanShift now action = Unit {0}
+
+-- the same of the soft word of a group, which is there
+abbrev pub CanShiftIn : List Slots → ℕ → Action → Type 0
+CanShiftIn slots group action = (group < length slots) × CanShift (slots_at slots group) action
+
+-- what a step on the words needs
+abbrev pub CanAct : Settings → Shared → ℕ → Action → Type 0
+CanAct s shared server LookAtServer = server < length shared.servers
+CanAct s shared server (Exchange found mark) =
     (server < length shared.servers) × IsMark mark × (found.stamp + 1 < stamp_end)
-CanAct shared server (Reserve slots) = shared.slots.held + 1 < 2 ^ 32
-CanAct shared server Settle = (0 < shared.slots.held) × (shared.slots.firm + 1 < 2 ^ 32)
-CanAct shared server Loosen = (0 < shared.slots.firm) × (shared.slots.held + 1 < 2 ^ 32)
-CanAct shared server Give = 0 < shared.slots.held
+CanAct s shared server action = CanShiftIn shared.slots (group_of s server) action
 
 -- the word of this place is there, and a number of threads fits what is said of it
 abbrev pub IsPlace : Shared → Place → Type 0
 IsPlace shared (place.Server server) = server < length shared.servers
-IsPlace shared place.Soft = Unit {0}
+IsPlace shared (place.Soft group) = group < length shared.slots
 IsPlace shared place.Enrolment = shared.enrolled < 2 ^ 32
 
 -- the word that the step of a call at this phase finds
 abbrev pub found_by : CoreState → Call → Phase → Word
-found_by core call phase = word_at core.shared (place_of call.server (action_of call.number phase))
+found_by core call phase =
+    word_at core.shared (place_of core.settings call.server (action_of call.number phase))
 
 -- what follows that step
 abbrev pub follows : CoreState → Call → Phase → Decision
@@ -176,7 +216,7 @@ abbrev pub after_act : CoreState → ℕ → Call → Phase → CoreState
 after_act core thread call phase =
     record {
       settings = core.settings;
-      shared = shared_after core.shared call.server (action_of call.number phase);
+      shared = shared_after core.settings core.shared call.server (action_of call.number phase);
       threads = slice_set core.threads thread (state_after call (follows core call phase));
     }
 

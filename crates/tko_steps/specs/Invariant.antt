@@ -1,16 +1,18 @@
 -- What holds of the core in each state of each run.
-use Rattle.std.specs.Prelude.{◌≡◌, ℕ, ◌+◌, ◌<◌, ◌≤◌, Bool, true, false, nat_lt, if◌then◌else◌, List, length, count_by, All, None}
+use Rattle.std.specs.Prelude.{◌≡◌, ℕ, ◌+◌, ◌<◌, ◌≤◌, Bool, true, false, ◌&&◌, nat_lt, if◌then◌else◌, List, length, count_by, All, None}
 use Rattle.tko_model.specs.declared.mark.Mark.{Mark}
 use Rattle.tko_model.specs.declared.mark.Mark.TheVariants.{Up, Soft, Hard}
 use Rattle.tko_model.specs.declared.settings.Settings.{Settings}
 use Rattle.tko_model.specs.declared.state.ServerState.{ServerState}
 use Rattle.tko_model.specs.Ranges.{IsWithinRanges, worn}
-use Rattle.tko_model.specs.Tracker.{IsFit, server_at, softs}
+use Rattle.tko_model.specs.Groups.{groups, is_in, limit_at, limit_of}
+use Rattle.tko_model.specs.Tracker.{IsFit, server_at, softs_in}
+use Rattle.tko_steps.specs.declared.phase.Call.{Call}
 use Rattle.tko_steps.specs.declared.phase.Phase.{Phase}
 use Rattle.tko_steps.specs.declared.phase.Phase.TheVariants.{Start, Read, AtThreshold, Limit, Reserving, Holding, Firming, Losing, Loosening, Loosened, Emptied}
 use Rattle.tko_steps.specs.declared.phase.ThreadState.{ThreadState}
 use Rattle.tko_steps.specs.declared.phase.ThreadState.TheVariants.{InCall}
-use Rattle.tko_steps.specs.Core.{IsOwner, owner_of, CoreState, abstract_of, has_number, is_enrolled}
+use Rattle.tko_steps.specs.Core.{IsOwner, owner_of, CoreState, abstract_of, has_number, is_enrolled, slots_at}
 
 -- whether a call at this phase holds a slot
 abbrev pub holds_at : Phase → Bool
@@ -25,6 +27,11 @@ abbrev pub holds : ThreadState → Bool
 holds (InCall call phase) = holds_at phase
 holds state = false
 
+-- whether a thread holds a slot of this group
+abbrev pub holds_in : Settings → ℕ → ThreadState → Bool
+holds_in s group (InCall call phase) = holds_at phase && is_in s group call.server
+holds_in s group state = false
+
 -- whether a call at this phase has a soft mark that is not settled
 abbrev pub is_loose_at : Phase → Bool
 is_loose_at Firming = true
@@ -34,6 +41,11 @@ is_loose_at phase = false
 abbrev pub is_loose : ThreadState → Bool
 is_loose (InCall call phase) = is_loose_at phase
 is_loose state = false
+
+-- whether a thread has such a mark in this group
+abbrev pub is_loose_in : Settings → ℕ → ThreadState → Bool
+is_loose_in s group (InCall call phase) = is_loose_at phase && is_in s group call.server
+is_loose_in s group state = false
 
 -- a mark that the thread with this number may write: its own hard mark, or none
 abbrev pub IsOwnOrUp : ℕ → Mark → Type 0
@@ -57,30 +69,47 @@ IsFoundBy number now found (Soft owner) = ⊥
 IsFoundBy number now found (Hard owner) = (owner ≡ number) × (now ≡ found)
 
 -- what a call at this phase knows, where its server now has this mark and stamp
-abbrev pub IsPhase : Settings → ℕ → ServerState → Phase → Type 0
-IsPhase s number now Start = Unit {0}
-IsPhase s number now (Read found mark answer) =
-    IsWrite s number found mark × IsFoundBy number now found found.mark
-IsPhase s number now (AtThreshold found) = IsFresh found
-IsPhase s number now (Limit found) = IsFresh found
-IsPhase s number now (Reserving found slots) =
-    IsFresh found × (slots.firm + slots.held < s.limit)
-IsPhase s number now (Holding found) = IsFresh found
-IsPhase s number now Firming = now.mark ≡ Soft number
-IsPhase s number now Losing = Unit {0}
-IsPhase s number now (Loosening found mark answer) =
-    IsWrite s number found mark × (found.mark ≡ Soft number) × (now ≡ found)
-IsPhase s number now (Loosened found mark answer) =
-    IsWrite s number found mark × (found.mark ≡ Soft number) × (now ≡ found)
-IsPhase s number now (Emptied answer) = Unit {0}
+abbrev pub IsPhase : Settings → Call → ServerState → Phase → Type 0
+IsPhase s call now Start = Unit {0}
+IsPhase s call now (Read found mark answer) =
+    IsWrite s call.number found mark × IsFoundBy call.number now found found.mark
+IsPhase s call now (AtThreshold found) = IsFresh found
+IsPhase s call now (Limit found) = IsFresh found
+IsPhase s call now (Reserving found slots) =
+    IsFresh found × (slots.firm + slots.held < limit_at s call.server)
+IsPhase s call now (Holding found) = IsFresh found
+IsPhase s call now Firming = now.mark ≡ Soft call.number
+IsPhase s call now Losing = Unit {0}
+IsPhase s call now (Loosening found mark answer) =
+    IsWrite s call.number found mark × (found.mark ≡ Soft call.number) × (now ≡ found)
+IsPhase s call now (Loosened found mark answer) =
+    IsWrite s call.number found mark × (found.mark ≡ Soft call.number) × (now ≡ found)
+IsPhase s call now (Emptied answer) = Unit {0}
 
 -- a call is on a server that is there, and has a try left
 abbrev pub IsThread : Settings → List ServerState → ThreadState → Type 0
 IsThread s servers (InCall call phase) =
     (call.server < length servers)
     × (call.lost < s.tries)
-    × IsPhase s call.number (server_at servers call.server) phase
+    × IsPhase s call (server_at servers call.server) phase
 IsThread s servers state = Unit {0}
+
+-- the counts of the soft word of a group
+abbrev pub firm_at : CoreState → ℕ → ℕ
+firm_at core group = (slots_at core.shared.slots group).firm
+
+abbrev pub held_at : CoreState → ℕ → ℕ
+held_at core group = (slots_at core.shared.slots group).held
+
+-- what the soft word of a group counts
+pub record IsGroup (core : CoreState) (group : ℕ) : Type 0 where
+  -- each slot that is held is held by one call
+  pub held : count_by (holds_in core.settings group) core.threads ≡ held_at core group
+  -- each soft mark is settled, or is the loose mark of one call
+  pub firm :
+      softs_in core.settings group (abstract_of core)
+      ≡ firm_at core group + count_by (is_loose_in core.settings group) core.threads
+  pub room : firm_at core group + held_at core group ≤ limit_of core.settings group
 
 pub record IsCore (core : CoreState) : Type 0 where
   pub settings : IsWithinRanges core.settings
@@ -96,8 +125,5 @@ pub record IsCore (core : CoreState) : Type 0 where
   pub owners : (server number : ℕ) →
       IsOwner (abstract_of core) number server → number < core.shared.enrolled
   pub calls : All (IsThread core.settings (abstract_of core)) core.threads
-  -- each slot that is held is held by one call
-  pub held : count_by holds core.threads ≡ core.shared.slots.held
-  -- each soft mark is settled, or is the loose mark of one call
-  pub firm : softs (abstract_of core) ≡ core.shared.slots.firm + count_by is_loose core.threads
-  pub room : core.shared.slots.firm + core.shared.slots.held ≤ core.settings.limit
+  pub soft_words : length core.shared.slots ≡ groups core.settings
+  pub counts : (group : ℕ) → group < groups core.settings → IsGroup core group

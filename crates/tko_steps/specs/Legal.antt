@@ -6,7 +6,8 @@ use Rattle.tko_model.specs.declared.mark.Reply.{Reply}
 use Rattle.tko_model.specs.declared.mark.Reply.TheVariants.{Contended, Full, Worn}
 use Rattle.tko_model.specs.declared.settings.Settings.{Settings}
 use Rattle.tko_model.specs.declared.state.ServerState.{ServerState}
-use Rattle.tko_model.specs.Tracker.{Tracker, after, reply_of, softs}
+use Rattle.tko_model.specs.Groups.{limit_at}
+use Rattle.tko_model.specs.Tracker.{Tracker, after, reply_of, softs_beside}
 use Rattle.tko_steps.specs.Core.{IsOwner, CoreState, number_of, thread_at}
 use Rattle.tko_steps.specs.Runs.{Began, Call, Moment, OwnStep, StepTaken, Took, calls_of, own_step}
 
@@ -50,12 +51,12 @@ abbrev pub ChangesAtMostOnce : List OwnStep → Type 0
 ChangesAtMostOnce [] = Unit {0}
 ChangesAtMostOnce (own ∷ older) = All IsQuiet older ⊎ (IsQuiet own × ChangesAtMostOnce older)
 
--- the call is legal with the reply Full at a step before which there are as many soft marks as the
--- limit allows
+-- the call is legal with the reply Full at a step before which there are as many soft marks in the
+-- group of its server as the group's limit allows
 pub record IsFullAt (s : Settings) (call : Call) : Type 0 where
   pub own : OwnStep
   pub legal : IsLegalAt s call Full own
-  pub limit : softs own.step.before ≡ s.limit
+  pub limit : softs_beside s call.server own.step.before ≡ limit_at s call.server
 
 -- a call is answered Full only at the limit
 abbrev pub IsFullAtLimit : Settings → Call → Type 0

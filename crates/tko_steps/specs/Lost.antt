@@ -3,6 +3,7 @@
 use Rattle.std.specs.Prelude.{◌≡◌, ◌≢◌, ℕ, ◌+◌, Bool, true, false, not, ◌==◌, ◌&&◌, ◌||◌, nat_lt, if◌then◌else◌, List, [], ◌∷◌, ◌⊎◌, Option, Some, None, is_some}
 use Rattle.tko_model.specs.declared.mark.Reply.TheVariants.{Contended}
 use Rattle.tko_model.specs.declared.settings.Settings.{Settings}
+use Rattle.tko_model.specs.Groups.{limit_of}
 use Rattle.tko_steps.specs.declared.step.Kind.{Kind}
 use Rattle.tko_steps.specs.declared.step.Kind.TheVariants as kind
 use Rattle.tko_steps.specs.declared.step.Place.{Place}
@@ -11,7 +12,7 @@ use Rattle.tko_steps.specs.declared.step.Word.{Word}
 use Rattle.tko_steps.specs.declared.step.Word.TheVariants as word
 use Rattle.tko_steps.specs.Runs.{Step, Began, Call, Moment, OwnStep, StepTaken, Took, World, calls_of, happens}
 use Rattle.tko_steps.specs.Core.{CoreState, thread_at}
-use Rattle.tko_steps.specs.Invariant.{holds}
+use Rattle.tko_steps.specs.Invariant.{holds_in}
 use Rattle.tko_steps.specs.Table.{same_server, same_slots}
 
 abbrev pub is_look : Kind → Bool
@@ -28,7 +29,7 @@ is_exchange other = false
 
 abbrev pub same_place : Place → Place → Bool
 same_place (place.Server one) (place.Server other) = one == other
-same_place place.Soft place.Soft = true
+same_place (place.Soft one) (place.Soft other) = one == other
 same_place place.Enrolment place.Enrolment = true
 same_place one other = false
 
@@ -53,11 +54,12 @@ abbrev pub differs : Option Word → Word → Bool
 differs seen (word.Server server) = is_other seen (word.Server server)
 differs seen found = false
 
--- whether calls under way hold all slots that are left, though more marks could be settled
-abbrev pub is_held_up : Settings → Word → Bool
-is_held_up s (word.Soft slots) =
-    nat_lt slots.firm s.limit && ((slots.firm + slots.held) == s.limit)
-is_held_up s found = false
+-- whether calls under way hold all slots that are left of a group, though more marks could be
+-- settled there
+abbrev pub is_held_up : Settings → Place → Word → Bool
+is_held_up s (place.Soft group) (word.Soft slots) =
+    nat_lt slots.firm (limit_of s group) && ((slots.firm + slots.held) == limit_of s group)
+is_held_up s at found = false
 
 -- whether a step finds its word changed, given what this try's last look at the word found: a lost
 -- exchange, or a second look that finds another word than the first; a word that this try did not
@@ -68,7 +70,7 @@ finds_change step seen =
 
 -- whether a step is a look that finds no slot left, though more marks could be settled
 abbrev pub finds_no_slot : Settings → StepTaken → Bool
-finds_no_slot s step = is_look step.kind && is_held_up s step.found
+finds_no_slot s step = is_look step.kind && is_held_up s step.place step.found
 
 -- whether a step loses its try
 abbrev pub loses_try : Settings → StepTaken → Option Word → Bool
@@ -161,11 +163,11 @@ IsChangedSince thread at (Took step ∷ past) =
     IsChangeByOther thread at step
     ⊎ ((is_look_of thread at step ≡ false) × IsChangedSince thread at past)
 
--- a thread other than this one holds a slot
-pub record IsSlotOfOther (core : CoreState) (thread : ℕ) : Type 0 where
+-- a thread other than this one holds a slot of this group
+pub record IsSlotOfOther (core : CoreState) (thread group : ℕ) : Type 0 where
   pub holder : ℕ
   pub other : holder ≢ thread
-  pub holds : holds (thread_at core holder) ≡ true
+  pub holds : holds_in core.settings group (thread_at core holder) ≡ true
 
 -- the own steps of the call that this thread began last
 abbrev pub newest_steps : ℕ → List Call → List OwnStep
@@ -178,7 +180,8 @@ pub record IsLostToOther (s : Settings) (w : World) (step : StepTaken) : Type 0 
   pub changed : (let steps = newest_steps step.thread (calls_of w.past) in
       finds_change step (last_look s step.place steps) ≡ true →
       IsChangedSince step.thread step.place w.past)
-  pub held : finds_no_slot s step ≡ true → IsSlotOfOther w.core step.thread
+  pub held : (group : ℕ) → step.place ≡ place.Soft group → finds_no_slot s step ≡ true →
+      IsSlotOfOther w.core step.thread group
 
 -- each try that a thread would lose at its next step is lost to another thread
 abbrev pub LosesToOthers : Settings → World → Type 0

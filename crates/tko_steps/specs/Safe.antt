@@ -1,20 +1,35 @@
--- What holds in each state of each run: the soft word counts the soft marks and the slots that
--- calls hold, never past the limit, and each thread owns exactly the servers whose marks name it.
-use Rattle.std.specs.Prelude.{◌≡◌, ◌↔◌, ℕ, ◌+◌, ◌≤◌, true, nat_lt, if◌then◌else◌, count_by, Some}
-use Rattle.tko_model.specs.Tracker.{softs}
+-- What holds in each state of each run: the soft word of each group counts the soft marks and the
+-- slots that calls hold there, never past the group's limit, and each thread owns exactly the servers
+-- whose marks name it.
+use Rattle.std.specs.Prelude.{◌≡◌, ◌↔◌, ℕ, ◌+◌, ◌<◌, ◌≤◌, true, nat_lt, if◌then◌else◌, List, count_by, Some}
+use Rattle.tko_model.specs.declared.settings.Settings.{Settings}
+use Rattle.tko_model.specs.declared.state.ServerState.{ServerState}
+use Rattle.tko_model.specs.Groups.{groups, limit_of}
+use Rattle.tko_model.specs.Tracker.{softs_in}
 use Rattle.tko_steps.specs.Core.{IsOwner, CoreState, abstract_of, has_number, number_of, thread_at}
-use Rattle.tko_steps.specs.Invariant.{holds, is_loose}
+use Rattle.tko_steps.specs.Invariant.{firm_at, held_at, holds_in, is_loose_in}
 use Rattle.tko_steps.specs.Runs.{World, owns}
 
--- the soft word and the soft marks
-pub record CountsSlots (core : CoreState) : Type 0 where
+-- the soft word and the soft marks of a group
+pub record CountsSlots (core : CoreState) (group : ℕ) : Type 0 where
   -- settled marks are soft marks, and each other soft mark has a held slot
-  pub settled : core.shared.slots.firm ≤ softs (abstract_of core)
-  pub marked : softs (abstract_of core) ≤ core.shared.slots.firm + core.shared.slots.held
-  pub limit : core.shared.slots.firm + core.shared.slots.held ≤ core.settings.limit
+  pub settled : firm_at core group ≤ softs_in core.settings group (abstract_of core)
+  pub marked : softs_in core.settings group (abstract_of core) ≤ firm_at core group + held_at core group
+  pub limit : firm_at core group + held_at core group ≤ limit_of core.settings group
   -- each slot is held by one call, and each soft mark that isn't settled is the loose mark of one
-  pub held : core.shared.slots.held ≡ count_by holds core.threads
-  pub loose : softs (abstract_of core) ≡ core.shared.slots.firm + count_by is_loose core.threads
+  pub held : held_at core group ≡ count_by (holds_in core.settings group) core.threads
+  pub loose :
+      softs_in core.settings group (abstract_of core)
+      ≡ firm_at core group + count_by (is_loose_in core.settings group) core.threads
+
+-- the same of each group
+abbrev pub CountSlots : CoreState → Type 0
+CountSlots core = (group : ℕ) → group < groups core.settings → CountsSlots core group
+
+-- no group has more soft marks than its limit allows
+abbrev pub AreWithinLimits : Settings → List ServerState → Type 0
+AreWithinLimits s servers =
+    (group : ℕ) → group < groups s → softs_in s group servers ≤ limit_of s group
 
 -- each number below the enrolment word is the number of one thread, and no other is of any
 abbrev pub HasDistinctNumbers : CoreState → Type 0

@@ -8,6 +8,7 @@ use Rattle.tko_model.specs.declared.mark.Op.{Op}
 use Rattle.tko_model.specs.declared.mark.Reply.{Reply}
 use Rattle.tko_model.specs.declared.settings.Settings.{Settings}
 use Rattle.tko_model.specs.declared.state.ServerState.{ServerState}
+use Rattle.tko_model.specs.Groups.{group_of}
 use Rattle.tko_steps.specs.declared.table.Action.{Action}
 use Rattle.tko_steps.specs.declared.table.Action.TheVariants.{LookAtServer, LookAtSlots, Exchange, Reserve, Settle, Loosen, Give}
 use Rattle.tko_steps.specs.declared.table.Decision.{Decision}
@@ -45,11 +46,11 @@ kind_of Settle = kind.Shift
 kind_of Loosen = kind.Shift
 kind_of Give = kind.Give
 
--- the word that a step of a call on this server is on
-abbrev pub place_of : ℕ → Action → Place
-place_of server LookAtServer = place.Server server
-place_of server (Exchange found mark) = place.Server server
-place_of server action = place.Soft
+-- the word that a step of a call on this server is on: the server's, or the soft word of its group
+abbrev pub place_of : Settings → ℕ → Action → Place
+place_of s server LookAtServer = place.Server server
+place_of s server (Exchange found mark) = place.Server server
+place_of s server action = place.Soft (group_of s server)
 
 -- The word of a step.
 
@@ -128,7 +129,7 @@ reported_by s call phase found =
     let act = action_of call.number phase in
     stepped.Did
     (kind_of act)
-    (place_of call.server act)
+    (place_of s call.server act)
     found
     (word_after act found)
     (is_done (seen_in act found))
@@ -182,10 +183,10 @@ owns_after kind won left owned = owned
 
 -- what a thread that owned these servers owns after the step of its call at this phase which finds
 -- this word
-abbrev pub owned_after : Call → Phase → Word → (ℕ → Bool) → ℕ → Bool
-owned_after call phase found owned server =
+abbrev pub owned_after : Settings → Call → Phase → Word → (ℕ → Bool) → ℕ → Bool
+owned_after s call phase found owned server =
     let act = action_of call.number phase in
-    if is_server server (place_of call.server act)
+    if is_server server (place_of s call.server act)
     then
     owns_after (kind_of act) (is_done (seen_in act found)) (word_after act found) (owned server)
     else owned server

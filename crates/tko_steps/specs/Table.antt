@@ -7,6 +7,7 @@ use Rattle.tko_model.specs.declared.mark.Reply.{Reply}
 use Rattle.tko_model.specs.declared.mark.Reply.TheVariants as reply
 use Rattle.tko_model.specs.declared.state.ServerState.{ServerState}
 use Rattle.tko_model.specs.declared.settings.Settings.{Settings}
+use Rattle.tko_model.specs.Groups.{limit_at}
 use Rattle.tko_model.specs.Tracker.{is_soft, transition}
 use Rattle.tko_steps.specs.declared.table.Action.{Action}
 use Rattle.tko_steps.specs.declared.table.Action.TheVariants as action
@@ -82,9 +83,10 @@ from_start s call found =
 -- a soft failure that would mark found these counts
 abbrev pub at_threshold : Settings → Call → ServerState → Slots → Decision
 at_threshold s call found slots =
-    if slots.firm == s.limit
+    let limit = limit_at s call.server in
+    if slots.firm == limit
     then goes call (Limit found)
-    else (if (slots.firm + slots.held) == s.limit
+    else (if (slots.firm + slots.held) == limit
     then lost_try s call
     else goes call (Reserving found slots))
 

@@ -133,9 +133,9 @@ impl Core {
         ensures state { self.new ≡ after_act self.old thread call phase }
     {
         let action = phase.action(&call);
-        let place = action.place(call.server);
+        let place = action.place(&self.settings, call.server);
         let found = self.words.at(place);
-        let seen = self.words.act(call.server, action);
+        let seen = self.words.act(&self.settings, call.server, action);
         let following = next(&self.settings, &call, phase, seen);
         self.threads[thread] = following.state(&call);
         Stepped::Did {

@@ -1,6 +1,7 @@
 //! The laws of a step, of every run, and of a thread alone.
-ghost use Rattle.std.specs.Prelude.{◌≡◌, ◌≢◌, ◌≤◌, ℕ, Some, All};
-ghost use Rattle.tko_model.specs.Tracker.{opened, softs};
+ghost use Rattle.std.specs.Prelude.{◌≡◌, ◌≢◌, ℕ, Some, All};
+ghost use Rattle.tko_model.specs.declared.settings.Settings.{Settings};
+ghost use Rattle.tko_model.specs.Tracker.{opened};
 ghost use Rattle.tko_steps.specs.Alone.{InEveryRunAlone, IsIdleUnlessOf, Replays};
 ghost use Rattle.tko_steps.specs.Core.{IsOnOneWord, Shared, abstract_of, settings_of};
 ghost use Rattle.tko_steps.specs.Cost.{IsShort};
@@ -10,19 +11,20 @@ ghost use Rattle.tko_steps.specs.Legal.{ChangesAreOwn, ChangesAtMostOnce, IsChai
 ghost use Rattle.tko_steps.specs.Lost.{ExpectsWhatItSaw, HasLostEachTry, LosesToOthers};
 ghost use Rattle.tko_steps.specs.Runs.{InEveryRun, calls_of};
 ghost use Rattle.tko_steps.specs.declared.table.Action.{Action};
-ghost use Rattle.tko_steps.specs.Safe.{CountsSlots, HasDistinctNumbers, HasOneResponsible, OwnsItsMarks};
+ghost use Rattle.tko_steps.specs.Safe.{AreWithinLimits, CountSlots, HasDistinctNumbers, HasOneResponsible, OwnsItsMarks};
 
 use tko_model::Reply;
 
 /// A step changes the word that it is on alone, and leaves there what that word alone decides.
 pub fn one_word_a_step()
-    ensures { (shared : Shared) (server : ℕ) (action : Action) → IsOnOneWord shared server action }
+    ensures { (s : Settings) (shared : Shared) (server : ℕ) (action : Action) →
+        IsOnOneWord s shared server action }
 {}
 
 /// Over every list of turns, from the core as it opens under settings in range: each answered call
 /// has the sequential tracker's reply and change at one of its own steps, or lost every try to
 /// other threads and changed nothing; nothing but own steps of calls changes a mark, no two threads
-/// are responsible for one server, and soft marks never exceed the limit.
+/// are responsible for one server, and soft marks never exceed the limit of their group.
 pub fn every_run()
     // each call of the run
     ensures legal { InEveryRun (λ s w. All (IsLegal s) (calls_of w.past)) }
@@ -49,10 +51,10 @@ pub fn every_run()
 
     // each state of the run
     ensures responsible { InEveryRun (λ s w. HasOneResponsible w.core) }
-    ensures limit { InEveryRun (λ s w. softs (abstract_of w.core) ≤ s.limit) }
+    ensures limit { InEveryRun (λ s w. AreWithinLimits s (abstract_of w.core)) }
     ensures settings { InEveryRun (λ s w. settings_of w.core ≡ s) }
     ensures core { InEveryRun (λ s w. IsCore w.core) }
-    ensures slots { InEveryRun (λ s w. CountsSlots w.core) }
+    ensures slots { InEveryRun (λ s w. CountSlots w.core) }
     ensures owned { InEveryRun (λ s w. OwnsItsMarks w) }
     ensures distinct { InEveryRun (λ s w. HasDistinctNumbers w.core) }
 {}

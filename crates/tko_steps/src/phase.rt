@@ -2,7 +2,7 @@
 
 use tko_model::{Mark, Op, Reply, ServerState};
 
-/// The two counts of the soft word.
+/// The two counts of the soft word of a group.
 #[derive(Clone, Copy, Debug, PartialEq, Eq)]
 pub struct Slots {
     /// How many soft marks are settled.
@@ -33,11 +33,11 @@ pub enum Phase {
         mark: Mark,
         reply: Reply,
     },
-    /// One more soft failure marks the server: it is about to look at the soft word.
+    /// One more soft failure marks the server: it is about to look at the soft word of its group.
     AtThreshold {
         found: ServerState,
     },
-    /// As many soft marks are settled as may be: it is about to look at the server again.
+    /// As many soft marks of the group are settled as may be: it is about to look at the server again.
     Limit {
         found: ServerState,
     },

@@ -15,7 +15,7 @@ pub enum Kind {
     Mark,
     /// It exchanges the health word that its own thread marked.
     Own,
-    /// It exchanges the soft word for one with one more slot held.
+    /// It exchanges a soft word for one with one more slot held.
     Reserve,
     /// It turns a held slot into a settled mark, or a settled mark into a held slot.
     Shift,
@@ -41,7 +41,8 @@ impl Kind {
 #[derive(Clone, Copy, Debug, PartialEq, Eq)]
 pub enum Place {
     Server(usize),
-    Soft,
+    /// The soft word of this group.
+    Soft(usize),
     Enrolment,
 }
 
@@ -50,7 +51,7 @@ pub enum Place {
 pub enum Word {
     /// A server's mark and stamp.
     Server(ServerState),
-    /// The two counts of soft marks.
+    /// The two counts of soft marks of a group.
     Soft(Slots),
     /// How many threads are enrolled.
     Enrolled(u32),

@@ -65,9 +65,10 @@ impl Action {
         }
     }
 
-    /// The word that the step of a call on this server is on.
-    pub fn place(&self, server: usize) -> Place
-        ensures { result ≡ place_of server self.now }
+    /// The word that the step of a call on this server is on: the server's, or the soft word of its
+    /// group.
+    pub fn place(&self, settings: &Settings, server: usize) -> Place
+        ensures { result ≡ place_of settings.now server self.now }
     {
         match *self {
             Action::LookAtServer | Action::Exchange { .. } => Place::Server(server),
@@ -75,7 +76,7 @@ impl Action {
             | Action::Reserve { .. }
             | Action::Settle
             | Action::Loosen
-            | Action::Give => Place::Soft,
+            | Action::Give => Place::Soft(settings.group_of(server)),
         }
     }
 }
@@ -255,10 +256,11 @@ fn at_threshold(settings: &Settings, call: &Call, found: ServerState, slots: Slo
     requires { call.now.lost < settings.now.tries }
     ensures { result ≡ at_threshold settings.now call.now found slots }
 {
-    if slots.firm == settings.limit {
+    let limit = settings.limit_of(settings.group_of(call.server));
+    if slots.firm == limit {
         return goes(call, Phase::Limit { found });
     }
-    if slots.firm as u64 + slots.held as u64 == settings.limit as u64 {
+    if slots.firm as u64 + slots.held as u64 == limit as u64 {
         return lost_try(settings, call);
     }
     goes(call, Phase::Reserving { found, slots })

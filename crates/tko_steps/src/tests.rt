@@ -30,7 +30,7 @@ fn on(thread: usize, kind: Kind, server: usize, mark: Mark, stamp: u64) -> Line 
 /// A step on the soft word.
 fn soft(thread: usize, kind: Kind, firm: u32, held: u32) -> Line {
     let word = Word::Soft(Slots { firm, held });
-    Line::Step(thread, kind, Place::Soft, word, true, None)
+    Line::Step(thread, kind, Place::Soft(0), word, true, None)
 }
 
 /// The same step, which is lost.

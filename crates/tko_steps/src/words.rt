@@ -1,5 +1,5 @@
 //! The words that the threads share, packed.
-ghost use Rattle.std.specs.Prelude.{◌≡◌, ◌+◌, ◌<◌, ◌^◌, IfOk, length};
+ghost use Rattle.std.specs.Prelude.{◌≡◌, ◌+◌, ◌<◌, ◌^◌, IfOk, length, true};
 ghost use Rattle.tko_model.specs.Ranges.{IsWithinRanges};
 ghost use Rattle.tko_model.specs.Tracker.{server_at};
 ghost use Rattle.tko_steps.specs.Table.{same_server, same_slots};
@@ -12,25 +12,25 @@ use std::marker::Model;
 use tko_model::{Mark, ServerState, Settings};
 use tko_word::{pack, pack_soft, unpack, unpack_soft};
 
-/// The health word of each server, the soft word and the enrolment word. Contracts see what the
+/// The health word of each server, the soft word of each group and the enrolment word. Contracts see what the
 /// words hold.
 #[derive(Drop)]
 pub struct Words {
     health: Vec<u64>,
-    soft: u64,
+    soft: Vec<u64>,
     enrolled: u64,
 }
 
 impl Model for Words {
     ghost use Rattle.std.specs.Prelude.{All, map};
-    ghost use Rattle.tko_word.specs.Words.{IsWord, firm_in, held_in, server_in};
-    ghost use Rattle.tko_steps.specs.Core.{Shared};
+    ghost use Rattle.tko_word.specs.Words.{IsWord, server_in};
+    ghost use Rattle.tko_steps.specs.Core.{Shared, slots_in};
 
     ghost Value = { Shared };
 
     ghost view = { λ w. record {
       servers = map server_in w.health.items;
-      slots = record { firm = firm_in w.soft; held = held_in w.soft };
+      slots = map slots_in w.soft.items;
       enrolled = w.enrolled;
     } };
 
@@ -38,7 +38,7 @@ impl Model for Words {
 }
 
 impl Words {
-    ghost use Rattle.tko_steps.specs.Core.{CanAct, IsPlace, opened_words, seen_by, shared_after, word_at};
+    ghost use Rattle.tko_steps.specs.Core.{CanAct, CanShiftIn, IsPlace, opened_words, seen_by, servers_after, shared_after, slots_at, with_slots, with_soft_words, word_at};
     ghost use Rattle.tko_steps.specs.declared.table.Action.TheVariants.{Exchange, Give, Loosen, Reserve, Settle};
 
     /// Each server is up, at the opening stamp; no slot is taken and no thread enrolled.
@@ -48,9 +48,10 @@ impl Words {
     {
         let server = pack(Mark::Up(0), settings.opening_stamp);
         let health = vec![in alloc; server; settings.servers as usize]?;
+        let soft = vec![in alloc; pack_soft(0, 0); settings.groups()]?;
         Ok(Words {
             health,
-            soft: pack_soft(0, 0),
+            soft,
             enrolled: 0,
         })
     }
@@ -64,11 +65,12 @@ impl Words {
         ServerState { mark, stamp }
     }
 
-    /// The counts of the soft word.
-    pub fn slots(&self) -> Slots
-        ensures { result ≡ self.now.slots }
+    /// The counts of the soft word of a group.
+    pub fn slots(&self, group: usize) -> Slots
+        requires { group < length self.now.slots }
+        ensures { result ≡ slots_at self.now.slots group }
     {
-        let (firm, held) = unpack_soft(self.soft);
+        let (firm, held) = unpack_soft(self.soft[group]);
         Slots { firm, held }
     }
 
@@ -97,20 +99,21 @@ impl Words {
         number
     }
 
-    /// One step on one word; an exchange is of this server's.
-    pub fn act(&mut self, server: usize, action: Action) -> Observed
-        requires { CanAct self.old server action }
-        ensures seen { result ≡ seen_by self.old server action }
-        ensures state { self.new ≡ shared_after self.old server action }
+    /// One step of a call on this server, on that server's word or on the soft word of its group.
+    pub fn act(&mut self, settings: &Settings, server: usize, action: Action) -> Observed
+        requires { CanAct settings.now self.old server action }
+        ensures seen { result ≡ seen_by settings.now self.old server action }
+        ensures state { self.new ≡ shared_after settings.now self.old server action }
     {
+        let group = settings.group_of(server);
         match action {
             Action::LookAtServer => Observed::Server(self.server(server)),
-            Action::LookAtSlots => Observed::Slots(self.slots()),
+            Action::LookAtSlots => Observed::Slots(self.slots(group)),
             Action::Exchange { found, mark } => Observed::Done(self.exchange(server, found, mark)),
-            Action::Reserve { slots } => Observed::Done(self.reserve(slots)),
-            Action::Settle => self.settle(),
-            Action::Loosen => self.loosen(),
-            Action::Give => self.give(),
+            Action::Reserve { slots } => Observed::Done(self.reserve(group, slots)),
+            Action::Settle => self.settle(group),
+            Action::Loosen => self.loosen(group),
+            Action::Give => self.give(group),
         }
     }
 
@@ -121,15 +124,19 @@ impl Words {
     {
         match place {
             Place::Server(server) => Word::Server(self.server(server)),
-            Place::Soft => Word::Soft(self.slots()),
+            Place::Soft(group) => Word::Soft(self.slots(group)),
             Place::Enrolment => Word::Enrolled(self.enrolled as u32),
         }
     }
 
     fn exchange(&mut self, server: usize, found: ServerState, mark: Mark) -> bool
-        requires { CanAct self.old server (Exchange found mark) }
+        requires place { server < length self.old.servers }
+        requires mark { IsMark mark }
+        requires stamp { found.stamp + 1 < stamp_end }
         ensures won { result ≡ same_server (server_at self.old.servers server) found }
-        ensures state { self.new ≡ shared_after self.old server (Exchange found mark) }
+        ensures state { self.new ≡ record self.old {
+          servers = servers_after self.old.servers server (Exchange found mark);
+        } }
     {
         if !is_same(self.server(server), found) {
             return false;
@@ -138,46 +145,54 @@ impl Words {
         true
     }
 
-    fn reserve(&mut self, slots: Slots) -> bool
-        requires { CanAct self.old 0 (Reserve slots) }
-        ensures won { result ≡ same_slots self.old.slots slots }
-        ensures state { self.new ≡ shared_after self.old 0 (Reserve slots) }
+    /// Puts these counts into the soft word of a group.
+    fn set(&mut self, group: usize, firm: u32, held: u32)
+        requires { group < length self.old.slots }
+        ensures { self.new ≡ with_slots self.old group (record { firm = firm; held = held }) }
     {
-        let now = self.slots();
+        self.soft[group] = pack_soft(firm, held);
+    }
+
+    fn reserve(&mut self, group: usize, slots: Slots) -> bool
+        requires { CanShiftIn self.old.slots group (Reserve slots) }
+        ensures won { result ≡ same_slots (slots_at self.old.slots group) slots }
+        ensures state { self.new ≡ with_soft_words self.old group (Reserve slots) }
+    {
+        let now = self.slots(group);
         if now.firm != slots.firm || now.held != slots.held {
             return false;
         }
-        self.soft = pack_soft(now.firm, now.held + 1);
+        self.set(group, now.firm, now.held + 1);
         true
     }
 
-    fn settle(&mut self) -> Observed
-        requires { CanAct self.old 0 Settle }
-        ensures seen { result ≡ seen_by self.old 0 Settle }
-        ensures state { self.new ≡ shared_after self.old 0 Settle }
+    fn settle(&mut self, group: usize) -> Observed
+        requires { CanShiftIn self.old.slots group Settle }
+        ensures seen { result ≡ Observed.Done true }
+        ensures state { self.new ≡ with_soft_words self.old group Settle }
     {
-        let now = self.slots();
-        self.soft = pack_soft(now.firm + 1, now.held - 1);
+        let now = self.slots(group);
+        self.set(group, now.firm + 1, now.held - 1);
         Observed::Done(true)
     }
 
-    fn loosen(&mut self) -> Observed
-        requires { CanAct self.old 0 Loosen }
-        ensures seen { result ≡ seen_by self.old 0 Loosen }
-        ensures state { self.new ≡ shared_after self.old 0 Loosen }
+    fn loosen(&mut self, group: usize) -> Observed
+        requires { CanShiftIn self.old.slots group Loosen }
+        ensures seen { result ≡ Observed.Done true }
+        ensures state { self.new ≡ with_soft_words self.old group Loosen }
     {
-        let now = self.slots();
-        self.soft = pack_soft(now.firm - 1, now.held + 1);
+        let now = self.slots(group);
+        self.set(group, now.firm - 1, now.held + 1);
         Observed::Done(true)
     }
 
-    fn give(&mut self) -> Observed
-        requires { CanAct self.old 0 Give }
-        ensures seen { result ≡ seen_by self.old 0 Give }
-        ensures state { self.new ≡ shared_after self.old 0 Give }
+    fn give(&mut self, group: usize) -> Observed
+        requires { CanShiftIn self.old.slots group Give }
+        ensures seen { result ≡ Observed.Done true }
+        ensures state { self.new ≡ with_soft_words self.old group Give }
     {
-        let now = self.slots();
-        self.soft = pack_soft(now.firm, now.held - 1);
+        let now = self.slots(group);
+        self.set(group, now.firm, now.held - 1);
         Observed::Done(true)
     }
 }

@@ -19,15 +19,16 @@ use Rattle.tko_steps.specs.declared.phase.ThreadState.TheVariants.{NotEnrolled, 
 use Rattle.tko_steps.specs.declared.table.Action.{Action}
 use Rattle.tko_steps.specs.declared.table.Action.TheVariants as action
 use Rattle.tko_steps.specs.declared.table.Observed.{Observed}
-use Rattle.tko_steps.specs.Core.{CanAct}
+use Rattle.tko_steps.specs.Core.{CanAct, slots_in}
 use Rattle.tko_steps.specs.Steps.{in_call, is_marked_state}
 use Rattle.tko_steps.specs.Table.{action_of}
 use Rattle.tko_table.specs.declared.pass.Pass.{Pass}
-use Rattle.tko_table.specs.Rule.{IsKept, health_in, health_place, shared_in, slots_in, soft_place}
+use Rattle.tko_table.specs.Rule.{IsKept, health_in, health_place, shared_in, soft_place}
 use Rattle.tko_table.specs.Steps.{Exchanged, IsLook, IsShift, IsSoundWord, IsWithinLimit, Looked, LookedAtSlots, Plays, Takes, Took, is_look_at_slots, is_settle, read_in}
 use Rattle.tko_table.proofs.KeptLemmas.{act-kept, act-takes, pass_after}
-use Rattle.tko_table.proofs.StepLemmas.{IsStepOn, all-sound, can-act, exchanges, own-stands, gives, looks-at-server, looks-at-slots, loosens, reserves, servers-some, settles, slots-within}
+use Rattle.tko_table.proofs.StepLemmas.{IsStepOn, all-sound, can-act, exchanges, own-stands, gives, looks-at-server, looks-at-slots, loosens, reserves, settles, slots-within, slots-inside}
 use Rattle.tko_table.proofs.BeginLemmas.{begin-kept, with_state}
+use Rattle.tko_model.specs.Groups.{group_of}
 
 abbrev pub Table : Type 0
 Table = State (Unit {0}) (List Pass)
@@ -57,7 +58,7 @@ pub record IsTaken (s : Settings) (words new_words : List ℕ) (views : List (Li
   pub takes : Takes pass call phase (read_in (action_of call.number phase) found) new
 
 taken-call : (s : Settings) (words new_words : List ℕ) (views : List (List Pass)) (id : ℕ) (pass : Pass) (call : Call) (phase : Phase) (found : ℕ)
-    → IsKept s words views → get_elem? views id ≡ some (pass ∷ []) → pass.state ≡ InCall call phase → IsStepOn words new_words call.server (action_of call.number phase) found
+    → IsKept s words views → get_elem? views id ≡ some (pass ∷ []) → pass.state ≡ InCall call phase → IsStepOn s words new_words call.server (action_of call.number phase) found
     → IsTaken s words new_words views id pass call phase found
 taken-call s words new_words views id pass call phase found kept there stands on =
     let P : Observed → Type 0 = λ it. Takes pass call phase it (pass_after s words new_words views id [] [] pass call phase kept there stands on.left on.valid) in
@@ -69,8 +70,8 @@ taken-call s words new_words views id pass call phase found kept there stands on
 
 taken-look : (s : Settings) (words new_words : List ℕ) (views : List (List Pass)) (id : ℕ) (pass : Pass) (call : Call) (phase : Phase) (found : ℕ)
     → IsKept s words views → get_elem? views id ≡ some (pass ∷ []) → (op : Op) → in_call pass.state op call.server ≡ InCall call phase
-    → call.server < length (shared_in words).servers
-    → IsStepOn words new_words call.server (action_of call.number phase) found
+    → call.server < length (shared_in s words).servers
+    → IsStepOn s words new_words call.server (action_of call.number phase) found
     → IsTaken s words new_words views id pass call phase found
 taken-look s words new_words views id pass call phase found kept there op begins on_server on =
     let begun = begin-kept s words views id [] [] pass op call.server kept there on_server call phase begins in
@@ -123,7 +124,7 @@ took-any view new found pass call phase alone state stands took other at also =
 pub allows-call : (s : Settings) (slots id : ℕ) (me : Seat) (word : ℕ) (f : ℕ → ℕ) (pass : Pass) (call : Call) (phase : Phase)
     → me.0 ≡ pass ∷ [] → pass.state ≡ InCall call phase
     → ((state : Table) → IsKept s state.words state.views → get_elem? state.views id ≡ some (pass ∷ []) → get_or state.words word 0 < 2 ^ 64
-    → IsStepOn state.words (set state.words word (f (get_or state.words word 0))) call.server (action_of call.number phase)
+    → IsStepOn s state.words (set state.words word (f (get_or state.words word 0))) call.server (action_of call.number phase)
     (get_or state.words word 0))
     → Allows (Rule s) slots id me word f (λ found new. Plays me found new × (new.1 ≡ me.1))
 allows-call s slots id me word f pass call phase alone stands steps state kept homes at fits =
@@ -154,9 +155,9 @@ allows-look s slots id me op pass call phase alone begins is_look same_settings 
     let there : get_elem? state.views id ≡ some (pass ∷ []) = at ∙ ap some alone in
     let word = health_place call.server in
     let found = get_or state.words word 0 in
-    let inside : call.server < length (shared_in state.words).servers = omega (arith, on_server, kept.core.core.count) in
-    let P : Action → Type 0 = λ it. IsStepOn state.words (set state.words word found) call.server it found in
-    let on = subst P (sym is_look) (looks-at-server state.words call.server kept.core.valid inside) in
+    let inside : call.server < length (shared_in s state.words).servers = omega (arith, on_server, kept.core.core.count) in
+    let P : Action → Type 0 = λ it. IsStepOn s state.words (set state.words word found) call.server it found in
+    let on = subst P (sym is_look) (looks-at-server s state.words call.server kept.core.valid inside) in
     let taken = taken-look s state.words (set state.words word found) state.views id pass call phase found kept there op begins inside on in
     let new = taken.new ∷ [] in (
       new,
@@ -195,29 +196,33 @@ allows-with holds slots id me word f told tells Fact allows fact both state kept
 -- a load of the soft word
 pub allows-look_at_slots : (s : Settings) (slots id : ℕ) (me : Seat) (pass : Pass) (call : Call) (phase : Phase)
     → me.0 ≡ pass ∷ [] → pass.state ≡ InCall call phase → action_of call.number phase ≡ action.LookAtSlots → pass.settings ≡ s
-    → Allows (Rule s) slots id me soft_place (λ n. n) (λ found new. LookedAtSlots me found new × (new.1 ≡ me.1))
+    → Allows (Rule s) slots id me (soft_place s (group_of s call.server)) (λ n. n) (λ found new. LookedAtSlots me found new × (new.1 ≡ me.1))
 allows-look_at_slots s slots id me pass call phase alone stands is_look same_settings =
-    allows-with (Rule s) slots id me soft_place (λ n. n) (λ found new. Plays me found new × (new.1 ≡ me.1))
-    (λ found new. LookedAtSlots me found new × (new.1 ≡ me.1)) (λ found. IsWithinLimit s (slots_in found))
-    (allows-call s slots id me soft_place (λ n. n) pass call phase alone stands (λ state kept there fits.
-    let found = get_or state.words soft_place 0 in
-    let P : Action → Type 0 = λ it. IsStepOn state.words (set state.words soft_place found) call.server it found in
-    subst P (sym is_look) (looks-at-slots state.words call.server kept.core.valid)))
-    (λ state kept at. slots-within s state.words state.views kept)
+    allows-with (Rule s) slots id me (soft_place s (group_of s call.server)) (λ n. n) (λ found new. Plays me found new × (new.1 ≡ me.1))
+    (λ found new. LookedAtSlots me found new × (new.1 ≡ me.1)) (λ found. IsWithinLimit s call.server (slots_in found))
+    (allows-call s slots id me (soft_place s (group_of s call.server)) (λ n. n) pass call phase alone stands (λ state kept there fits.
+    let found = get_or state.words (soft_place s (group_of s call.server)) 0 in
+    let P : Action → Type 0 = λ it. IsStepOn s state.words (set state.words (soft_place s (group_of s call.server)) found) call.server it found in
+    subst P (sym is_look)
+    (looks-at-slots s state.words call.server kept.core.valid (slots-inside s state.words state.views call.server kept))))
+    (λ state kept at. slots-within s state.words state.views call.server kept)
     (λ found new within plays. (
       record {
         plays = plays.0;
-        within = λ other other_alone.
+        within = λ other own_call own_phase other_alone other_stands.
             let same : pass ≡ other = head_is me.0 pass other alone other_alone in
             let settings : s ≡ other.settings = sym same_settings ∙ ap (λ (it : Pass). it.settings) same in
-            subst (λ it. IsWithinLimit it (slots_in found)) settings within;
+            let both : InCall call phase ≡ InCall own_call own_phase = sym stands ∙ ap (λ (it : Pass). it.state) same ∙ other_stands in
+            let calls : call ≡ own_call = cc in
+            subst (λ (it : Call). IsWithinLimit other.settings it.server (slots_in found)) calls
+            (subst (λ it. IsWithinLimit it call.server (slots_in found)) settings within);
       },
       plays.1,
     ))
 
 -- where the server of a call under way is
 server-inside : (s : Settings) (words : List ℕ) (server : ℕ) → (views : List (List Pass)) → IsKept s words views → server < s.servers
-    → server < length (shared_in words).servers
+    → server < length (shared_in s words).servers
 server-inside s words server views kept on_server = omega (arith, on_server, kept.core.core.count)
 
 -- an exchange of a server's word
@@ -236,9 +241,9 @@ allows-exchange s slots id me pass call phase found mark expected new alone stan
     allows-with (Rule s) slots id me word f (λ n after. Plays me n after × (after.1 ≡ me.1)) (λ n after. Exchanged word me n after × (after.1 ≡ me.1)) Fact
     (allows-call s slots id me word f pass call phase alone stands (λ state kept there fits.
     let n = get_or state.words word 0 in
-    let P : Action → Type 0 = λ it. IsStepOn state.words (set state.words word (f n)) call.server it n in
+    let P : Action → Type 0 = λ it. IsStepOn s state.words (set state.words word (f n)) call.server it n in
     subst P (sym is_exchange)
-    (exchanges state.words call.server expected new found mark kept.core.valid (server-inside s state.words call.server state.views kept on_server)
+    (exchanges s state.words call.server expected new found mark kept.core.valid (server-inside s state.words call.server state.views kept on_server)
     is_expected expects is_new leaves)))
     (λ state kept at. (
       (all-sound s state.words state.views kept call.server (server-inside s state.words call.server state.views kept on_server)).valid,
@@ -253,38 +258,38 @@ allows-exchange s slots id me pass call phase found mark expected new alone stan
 module _ (s : Settings) (slots id : ℕ) (me : Seat) (pass : Pass) (call : Call) (phase : Phase) (alone : me.0 ≡ pass ∷ [])
     (stands : pass.state ≡ InCall call phase) where
   on_soft : (act : Action) (f : ℕ → ℕ) → action_of call.number phase ≡ act
-      → ((words : List ℕ) → All IsWord (health_in words) → 0 < length (shared_in words).servers → get_or words soft_place 0 < 2 ^ 64
-      → CanAct (shared_in words) call.server act
-      → IsStepOn words (set words soft_place (f (get_or words soft_place 0))) call.server act (get_or words soft_place 0))
-      → Allows (Rule s) slots id me soft_place f (λ found new. Plays me found new × (new.1 ≡ me.1))
+      → ((words : List ℕ) → All IsWord (health_in s words) → get_or words (soft_place s (group_of s call.server)) 0 < 2 ^ 64
+      → CanAct s (shared_in s words) call.server act
+      → IsStepOn s words (set words (soft_place s (group_of s call.server)) (f (get_or words (soft_place s (group_of s call.server)) 0))) call.server act (get_or words (soft_place s (group_of s call.server)) 0))
+      → Allows (Rule s) slots id me (soft_place s (group_of s call.server)) f (λ found new. Plays me found new × (new.1 ≡ me.1))
   on_soft act f is steps =
-      allows-call s slots id me soft_place f pass call phase alone stands (λ state kept there fits.
-      let n = get_or state.words soft_place 0 in
-      let P : Action → Type 0 = λ it. IsStepOn state.words (set state.words soft_place (f n)) call.server it n in
-      let can : CanAct (shared_in state.words) call.server act =
-      subst (CanAct (shared_in state.words) call.server) is (can-act s state.words state.views id [] [] pass call phase kept there stands) in
-      subst P (sym is) (steps state.words kept.core.valid (servers-some s state.words state.views kept) fits can))
+      allows-call s slots id me (soft_place s (group_of s call.server)) f pass call phase alone stands (λ state kept there fits.
+      let n = get_or state.words (soft_place s (group_of s call.server)) 0 in
+      let P : Action → Type 0 = λ it. IsStepOn s state.words (set state.words (soft_place s (group_of s call.server)) (f n)) call.server it n in
+      let can : CanAct s (shared_in s state.words) call.server act =
+      subst (CanAct s (shared_in s state.words) call.server) is (can-act s state.words state.views id [] [] pass call phase kept there stands) in
+      subst P (sym is) (steps state.words kept.core.valid fits can))
 
   pub allows-settle : action_of call.number phase ≡ action.Settle
-      → Allows (Rule s) slots id me soft_place (λ n. (n + (2 ^ 64 - 4294967295)) % 2 ^ 64) (λ found new. Plays me found new × (new.1 ≡ me.1))
-  allows-settle is = on_soft action.Settle (λ n. (n + (2 ^ 64 - 4294967295)) % 2 ^ 64) is (λ words. settles words call.server)
+      → Allows (Rule s) slots id me (soft_place s (group_of s call.server)) (λ n. (n + (2 ^ 64 - 4294967295)) % 2 ^ 64) (λ found new. Plays me found new × (new.1 ≡ me.1))
+  allows-settle is = on_soft action.Settle (λ n. (n + (2 ^ 64 - 4294967295)) % 2 ^ 64) is (λ words valid fits can. settles s words call.server valid fits can)
 
   pub allows-loosen : action_of call.number phase ≡ action.Loosen
-      → Allows (Rule s) slots id me soft_place (λ n. (n + 4294967295) % 2 ^ 64) (λ found new. Plays me found new × (new.1 ≡ me.1))
-  allows-loosen is = on_soft action.Loosen (λ n. (n + 4294967295) % 2 ^ 64) is (λ words. loosens words call.server)
+      → Allows (Rule s) slots id me (soft_place s (group_of s call.server)) (λ n. (n + 4294967295) % 2 ^ 64) (λ found new. Plays me found new × (new.1 ≡ me.1))
+  allows-loosen is = on_soft action.Loosen (λ n. (n + 4294967295) % 2 ^ 64) is (λ words valid fits can. loosens s words call.server valid fits can)
 
   pub allows-give : action_of call.number phase ≡ action.Give
-      → Allows (Rule s) slots id me soft_place (λ n. (n + (2 ^ 64 - 4294967296)) % 2 ^ 64) (λ found new. Plays me found new × (new.1 ≡ me.1))
-  allows-give is = on_soft action.Give (λ n. (n + (2 ^ 64 - 4294967296)) % 2 ^ 64) is (λ words. gives words call.server)
+      → Allows (Rule s) slots id me (soft_place s (group_of s call.server)) (λ n. (n + (2 ^ 64 - 4294967296)) % 2 ^ 64) (λ found new. Plays me found new × (new.1 ≡ me.1))
+  allows-give is = on_soft action.Give (λ n. (n + (2 ^ 64 - 4294967296)) % 2 ^ 64) is (λ words valid fits can. gives s words call.server valid fits can)
 
   pub allows-reserve : (taken : Slots) (expected new : ℕ) → action_of call.number phase ≡ action.Reserve taken → slots_in expected ≡ taken
       → new ≡ (expected + 4294967296) % 2 ^ 64
-      → Allows (Rule s) slots id me soft_place (λ n. either (eqb n expected) new n) (λ found after. Plays me found after × (after.1 ≡ me.1))
+      → Allows (Rule s) slots id me (soft_place s (group_of s call.server)) (λ n. either (eqb n expected) new n) (λ found after. Plays me found after × (after.1 ≡ me.1))
   allows-reserve taken expected new is expects made =
-      let P : ℕ → Type 0 = λ it. Allows (Rule s) slots id me soft_place (λ n. either (eqb n expected) it n) (λ found after. Plays me found after × (after.1 ≡ me.1)) in
+      let P : ℕ → Type 0 = λ it. Allows (Rule s) slots id me (soft_place s (group_of s call.server)) (λ n. either (eqb n expected) it n) (λ found after. Plays me found after × (after.1 ≡ me.1)) in
       subst P (sym made)
       (on_soft (action.Reserve taken) (λ n. either (eqb n expected) ((expected + 4294967296) % 2 ^ 64) n) is
-      (λ words valid has_one fits can. reserves words call.server expected taken valid has_one fits can expects))
+      (λ words valid fits can. reserves s words call.server valid fits expected taken can expects))
 
 -- ---- what a caller knows of a step that it took
 

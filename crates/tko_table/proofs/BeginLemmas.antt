@@ -28,7 +28,7 @@ abbrev pub with_state : Pass → ThreadState → Pass
 with_state pass state = record pass { state = state }
 
 module _ (s : Settings) (words : List ℕ) (views : List (List Pass)) (id : ℕ) (before rest : List Pass) (pass : Pass) (op : Op) (server : ℕ)
-    (kept : IsKept s words views) (there : get_elem? views id ≡ some (before ++ pass ∷ rest)) (on_server : server < length (shared_in words).servers) where
+    (kept : IsKept s words views) (there : get_elem? views id ≡ some (before ++ pass ∷ rest)) (on_server : server < length (shared_in s words).servers) where
   one : IsOneOf (joined views) pass (λ new. joined (set views id (before ++ new ∷ rest)))
   one = one-joined views id before rest pass there
 
@@ -52,17 +52,17 @@ module _ (s : Settings) (words : List ℕ) (views : List (List Pass)) (id : ℕ)
       let threads : states_of (joined (set views id (before ++ new ∷ rest))) ≡ set (states_of passes) one.place state =
       ap states_of (one.sets new) ∙ map-set (λ (at : Pass). at.state) passes one.place new in
       let core_is : core_in s words (joined (set views id (before ++ new ∷ rest)))
-      ≡ record { settings = s; shared = shared_in words; threads = set (states_of passes) one.place state } =
-      λ i. record { settings = s; shared = shared_in words; threads = threads i } in
-      let owned : OwnsItsMarks (shared_in words).servers pass =
-      subst (OwnsItsMarks (shared_in words).servers) (one.at pass) (kept.core.owned one.place pass one.inside) in
+      ≡ record { settings = s; shared = shared_in s words; threads = set (states_of passes) one.place state } =
+      λ i. record { settings = s; shared = shared_in s words; threads = threads i } in
+      let owned : OwnsItsMarks (shared_in s words).servers pass =
+      subst (OwnsItsMarks (shared_in s words).servers) (one.at pass) (kept.core.owned one.place pass one.inside) in
       record {
         core = record {
           valid = kept.core.valid;
           core = subst IsCore (sym core_is) (IsCore-after_begin core one.place number op server kept.core.core inside stands_in on_server);
-          owned = subst (All (OwnsItsMarks (shared_in words).servers)) (sym (one.sets new))
-              (All-set (OwnsItsMarks (shared_in words).servers) passes one.place new
-              (λ at. owned at ∙ ap (λ state. is_marked_by (number_of state) (server_at (shared_in words).servers at).mark) stands) kept.core.owned);
+          owned = subst (All (OwnsItsMarks (shared_in s words).servers)) (sym (one.sets new))
+              (All-set (OwnsItsMarks (shared_in s words).servers) passes one.place new
+              (λ at. owned at ∙ ap (λ state. is_marked_by (number_of state) (server_at (shared_in s words).servers at).mark) stands) kept.core.owned);
           settings = subst (All (λ (at : Pass). at.settings ≡ s)) (sym (one.sets new))
               (All-set (λ (at : Pass). at.settings ≡ s) passes one.place new
               (subst (λ (at : Pass). at.settings ≡ s) (one.at pass) (kept.core.settings one.place pass one.inside)) kept.core.settings);

@@ -20,7 +20,7 @@ use Rattle.tko_steps.specs.declared.phase.Phase.{Phase}
 use Rattle.tko_steps.specs.declared.phase.Phase.TheVariants.{Start, Read, AtThreshold, Limit, Reserving, Holding, Firming, Losing, Loosening, Loosened, Emptied}
 use Rattle.tko_steps.specs.declared.table.Decision.{Decision}
 use Rattle.tko_steps.specs.declared.table.Decision.TheVariants.{Goes, Answers}
-use Rattle.tko_steps.specs.Core.{Shared, seen_by}
+use Rattle.tko_steps.specs.Core.{Shared, seen_by, slots_at}
 use Rattle.tko_steps.specs.Invariant.{IsPhase}
 use Rattle.tko_steps.specs.Steps.{is_done, state_after}
 use Rattle.tko_steps.specs.Table.{action_of, from_start, goes, lost_try, next_of, same_server, same_slots}
@@ -32,6 +32,7 @@ use Rattle.tko_table.specs.declared.pass.Pass.{Pass}
 use Rattle.tko_table.specs.History.{Begins, change_by, change_of, changes_in, is_change, made_by, made_with}
 use Rattle.tko_table.specs.Passes.{StandsIn, changes_by, mine_after, pending, pending_at}
 use Rattle.tko_table.specs.Rule.{IsPlannedAt, Puts}
+use Rattle.tko_model.specs.Groups.{group_of, limit_at}
 
 -- ---- replies
 
@@ -176,7 +177,7 @@ abbrev pub IsSure : Call → Shared → Phase → Type 0
 IsSure call shared (Loosened found mark answer) = same_server (server_at shared.servers call.server) found ≡ true
 IsSure call shared phase = Unit {0}
 
-pub sure-from : (s : Settings) (call : Call) (shared : Shared) (phase : Phase) → IsPhase s call.number (server_at shared.servers call.server) phase
+pub sure-from : (s : Settings) (call : Call) (shared : Shared) (phase : Phase) → IsPhase s call (server_at shared.servers call.server) phase
     → IsSure call shared phase
 sure-from s call shared Start knows = tt
 sure-from s call shared (Read found mark answer) knows = tt
@@ -218,8 +219,8 @@ module _ (s : Settings) (call : Call) (mine : List Made) (at : ℕ) where
       append-nil _ ∙ one_more answer ∙ ap (λ it. before ++ it) (cond-true (is_change answer) (change_by call answer ∷ []) [] changes)
 
   pub told-next : (shared : Shared) (phase : Phase) → IsPlannedAt s call phase → IsSure call shared phase
-      → Adds (pending_at call phase) (next_of s call phase (seen_by shared call.server (action_of call.number phase)))
-      (changes_by call phase (is_done (seen_by shared call.server (action_of call.number phase))))
+      → Adds (pending_at call phase) (next_of s call phase (seen_by s shared call.server (action_of call.number phase)))
+      (changes_by call phase (is_done (seen_by s shared call.server (action_of call.number phase))))
   told-next shared Start planned knows =
       let now = server_at shared.servers call.server in
       calm-adds (from_start s call now) (calm-start s call now)
@@ -230,14 +231,14 @@ module _ (s : Settings) (call : Call) (mine : List Made) (at : ℕ) where
       (λ won. answered answer (puts-change s call found mark answer planned) ∙ ap (λ it. it ++ change) (sym (append-nil before)))
       (λ lost. calm-adds (lost_try s call) (calm-lost_try s call))
   told-next shared (AtThreshold found) planned knows =
-      calm-adds _ (calm-both call (eqb shared.slots.firm s.limit) (goes call (Limit found))
-      (cond (eqb (shared.slots.firm + shared.slots.held) s.limit) (lost_try s call) (goes call (Reserving found shared.slots))) refl
-      (calm-both call (eqb (shared.slots.firm + shared.slots.held) s.limit) (lost_try s call) (goes call (Reserving found shared.slots))
+      calm-adds _ (calm-both call (eqb (slots_at shared.slots (group_of s call.server)).firm (limit_at s call.server)) (goes call (Limit found))
+      (cond (eqb ((slots_at shared.slots (group_of s call.server)).firm + (slots_at shared.slots (group_of s call.server)).held) (limit_at s call.server)) (lost_try s call) (goes call (Reserving found (slots_at shared.slots (group_of s call.server))))) refl
+      (calm-both call (eqb ((slots_at shared.slots (group_of s call.server)).firm + (slots_at shared.slots (group_of s call.server)).held) (limit_at s call.server)) (lost_try s call) (goes call (Reserving found (slots_at shared.slots (group_of s call.server))))
       (calm-lost_try s call) refl))
   told-next shared (Limit found) planned knows =
       calm-adds _ (calm-both call (same_server found (server_at shared.servers call.server)) (Answers reply.Full) (lost_try s call) refl (calm-lost_try s call))
   told-next shared (Reserving found slots) planned knows =
-      by_test (λ won. Adds [] (cond won (goes call (Holding found)) (lost_try s call)) (cond won [] [])) (same_slots shared.slots slots)
+      by_test (λ won. Adds [] (cond won (goes call (Holding found)) (lost_try s call)) (cond won [] [])) (same_slots (slots_at shared.slots (group_of s call.server)) slots)
       (λ won. calm-adds (goes call (Holding found)) refl)
       (λ lost. calm-adds (lost_try s call) (calm-lost_try s call))
   told-next shared (Holding found) planned knows =

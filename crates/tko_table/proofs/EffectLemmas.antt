@@ -1,33 +1,30 @@
 -- What the step of each phase does to the servers: nothing, or it gives one server a mark that its thread may give it.
-use Rattle.std.proofs.Common.{◌≡◌, ℕ, ◌+◌, ◌<◌, Bool, true, false, cond, ◌⊎◌, List, [], ◌∷◌, length, set, Some, refl, sym, ap, ◌∙◌, subst, inl, inr, arith}
+use Rattle.std.proofs.Common.{◌≡◌, ℕ, ◌+◌, ◌<◌, Bool, true, cond, ◌⊎◌, List, [], ◌∷◌, length, set, Some, refl, sym, ap, ◌∙◌, subst, inl, inr}
 use Rattle.std.proofs.lemmas.Bool.{cases_Bool, lt-ltb}
-use Rattle.std.proofs.lemmas.List.Sums.{sum_by-le-sum_by}
 use Rattle.tko_model.specs.declared.mark.Mark.{Mark}
 use Rattle.tko_model.specs.declared.mark.Mark.TheVariants.{Soft}
 use Rattle.tko_model.specs.declared.mark.Reply.{Reply}
 use Rattle.tko_model.specs.declared.mark.Reply.TheVariants.{Full, TookSoft}
 use Rattle.tko_model.specs.declared.settings.Settings.{Settings}
 use Rattle.tko_model.specs.declared.state.ServerState.{ServerState}
-use Rattle.tko_model.specs.Tracker.{becomes, has_room, server_at, softs, stays, transition}
+use Rattle.tko_model.specs.Tracker.{becomes, has_room, server_at, stays, transition, softs_beside}
 use Rattle.tko_steps.specs.declared.phase.Call.{Call}
 use Rattle.tko_steps.specs.declared.phase.Phase.{Phase}
 use Rattle.tko_steps.specs.declared.phase.Phase.TheVariants.{Start, Read, AtThreshold, Limit, Reserving, Holding, Firming, Losing, Loosening, Loosened, Emptied}
-use Rattle.tko_steps.specs.declared.phase.ThreadState.{ThreadState}
-use Rattle.tko_steps.specs.declared.phase.ThreadState.TheVariants.{NotEnrolled, InCall}
-use Rattle.tko_steps.specs.Core.{CoreState, abstract_of, owner_of, seen_by, shared_after, thread_at}
+use Rattle.tko_steps.specs.declared.phase.ThreadState.TheVariants.{InCall}
+use Rattle.tko_steps.specs.Core.{CoreState, abstract_of, owner_of, seen_by, shared_after, thread_at, slots_at}
 use Rattle.tko_steps.specs.Steps.{is_done}
-use Rattle.tko_steps.specs.Invariant.{IsCore, IsFoundBy, holds, is_loose}
+use Rattle.tko_steps.specs.Invariant.{IsCore, IsFoundBy}
 use Rattle.tko_steps.specs.Table.{action_of, same_server, same_slots}
 use Rattle.tko_steps.proofs.CoreLemmas.{free-found, free-fresh, knows_at, owners-written}
-use Rattle.tko_steps.proofs.CountLemmas.{bit}
-use Rattle.tko_steps.proofs.CoreLemmas.{loose-le-holds}
 use Rattle.tko_steps.proofs.TableLemmas.{same_server-true}
-use Rattle.tko_steps.proofs.ThreadLemmas.{count_by-moved}
 use Rattle.tko_table.specs.declared.pass.Change.{Change}
 use Rattle.tko_table.specs.History.{change_by}
 use Rattle.tko_table.specs.Passes.{changes_by, owned_after, owned_with}
 use Rattle.tko_table.specs.Rule.{IsPlannedAt}
 use Rattle.tko_table.proofs.OwnedLemmas.{NamesOnly}
+use Rattle.tko_model.specs.Groups.{group_of, limit_at}
+use Rattle.tko_steps.proofs.EveryCallLemmas.{softs-lt}
 
 pub record IsQuiet (servers new : List ServerState) (owned new_owned : List ℕ) (changes : List Change) : Type 0 where
   pub same : new ≡ servers
@@ -41,7 +38,7 @@ pub record IsWritten (s : Settings) (call : Call) (servers new : List ServerStat
   pub inside : call.server < length servers
   pub was : NamesOnly call.number (server_at servers call.server).mark
   pub only : NamesOnly call.number mark
-  pub decides : transition s (has_room s (softs servers)) call.number call.op (server_at servers call.server).mark
+  pub decides : transition s (has_room s servers call.server) call.number call.op (server_at servers call.server).mark
       (server_at servers call.server).stamp ≡ becomes mark answer
   pub wrote : new ≡ set servers call.server (record { mark = mark; stamp = (server_at servers call.server).stamp + 1 })
   pub gained : new_owned ≡ owned_with owned call.server mark
@@ -51,30 +48,20 @@ abbrev pub Effect : Settings → Call → List ServerState → List ServerState 
 Effect s call servers new owned new_owned changes =
     IsQuiet servers new owned new_owned changes ⊎ IsWritten s call servers new owned new_owned changes
 
--- while a call holds a slot for a mark that it has yet to make, there is room for it
-softs-lt : (core : CoreState) (thread : ℕ) (state : ThreadState) → IsCore core → thread < length core.threads
-    → thread_at core thread ≡ state → holds state ≡ true → is_loose state ≡ false → softs (abstract_of core) < core.settings.limit
-softs-lt core thread state is inside stands held firm =
-    let others = set core.threads thread NotEnrolled in
-    let le = sum_by-le-sum_by (λ it. bit (is_loose it)) (λ it. bit (holds it)) others loose-le-holds in
-    let holding = count_by-moved holds core.threads thread state NotEnrolled inside stands in
-    let loose = count_by-moved is_loose core.threads thread state NotEnrolled inside stands in
-    omega (arith, is.firm, is.held, is.room, le, holding, loose, ap bit held, ap bit firm)
-
 module _ (core : CoreState) (thread : ℕ) (call : Call) (is : IsCore core) (inside : thread < length core.threads) (owned : List ℕ) where
   -- what the step of this phase does
   abbrev pub EffectOf : Phase → Type 0
   EffectOf phase =
       let action = action_of call.number phase in
-      let read = seen_by core.shared call.server action in
-      Effect core.settings call (abstract_of core) (shared_after core.shared call.server action).servers owned
+      let read = seen_by core.settings core.shared call.server action in
+      Effect core.settings call (abstract_of core) (shared_after core.settings core.shared call.server action).servers owned
       (owned_after owned call.server action (is_done read)) (changes_by call phase (is_done read))
 
   -- an exchange; what it needs if it is won
   exchanges : (found : ServerState) (mark : Mark) (answer : Reply) → call.server < length (abstract_of core)
       → (server_at (abstract_of core) call.server ≡ found
       → NamesOnly call.number found.mark × NamesOnly call.number mark
-      × (transition core.settings (has_room core.settings (softs (abstract_of core))) call.number call.op found.mark found.stamp ≡ becomes mark answer))
+      × (transition core.settings (has_room core.settings (abstract_of core) call.server) call.number call.op found.mark found.stamp ≡ becomes mark answer))
       → Effect core.settings call (abstract_of core)
       (cond (same_server (server_at (abstract_of core) call.server) found)
       (set (abstract_of core) call.server (record { mark = mark; stamp = found.stamp + 1 })) (abstract_of core))
@@ -92,7 +79,7 @@ module _ (core : CoreState) (thread : ℕ) (call : Call) (is : IsCore core) (ins
         | inl won ↦
             let same = same_server-true now found won in
             let facts = won_facts same in
-            let Q : ServerState → Type 0 = λ it. transition s (has_room s (softs servers)) call.number call.op it.mark it.stamp ≡ becomes mark answer in
+            let Q : ServerState → Type 0 = λ it. transition s (has_room s servers call.server) call.number call.op it.mark it.stamp ≡ becomes mark answer in
             let R : ServerState → Type 0 = λ it. NamesOnly call.number it.mark in
             subst P (sym won) (inr (record {
               mark = mark;
@@ -118,13 +105,13 @@ module _ (core : CoreState) (thread : ℕ) (call : Call) (is : IsCore core) (ins
       exchanges found mark answer knows.0 (λ same. (
         (free-found call.number found found found.mark refl refl (subst (λ it. IsFoundBy call.number it found found.mark) same knows.2.1)).0,
         owners-written call.number mark knows.2.0.own,
-        planned (has_room core.settings (softs (abstract_of core))),
+        planned (has_room core.settings (abstract_of core) call.server),
       ))
   effect-of (AtThreshold found) stands planned = quiet
   effect-of (Limit found) stands planned = quiet
   effect-of (Reserving found slots) stands planned =
       let P : Bool → Type 0 = λ won. Effect core.settings call (abstract_of core) (abstract_of core) owned owned (cond won [] []) in
-      elim (cases_Bool (same_slots core.shared.slots slots)) as (λ test. P (same_slots core.shared.slots slots)) [
+      elim (cases_Bool (same_slots (slots_at core.shared.slots (group_of core.settings call.server)) slots)) as (λ test. P (same_slots (slots_at core.shared.slots (group_of core.settings call.server)) slots)) [
         | inl won ↦ subst P (sym won) quiet
         | inr lost ↦ subst P (sym lost) quiet
       ]
@@ -133,12 +120,12 @@ module _ (core : CoreState) (thread : ℕ) (call : Call) (is : IsCore core) (ins
       let knows = knows_at core thread call is inside phase stands in
       let s = core.settings in
       let servers = abstract_of core in
-      let room : has_room s (softs servers) ≡ true =
-      lt-ltb (softs servers) s.limit (softs-lt core thread (InCall call phase) is inside stands refl refl) in
+      let room : has_room s servers call.server ≡ true =
+      lt-ltb (softs_beside s call.server servers) (limit_at s call.server) (softs-lt core thread call phase is inside stands refl refl) in
       exchanges found (Soft call.number) TookSoft knows.0 (λ same. (
         (free-fresh call.number found.mark knows.2.0).0,
         (λ other e. let both : call.number ≡ other = cc in sym both),
-        planned (has_room s (softs servers)) ∙ ap (λ it. cond it (becomes (Soft call.number) TookSoft) (stays Full)) room,
+        planned (has_room s servers call.server) ∙ ap (λ it. cond it (becomes (Soft call.number) TookSoft) (stays Full)) room,
       ))
   effect-of Firming stands planned = quiet
   effect-of Losing stands planned = quiet
@@ -148,6 +135,6 @@ module _ (core : CoreState) (thread : ℕ) (call : Call) (is : IsCore core) (ins
       exchanges found mark answer knows.0 (λ same. (
         (λ other owned_by. let both : Some call.number ≡ Some other = sym (ap owner_of knows.2.1) ∙ owned_by in let e : call.number ≡ other = cc in sym e),
         owners-written call.number mark knows.2.0.own,
-        planned (has_room core.settings (softs (abstract_of core))),
+        planned (has_room core.settings (abstract_of core) call.server),
       ))
   effect-of (Emptied answer) stands planned = quiet

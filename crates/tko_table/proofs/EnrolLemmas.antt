@@ -130,7 +130,7 @@ none-enrolled (pass ∷ passes) e = absurd (omega arith)
 
 -- a seat that has all passes knows how many are enrolled
 pub drawn-alone : (s : Settings) (words : List ℕ) (views : List (List Pass)) (id : ℕ) (view : List Pass) → IsKept s words views
-    → get_elem? views id ≡ some view → length view ≡ s.threads → (shared_in words).enrolled ≡ count_enrolled view
+    → get_elem? views id ≡ some view → length view ≡ s.threads → (shared_in s words).enrolled ≡ count_enrolled view
 drawn-alone s words views id view kept there all =
     let rest = others views id view there in
     let core = kept.core.core in
@@ -151,11 +151,11 @@ module _ (s : Settings) (words : List ℕ) (views : List (List Pass)) (id : ℕ)
   one : IsOneOf (joined views) pass (λ new. joined (set views id (before ++ new ∷ rest)))
   one = one-joined views id before rest pass there
 
-  pub few : (shared_in words).enrolled ≤ 64
+  pub few : (shared_in s words).enrolled ≤ 64
   few = omega (arith, enrolled-le (core_in s words (joined views)) kept.core.core, kept.core.core.settings.threads.1)
 
   -- there is a number left for this pass
-  pub fewer : (shared_in words).enrolled < 64
+  pub fewer : (shared_in s words).enrolled < 64
   fewer =
       let passes = joined views in
       let core = kept.core.core in
@@ -164,26 +164,26 @@ module _ (s : Settings) (words : List ℕ) (views : List (List Pass)) (id : ℕ)
       get_or-map (λ (at : Pass). at.state) passes one.place pass NotEnrolled one.inside ∙ ap (λ (at : Pass). at.state) (one.at pass) ∙ waits in
       omega (arith, enrolled-lt (states_of passes) one.place inside stands_in, core.enrolled, core.threads, core.settings.threads.1)
 
-  pub enrol-kept : (new_word : ℕ) → new_word ≡ (shared_in words).enrolled + 1
-      → IsKept s (set words enrolment_place new_word) (set views id (before ++ enrolled_pass pass (shared_in words).enrolled kept.history ∷ rest))
+  pub enrol-kept : (new_word : ℕ) → new_word ≡ (shared_in s words).enrolled + 1
+      → IsKept s (set words enrolment_place new_word) (set views id (before ++ enrolled_pass pass (shared_in s words).enrolled kept.history ∷ rest))
   enrol-kept new_word is_new =
-      let number = (shared_in words).enrolled in
+      let number = (shared_in s words).enrolled in
       let passes = joined views in
       let new : Pass = enrolled_pass pass number kept.history in
       let new_words = set words enrolment_place new_word in
       let has_one = servers-some s words views kept in
-      let servers = (shared_in words).servers in
+      let servers = (shared_in s words).servers in
       let core : CoreState = core_in s words passes in
       let inside : one.place < length (states_of passes) = omega (arith, one.inside, length-map passes (λ (at : Pass). at.state)) in
       let stands_in : thread_at core one.place ≡ NotEnrolled =
       get_or-map (λ (at : Pass). at.state) passes one.place pass NotEnrolled one.inside ∙ ap (λ (at : Pass). at.state) (one.at pass) ∙ waits in
       let threads : states_of (joined (set views id (before ++ new ∷ rest))) ≡ set (states_of passes) one.place (Idle number) =
       ap states_of (one.sets new) ∙ map-set (λ (at : Pass). at.state) passes one.place new in
-      let shared : shared_in new_words ≡ record { servers = servers; slots = (shared_in words).slots; enrolled = number + 1 } =
-      shared-enrolled words new_word has_one ∙ (λ i. record { servers = servers; slots = (shared_in words).slots; enrolled = is_new i }) in
+      let shared : shared_in s new_words ≡ record { servers = servers; slots = (shared_in s words).slots; enrolled = number + 1 } =
+      shared-enrolled s words new_word has_one ∙ (λ i. record { servers = servers; slots = (shared_in s words).slots; enrolled = is_new i }) in
       let core_is : core_in s new_words (joined (set views id (before ++ new ∷ rest))) ≡ after_enrol core one.place =
       λ i. record { settings = s; shared = shared i; threads = threads i } in
-      let same_servers : servers ≡ (shared_in new_words).servers = sym (ap (λ (it : Shared). it.servers) shared) in
+      let same_servers : servers ≡ (shared_in s new_words).servers = sym (ap (λ (it : Shared). it.servers) shared) in
       let owned : OwnsItsMarks servers pass =
       subst (OwnsItsMarks servers) (one.at pass) (kept.core.owned one.place pass one.inside) in
       let no_call : pass.mine ≡ [] =
@@ -196,7 +196,7 @@ module _ (s : Settings) (words : List ℕ) (views : List (List Pass)) (id : ℕ)
       ∙ sym (undrawn number (server_at servers at).mark (λ other mine. kept.core.core.owners at other mine)) in
       record {
         core = record {
-          valid = subst (All IsWord) (sym (health-enrolled words new_word has_one)) kept.core.valid;
+          valid = subst (All IsWord) (sym (health-enrolled s words new_word)) kept.core.valid;
           core = subst IsCore (sym core_is) (IsCore-after_enrol core one.place kept.core.core inside stands_in);
           owned = subst (λ it. All (OwnsItsMarks it) (joined (set views id (before ++ new ∷ rest)))) same_servers
               (subst (All (OwnsItsMarks servers)) (sym (one.sets new)) (All-set (OwnsItsMarks servers) passes one.place new owned_now kept.core.owned));

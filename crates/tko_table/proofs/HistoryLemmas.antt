@@ -5,7 +5,7 @@ use Rattle.tko_model.specs.declared.mark.Mark.{Mark}
 use Rattle.tko_model.specs.declared.settings.Settings.{Settings}
 use Rattle.tko_model.specs.declared.state.ServerState.{ServerState}
 use Rattle.tko_model.specs.declared.transition.Transition.{Transition}
-use Rattle.tko_model.specs.Tracker.{after, becomes, changed, has_room, opened, reply_of, server_at, softs, transition}
+use Rattle.tko_model.specs.Tracker.{after, becomes, changed, has_room, opened, reply_of, server_at, transition}
 use Rattle.tko_steps.specs.Legal.{tracker_in}
 use Rattle.tko_table.specs.declared.pass.Change.{Change}
 use Rattle.tko_table.specs.History.{Begins, Leads, Replays}
@@ -23,7 +23,7 @@ Leads-push s first last (one ∷ history) change leads same =
 -- the sequential tracker puts this mark there, with this reply, and so does the history
 pub Replays-push : (s : Settings) (history : List Change) (servers : List ServerState) (change : Change) (mark : Mark)
     → Replays s history servers
-    → transition s (has_room s (softs servers)) change.number change.op (server_at servers change.server).mark (server_at servers change.server).stamp
+    → transition s (has_room s servers change.server) change.number change.op (server_at servers change.server).mark (server_at servers change.server).stamp
     ≡ becomes mark change.reply
     → Replays s (history ++ change ∷ [])
     (set servers change.server (record { mark = mark; stamp = (server_at servers change.server).stamp + 1 }))

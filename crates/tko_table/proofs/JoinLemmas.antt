@@ -133,8 +133,8 @@ kept-raised s words views id view history kept there begins long =
     let threads = joined-states views id view history there in
     let new = map (with_seen history) view in
     let core_is : core_in s words (joined (set views id new)) ≡ core_in s words (joined views) =
-    λ i. record { settings = s; shared = shared_in words; threads = threads i } in
-    let Owns : Pass → Type 0 = OwnsItsMarks (shared_in words).servers in
+    λ i. record { settings = s; shared = shared_in s words; threads = threads i } in
+    let Owns : Pass → Type 0 = OwnsItsMarks (shared_in s words).servers in
     let Under : Pass → Type 0 = λ pass. pass.settings ≡ s in
     let Sees : Pass → Type 0 = λ pass. Begins pass.seen kept.history in
     let Plans : Pass → Type 0 = λ pass. IsPlanned s pass.state in

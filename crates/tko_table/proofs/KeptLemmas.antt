@@ -84,10 +84,10 @@ All-right_part P (change ∷ one) other all = All-right_part P one other (All-ta
 module _ (s : Settings) (words new_words : List ℕ) (views : List (List Pass)) (id : ℕ) (before rest : List Pass) (pass : Pass) (call : Call)
     (phase : Phase) (kept : IsKept s words views) (there : get_elem? views id ≡ some (before ++ pass ∷ rest))
     (stands : pass.state ≡ InCall call phase)
-    (left : shared_in new_words ≡ shared_after (shared_in words) call.server (action_of call.number phase))
-    (valid : All IsWord (health_in new_words)) where
+    (left : shared_in s new_words ≡ shared_after s (shared_in s words) call.server (action_of call.number phase))
+    (valid : All IsWord (health_in s new_words)) where
   abbrev it : Observed
-  it = seen_by (shared_in words) call.server (action_of call.number phase)
+  it = seen_by s (shared_in s words) call.server (action_of call.number phase)
 
   abbrev pub history_after : List Change
   history_after = kept.history ++ changes_by call phase (is_done it)
@@ -129,9 +129,9 @@ module _ (s : Settings) (words new_words : List ℕ) (views : List (List Pass)) 
   core_after =
       subst IsCore (sym core_is) (IsCore-after_act (core_in s words (joined views)) one.place call kept.core.core inside phase stands_in)
 
-  effect : Effect s call (shared_in words).servers (shared_in new_words).servers pass.owned pass_after.owned (changes_by call phase (is_done it))
+  effect : Effect s call (shared_in s words).servers (shared_in s new_words).servers pass.owned pass_after.owned (changes_by call phase (is_done it))
   effect =
-      subst (λ (shared : Shared). Effect s call (shared_in words).servers shared.servers pass.owned pass_after.owned (changes_by call phase (is_done it)))
+      subst (λ (shared : Shared). Effect s call (shared_in s words).servers shared.servers pass.owned pass_after.owned (changes_by call phase (is_done it)))
       (sym left) (effect-of (core_in s words (joined views)) one.place call kept.core.core inside pass.owned phase stands_in planned)
 
   named : number_of pass.state ≡ Some call.number
@@ -140,25 +140,25 @@ module _ (s : Settings) (words new_words : List ℕ) (views : List (List Pass)) 
   named_after : number_of pass_after.state ≡ Some call.number
   named_after = number-state_after call (next_of pass.settings call phase it)
 
-  owned_before : OwnsItsMarks (shared_in words).servers pass
-  owned_before = subst (OwnsItsMarks (shared_in words).servers) (one.at pass) (kept.core.owned one.place pass one.inside)
+  owned_before : OwnsItsMarks (shared_in s words).servers pass
+  owned_before = subst (OwnsItsMarks (shared_in s words).servers) (one.at pass) (kept.core.owned one.place pass one.inside)
 
   -- the owned servers of each pass, by what the step did
-  owned_by : Effect s call (shared_in words).servers (shared_in new_words).servers pass.owned pass_after.owned (changes_by call phase (is_done it))
-      → All (OwnsItsMarks (shared_in new_words).servers) (set (joined views) one.place pass_after)
+  owned_by : Effect s call (shared_in s words).servers (shared_in s new_words).servers pass.owned pass_after.owned (changes_by call phase (is_done it))
+      → All (OwnsItsMarks (shared_in s new_words).servers) (set (joined views) one.place pass_after)
   owned_by =
       ⊎_elim
-      (λ (quiet : IsQuiet (shared_in words).servers (shared_in new_words).servers pass.owned pass_after.owned (changes_by call phase (is_done it))).
+      (λ (quiet : IsQuiet (shared_in s words).servers (shared_in s new_words).servers pass.owned pass_after.owned (changes_by call phase (is_done it))).
       subst (λ servers. All (OwnsItsMarks servers) (set (joined views) one.place pass_after)) (sym quiet.same)
-      (All-set (OwnsItsMarks (shared_in words).servers) (joined views) one.place pass_after
+      (All-set (OwnsItsMarks (shared_in s words).servers) (joined views) one.place pass_after
       (λ server. ap (λ owned. owns owned server) quiet.kept ∙ owned_before server
-      ∙ ap (λ number. is_marked_by number (server_at (shared_in words).servers server).mark) (named ∙ sym named_after))
+      ∙ ap (λ number. is_marked_by number (server_at (shared_in s words).servers server).mark) (named ∙ sym named_after))
       kept.core.owned))
-      (λ (write : IsWritten s call (shared_in words).servers (shared_in new_words).servers pass.owned pass_after.owned (changes_by call phase (is_done it))).
-      let servers = (shared_in words).servers in
+      (λ (write : IsWritten s call (shared_in s words).servers (shared_in s new_words).servers pass.owned pass_after.owned (changes_by call phase (is_done it))).
+      let servers = (shared_in s words).servers in
       let now : ServerState = record { mark = write.mark; stamp = (server_at servers call.server).stamp + 1 } in
       subst (λ new. All (OwnsItsMarks new) (set (joined views) one.place pass_after)) (sym write.wrote)
-      (each-set (OwnsItsMarks servers) (OwnsItsMarks (set servers call.server now)) (joined views) one.place call.number (shared_in words).enrolled
+      (each-set (OwnsItsMarks servers) (OwnsItsMarks (set servers call.server now)) (joined views) one.place call.number (shared_in s words).enrolled
       pass pass_after one.inside one.at named kept.core.core.numbers
       (λ server. ap (λ owned. owns owned server) write.gained
       ∙ owned-own servers pass.owned call.server call.number now write.inside write.only
@@ -167,26 +167,26 @@ module _ (s : Settings) (words new_words : List ℕ) (views : List (List Pass)) 
       (λ other apart owns_its. owned-other servers other.owned call.server call.number (number_of other.state) now write.inside write.was write.only apart owns_its)
       kept.core.owned))
 
-  replays_by : Effect s call (shared_in words).servers (shared_in new_words).servers pass.owned pass_after.owned (changes_by call phase (is_done it))
-      → Replays s history_after (shared_in new_words).servers
+  replays_by : Effect s call (shared_in s words).servers (shared_in s new_words).servers pass.owned pass_after.owned (changes_by call phase (is_done it))
+      → Replays s history_after (shared_in s new_words).servers
   replays_by =
       ⊎_elim
-      (λ (quiet : IsQuiet (shared_in words).servers (shared_in new_words).servers pass.owned pass_after.owned (changes_by call phase (is_done it))).
+      (λ (quiet : IsQuiet (shared_in s words).servers (shared_in s new_words).servers pass.owned pass_after.owned (changes_by call phase (is_done it))).
       let same : kept.history ≡ history_after = sym (append-nil kept.history) ∙ ap (λ more. kept.history ++ more) (sym quiet.none) in
       subst (λ servers. Replays s history_after servers) (sym quiet.same)
-      (subst (λ history. Replays s history (shared_in words).servers) same kept.told.replays))
-      (λ (write : IsWritten s call (shared_in words).servers (shared_in new_words).servers pass.owned pass_after.owned (changes_by call phase (is_done it))).
-      let servers = (shared_in words).servers in
+      (subst (λ history. Replays s history (shared_in s words).servers) same kept.told.replays))
+      (λ (write : IsWritten s call (shared_in s words).servers (shared_in s new_words).servers pass.owned pass_after.owned (changes_by call phase (is_done it))).
+      let servers = (shared_in s words).servers in
       let same = ap (λ more. kept.history ++ more) (sym write.change) in
       subst (λ new. Replays s history_after new) (sym write.wrote)
       (subst (λ history. Replays s history (set servers call.server (record { mark = write.mark; stamp = (server_at servers call.server).stamp + 1 }))) same
       (Replays-push s kept.history servers (change_by call write.answer) write.mark kept.told.replays write.decides)))
 
   planned_after : IsPlanned s pass_after.state
-  planned_after = subst (IsPlanned s) (sym state_is) (plans-next s call (shared_in words) phase planned)
+  planned_after = subst (IsPlanned s) (sym state_is) (plans-next s call (shared_in s words) phase planned)
 
   -- the changes of its thread, and of the others
-  knows : IsPhase s call.number (server_at (shared_in words).servers call.server) phase
+  knows : IsPhase s call (server_at (shared_in s words).servers call.server) phase
   knows = (knows_at (core_in s words (joined views)) one.place call kept.core.core inside phase stands_in).2
 
   mine_before : StandsIn (Some call.number) kept.history pass
@@ -202,7 +202,7 @@ module _ (s : Settings) (words new_words : List ℕ) (views : List (List Pass)) 
 
   told_after : changes_in call.number pass_after.mine ++ pending pass_after.state ≡ made_by call.number history_after
   told_after =
-      let adds = told-next s call pass.mine place_now (shared_in words) phase planned (sure-from s call (shared_in words) phase knows) in
+      let adds = told-next s call pass.mine place_now (shared_in s words) phase planned (sure-from s call (shared_in s words) phase knows) in
       let decided : next_of pass.settings call phase it ≡ next_of s call phase it =
       ap (λ (with_settings : Settings). next_of with_settings call phase it) same_settings in
       ap (λ (decision : Decision). changes_in call.number (mine_after pass.mine call decision place_now) ++ pending (state_after call decision)) decided
@@ -217,25 +217,25 @@ module _ (s : Settings) (words new_words : List ℕ) (views : List (List Pass)) 
 
   mine_each : All (HasItsChanges history_after) (set (joined views) one.place pass_after)
   mine_each =
-      each-set (HasItsChanges kept.history) (HasItsChanges history_after) (joined views) one.place call.number (shared_in words).enrolled
+      each-set (HasItsChanges kept.history) (HasItsChanges history_after) (joined views) one.place call.number (shared_in s words).enrolled
       pass pass_after one.inside one.at named kept.core.core.numbers mine_now
       (λ other apart told.
       told-other (number_of other.state) kept.history changes other
       (λ number drew. other-changes number call phase (is_done it) (λ same. apart (drew ∙ ap Some (sym same)))) told)
       kept.told.mine
 
-  call_drawn : call.number < (shared_in words).enrolled
+  call_drawn : call.number < (shared_in s words).enrolled
   call_drawn =
-      number-lt (states_of (joined views)) (shared_in words).enrolled one.place call.number kept.core.core.numbers inside (ap number_of stands_in)
+      number-lt (states_of (joined views)) (shared_in s words).enrolled one.place call.number kept.core.core.numbers inside (ap number_of stands_in)
 
-  enrolled_same : (shared_in words).enrolled ≡ (shared_in new_words).enrolled
+  enrolled_same : (shared_in s words).enrolled ≡ (shared_in s new_words).enrolled
   enrolled_same = sym (ap (λ (shared : Shared). shared.enrolled) left)
 
-  drawn_after : All (λ (change : Change). change.number < (shared_in new_words).enrolled) history_after
+  drawn_after : All (λ (change : Change). change.number < (shared_in s new_words).enrolled) history_after
   drawn_after =
       subst (λ enrolled. All (λ (change : Change). change.number < enrolled) history_after) enrolled_same
-      (All-append (λ (change : Change). change.number < (shared_in words).enrolled) kept.history changes kept.told.drawn
-      (changes-drawn (shared_in words).enrolled call phase (is_done it) call_drawn))
+      (All-append (λ (change : Change). change.number < (shared_in s words).enrolled) kept.history changes kept.told.drawn
+      (changes-drawn (shared_in s words).enrolled call phase (is_done it) call_drawn))
 
   pub act-kept : IsKept s new_words (set views id (before ++ pass_after ∷ rest))
   act-kept =
@@ -244,7 +244,7 @@ module _ (s : Settings) (words new_words : List ℕ) (views : List (List Pass)) 
         core = record {
           valid = valid;
           core = core_after;
-          owned = subst (All (OwnsItsMarks (shared_in new_words).servers)) (sym to) (owned_by effect);
+          owned = subst (All (OwnsItsMarks (shared_in s new_words).servers)) (sym to) (owned_by effect);
           settings = subst (All (λ (at : Pass). at.settings ≡ s)) (sym to)
               (All-set (λ (at : Pass). at.settings ≡ s) (joined views) one.place pass_after same_settings kept.core.settings);
         };
@@ -265,10 +265,10 @@ module _ (s : Settings) (words new_words : List ℕ) (views : List (List Pass)) 
   begins : Begins pass.seen kept.history
   begins = subst (λ (at : Pass). Begins at.seen kept.history) (one.at pass) (kept.told.seen one.place pass one.inside)
 
-  owns_after : OwnsItsMarks (shared_in new_words).servers pass_after
+  owns_after : OwnsItsMarks (shared_in s new_words).servers pass_after
   owns_after =
       let inside_after : one.place < length (set (joined views) one.place pass_after) = rw length-set one.inside in
-      subst (OwnsItsMarks (shared_in new_words).servers) (get_or-set_same (joined views) one.place pass_after pass one.inside)
+      subst (OwnsItsMarks (shared_in s new_words).servers) (get_or-set_same (joined views) one.place pass_after pass one.inside)
       (owned_by effect one.place pass inside_after)
 
   -- the changes since it looked last are others'
@@ -283,22 +283,22 @@ module _ (s : Settings) (words new_words : List ℕ) (views : List (List Pass)) 
   drawn_between =
       let le = enrolled-le (core_in s words (joined views)) kept.core.core in
       let threads = kept.core.core.threads in
-      let all = subst (All (λ (change : Change). change.number < (shared_in words).enrolled)) begins.is kept.told.drawn in
-      All-weaker (λ (change : Change). change.number < (shared_in words).enrolled) (λ (change : Change). change.number < pass.settings.threads)
+      let all = subst (All (λ (change : Change). change.number < (shared_in s words).enrolled)) begins.is kept.told.drawn in
+      All-weaker (λ (change : Change). change.number < (shared_in s words).enrolled) (λ (change : Change). change.number < pass.settings.threads)
       (λ change less. omega (arith, less, le, ap (λ (it : Settings). it.threads) same_settings)) begins.rest
-      (All-right_part (λ (change : Change). change.number < (shared_in words).enrolled) pass.seen begins.rest all)
+      (All-right_part (λ (change : Change). change.number < (shared_in s words).enrolled) pass.seen begins.rest all)
 
   -- the core's step leaves it the same servers to own
   gained : (server : ℕ) → owns pass_after.owned server
-      ≡ owned_after_core call phase (word_at (shared_in words) (place_of call.server (action_of call.number phase))) (owns pass.owned) server
+      ≡ owned_after_core s call phase (word_at (shared_in s words) (place_of s call.server (action_of call.number phase))) (owns pass.owned) server
   gained server =
       let knows = knows_at (core_in s words (joined views)) one.place call kept.core.core inside phase stands_in in
-      owns_after server ∙ ap (λ number. is_marked_by number (server_at (shared_in new_words).servers server).mark) named_after
-      ∙ names-is call.number (server_at (shared_in new_words).servers server).mark
+      owns_after server ∙ ap (λ number. is_marked_by number (server_at (shared_in s new_words).servers server).mark) named_after
+      ∙ names-is call.number (server_at (shared_in s new_words).servers server).mark
       ∙ ap (λ (shared : Shared). names (server_at shared.servers server).mark (Some call.number)) left
-      ∙ sym (own-step s (shared_in words) call phase knows (owns pass.owned)
-      (λ at. owned_before at ∙ ap (λ number. is_marked_by number (server_at (shared_in words).servers at).mark) named
-      ∙ names-is call.number (server_at (shared_in words).servers at).mark) server)
+      ∙ sym (own-step s (shared_in s words) call phase knows (owns pass.owned)
+      (λ at. owned_before at ∙ ap (λ number. is_marked_by number (server_at (shared_in s words).servers at).mark) named
+      ∙ names-is call.number (server_at (shared_in s words).servers at).mark) server)
 
   pub act-takes : Takes pass call phase it pass_after
   act-takes =
@@ -306,16 +306,20 @@ module _ (s : Settings) (words new_words : List ℕ) (views : List (List Pass)) 
         core = core_in s words (joined views);
         is_found = record { is = kept.core.core; settings = sym same_settings; thread = one.place; inside = inside; stands = stands_in };
         between = begins.rest;
-        found = subst (λ with_settings. Replays with_settings (pass.seen ++ begins.rest) (shared_in words).servers) (sym same_settings)
-            (subst (λ history. Replays s history (shared_in words).servers) begins.is kept.told.replays);
+        found = subst (λ with_settings. Replays with_settings (pass.seen ++ begins.rest) (shared_in s words).servers) (sym same_settings)
+            (subst (λ history. Replays s history (shared_in s words).servers) begins.is kept.told.replays);
         others = others_between;
         drawn = drawn_between;
-        reads = refl;
-        left = subst (λ with_settings. Replays with_settings history_after (shared_after (shared_in words) call.server (action_of call.number phase)).servers)
+        reads = ap (λ with_settings. seen_by with_settings (shared_in s words) call.server (action_of call.number phase)) (sym same_settings);
+        left = subst (λ with_settings. Replays with_settings history_after (shared_after with_settings (shared_in s words) call.server (action_of call.number phase)).servers)
             (sym same_settings)
             (subst (λ (shared : Shared). Replays s history_after shared.servers) left (replays_by effect));
         own = λ server.
-            owned_before server ∙ ap (λ number. is_marked_by number (server_at (shared_in words).servers server).mark) named;
-        gained = gained;
+            owned_before server ∙ ap (λ number. is_marked_by number (server_at (shared_in s words).servers server).mark) named;
+        gained = subst (λ with_settings. (server : ℕ) →
+            owns pass_after.owned server
+            ≡ owned_after_core with_settings call phase (word_at (shared_in s words) (place_of with_settings call.server (action_of call.number phase)))
+            (owns pass.owned) server)
+            (sym same_settings) gained;
         knows = ap (after_step pass call phase it) begins.is;
       }

@@ -9,7 +9,7 @@ use Rattle.tko_steps.specs.declared.phase.Phase.{Phase}
 use Rattle.tko_steps.specs.declared.phase.Phase.TheVariants.{Start, Read, AtThreshold, Limit, Reserving, Holding, Firming, Losing, Loosening, Loosened, Emptied}
 use Rattle.tko_steps.specs.declared.table.Decision.{Decision}
 use Rattle.tko_steps.specs.declared.table.Decision.TheVariants.{Goes, Answers}
-use Rattle.tko_steps.specs.Core.{Shared, seen_by}
+use Rattle.tko_steps.specs.Core.{Shared, seen_by, slots_at}
 use Rattle.tko_steps.specs.Steps.{state_after}
 use Rattle.tko_steps.specs.Table.{action_of, from_start, goes, lost_try, next_of, same_server}
 use Rattle.tko_model.specs.Tracker.{server_at}
@@ -17,6 +17,7 @@ use Rattle.std.proofs.Common.{eqb, ◌+◌}
 use Rattle.tko_steps.proofs.StartLemmas.{from_start-is}
 use Rattle.tko_table.specs.Rule.{IsPlanned, IsPlannedAt}
 use Rattle.tko_table.proofs.ChangeLemmas.{puts-change}
+use Rattle.tko_model.specs.Groups.{group_of, limit_at}
 
 -- what a decision plans
 abbrev pub Plans : Settings → Call → Decision → Type 0
@@ -41,17 +42,17 @@ module _ (s : Settings) (call : Call) (shared : Shared) where
 
   -- what follows the step of this phase on these words
   abbrev pub Follows : Phase → Type 0
-  Follows phase = Plans s call (next_of s call phase (seen_by shared call.server (action_of call.number phase)))
+  Follows phase = Plans s call (next_of s call phase (seen_by s shared call.server (action_of call.number phase)))
 
   pub plans-next : (phase : Phase) → IsPlannedAt s call phase → Follows phase
   plans-next Start planned = plans-start s call (server_at shared.servers call.server)
   plans-next (Read found mark answer) planned =
       either s call (same_server (server_at shared.servers call.server) found) (Answers answer) (lost_try s call) tt (plans-lost_try s call)
   plans-next (AtThreshold found) planned =
-      either s call (eqb shared.slots.firm s.limit) (goes call (Limit found))
-      (cond (eqb (shared.slots.firm + shared.slots.held) s.limit) (lost_try s call) (goes call (Reserving found shared.slots)))
+      either s call (eqb (slots_at shared.slots (group_of s call.server)).firm (limit_at s call.server)) (goes call (Limit found))
+      (cond (eqb ((slots_at shared.slots (group_of s call.server)).firm + (slots_at shared.slots (group_of s call.server)).held) (limit_at s call.server)) (lost_try s call) (goes call (Reserving found (slots_at shared.slots (group_of s call.server)))))
       planned
-      (either s call (eqb (shared.slots.firm + shared.slots.held) s.limit) (lost_try s call) (goes call (Reserving found shared.slots))
+      (either s call (eqb ((slots_at shared.slots (group_of s call.server)).firm + (slots_at shared.slots (group_of s call.server)).held) (limit_at s call.server)) (lost_try s call) (goes call (Reserving found (slots_at shared.slots (group_of s call.server))))
       (plans-lost_try s call) planned)
   plans-next (Limit found) planned =
       either s call (same_server found (server_at shared.servers call.server)) (Answers Full) (lost_try s call) tt (plans-lost_try s call)

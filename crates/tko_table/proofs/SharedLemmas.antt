@@ -1,110 +1,121 @@
 -- What the words hold once one of them has changed.
-use Rattle.std.proofs.Common.{◌≡◌, ℕ, zero, suc, ◌+◌, ◌-◌, ◌%◌, ◌^◌, ◌<◌, true, eqb, List, [], ◌∷◌, map, drop, length, get_or, set, refl, sym, ap, ◌∙◌, subst, inl, inr, arith}
+use Rattle.std.proofs.Common.{◌≡◌, ℕ, zero, suc, ◌+◌, ◌-◌, ◌%◌, ◌^◌, ◌<◌, ◌≤◌, true, eqb, List, [], ◌∷◌, map, drop, take, length, get_or, set, get_or-set_other, get_or-set_same, refl, sym, ap, ◌∙◌, subst, inl, inr, arith}
 use Rattle.std.proofs.lemmas.Bool.{and_from, cases_Bool, eq-eqb, ne_eqb}
-use Rattle.std.proofs.lemmas.List.{get_or-map, length-map, map-set}
+use Rattle.std.proofs.lemmas.List.{drop-set-add, drop-set-lt, get_or-drop, get_or-map, get_or-take, length-drop, length-map, map-set, take-set-le}
+use Rattle.tko_model.specs.declared.settings.Settings.{Settings}
 use Rattle.tko_model.specs.declared.state.ServerState.{ServerState}
 use Rattle.tko_model.specs.Tracker.{server_at}
 use Rattle.tko_word.specs.Words.{IsWord, firm_in, health_word, held_in, server_in, soft_word}
 use Rattle.tko_word.proofs.WordLemmas.{server_in_is}
 use Rattle.tko_steps.specs.declared.phase.Slots.{Slots}
+use Rattle.tko_steps.specs.Core.{slots_at, slots_in}
 use Rattle.tko_steps.specs.Table.{same_server, same_slots}
 use Rattle.tko_steps.proofs.TableLemmas.{eq-same_server, same_server-true, same_slots-true}
-use Rattle.tko_table.specs.Rule.{enrolment_place, health_in, health_place, shared_in, slots_in, soft_place}
+use Rattle.tko_table.specs.Rule.{enrolment_place, health_in, health_place, shared_in, soft_in, soft_place}
 
 -- ---- the words by their places
 
-set_from_two : (words : List ℕ) (at new : ℕ) → drop 2 (set words (suc (suc at)) new) ≡ set (drop 2 words) at new
-set_from_two [] at new = refl
-set_from_two (one ∷ []) at new = refl
-set_from_two (one ∷ two ∷ words) at new = refl
+take_set : {X : Type 0} (n : ℕ) (xs : List X) (i : ℕ) (x : X) → take n (set xs i x) ≡ set (take n xs) i x
+take_set zero xs i x = refl
+take_set (suc n) [] i x = refl
+take_set (suc n) (one ∷ xs) zero x = refl
+take_set (suc n) (one ∷ xs) (suc i) x = ap (λ more. one ∷ more) (take_set n xs i x)
 
-get_from_two : (words : List ℕ) (at : ℕ) → get_or words (suc (suc at)) 0 ≡ get_or (drop 2 words) at 0
-get_from_two [] at = refl
-get_from_two (one ∷ []) at = refl
-get_from_two (one ∷ two ∷ words) at = refl
+take-length : {X : Type 0} (n : ℕ) (xs : List X) → length (take n xs) ≤ n
+take-length zero xs = omega arith
+take-length (suc n) [] = omega arith
+take-length (suc n) (x ∷ xs) = let less = take-length n xs in omega (arith, less)
 
-zero_kept : (words : List ℕ) (at new : ℕ) → get_or (set words (suc at) new) 0 0 ≡ get_or words 0 0
-zero_kept [] at new = refl
-zero_kept (one ∷ words) at new = refl
+take-length_le : {X : Type 0} (n : ℕ) (xs : List X) → length (take n xs) ≤ length xs
+take-length_le zero xs = omega arith
+take-length_le (suc n) [] = omega arith
+take-length_le (suc n) (x ∷ xs) = let less = take-length_le n xs in omega (arith, less)
 
-one_kept : (words : List ℕ) (at new : ℕ) → get_or (set words (suc (suc at)) new) 1 0 ≡ get_or words 1 0
-one_kept [] at new = refl
-one_kept (one ∷ []) at new = refl
-one_kept (one ∷ two ∷ words) at new = refl
+module _ (s : Settings) (words : List ℕ) where
+  pub health-set : (server new : ℕ) → health_in s (set words (health_place server) new) ≡ set (health_in s words) server new
+  health-set server new =
+      let at : 1 + server ≡ health_place server = omega arith in
+      let P : ℕ → Type 0 = λ it. health_in s (set words it new) ≡ set (health_in s words) server new in
+      subst P at (ap (take s.servers) (drop-set-add 1 words server new) ∙ take_set s.servers (drop 1 words) server new)
 
-two_more : (server : ℕ) → suc (suc server) ≡ health_place server
-two_more server = omega arith
+  -- a server whose word is there is one of the servers
+  pub server-lt : (server : ℕ) → server < length (health_in s words) → server < s.servers
+  server-lt server there = omega (arith, there, take-length s.servers (drop 1 words))
 
-pub health-set : (words : List ℕ) (server new : ℕ) → health_in (set words (health_place server) new) ≡ set (health_in words) server new
-health-set words server new =
-    subst (λ at. health_in (set words at new) ≡ set (health_in words) server new) (two_more server) (set_from_two words server new)
+  pub health-get : (server : ℕ) → server < length (health_in s words) → get_or words (health_place server) 0 ≡ get_or (health_in s words) server 0
+  health-get server there =
+      let at : 1 + server ≡ health_place server = omega arith in
+      sym (get_or-take s.servers (drop 1 words) server 0 (server-lt server there) ∙ get_or-drop 1 words server 0
+      ∙ ap (λ it. get_or words it 0) at)
 
-pub health-get : (words : List ℕ) (server : ℕ) → get_or words (health_place server) 0 ≡ get_or (health_in words) server 0
-health-get words server =
-    subst (λ at. get_or words at 0 ≡ get_or (health_in words) server 0) (two_more server) (get_from_two words server)
+  -- ---- what they hold
 
-soft-kept : (words : List ℕ) (server new : ℕ) → get_or (set words (health_place server) new) 0 0 ≡ get_or words 0 0
-soft-kept words server new =
-    subst (λ at. get_or (set words at new) 0 0 ≡ get_or words 0 0) (two_more server) (zero_kept words (suc server) new)
+  server-lt_servers : (server : ℕ) → server < length (shared_in s words).servers → server < length (health_in s words)
+  server-lt_servers server inside = omega (arith, inside, length-map (health_in s words) server_in)
 
-enrolled-kept : (words : List ℕ) (server new : ℕ) → get_or (set words (health_place server) new) 1 0 ≡ get_or words 1 0
-enrolled-kept words server new =
-    subst (λ at. get_or (set words at new) 1 0 ≡ get_or words 1 0) (two_more server) (one_kept words server new)
+  -- one server's word
+  pub shared-health : (server new : ℕ) → server < length (shared_in s words).servers
+      → shared_in s (set words (health_place server) new)
+      ≡ record { servers = set (shared_in s words).servers server (server_in new); slots = (shared_in s words).slots; enrolled = (shared_in s words).enrolled }
+  shared-health server new inside =
+      let less = server-lt server (server-lt_servers server inside) in
+      let servers : map server_in (health_in s (set words (health_place server) new)) ≡ set (map server_in (health_in s words)) server (server_in new) =
+      ap (map server_in) (health-set server new) ∙ map-set server_in (health_in s words) server new in
+      let soft : soft_in s (set words (health_place server) new) ≡ soft_in s words =
+      drop-set-lt (s.servers + 1) words (health_place server) new (omega (arith, less)) in
+      let enrolled : get_or (set words (health_place server) new) 0 0 ≡ get_or words 0 0 =
+      get_or-set_other words (health_place server) 0 new 0 (λ e. omega (arith, e)) in
+      λ i. record { servers = servers i; slots = map slots_in (soft i); enrolled = enrolled i }
 
--- ---- what they hold
+  pub server-there : (server : ℕ) → server < length (shared_in s words).servers
+      → server_at (shared_in s words).servers server ≡ server_in (get_or words (health_place server) 0)
+  server-there server inside =
+      let there = server-lt_servers server inside in
+      get_or-map server_in (health_in s words) server 0 _ there ∙ ap server_in (sym (health-get server there))
 
--- one server's word
-pub shared-health : (words : List ℕ) (server new : ℕ)
-    → shared_in (set words (health_place server) new)
-    ≡ record { servers = set (shared_in words).servers server (server_in new); slots = (shared_in words).slots; enrolled = (shared_in words).enrolled }
-shared-health words server new =
-    let servers : map server_in (health_in (set words (health_place server) new)) ≡ set (map server_in (health_in words)) server (server_in new) =
-    ap (map server_in) (health-set words server new) ∙ map-set server_in (health_in words) server new in
-    λ i. record { servers = servers i; slots = slots_in (soft-kept words server new i); enrolled = enrolled-kept words server new i }
+  -- the soft word of a group
+  pub slots-there : (group : ℕ) → group < length (shared_in s words).slots
+      → slots_at (shared_in s words).slots group ≡ slots_in (get_or words (soft_place s group) 0)
+  slots-there group inside =
+      let there : group < length (soft_in s words) = omega (arith, inside, length-map (soft_in s words) slots_in) in
+      get_or-map slots_in (soft_in s words) group 0 _ there ∙ ap slots_in (get_or-drop (s.servers + 1) words group 0)
 
-pub server-there : (words : List ℕ) (server : ℕ) → server < length (shared_in words).servers
-    → server_at (shared_in words).servers server ≡ server_in (get_or words (health_place server) 0)
-server-there words server inside =
-    let there : server < length (health_in words) = omega (arith, inside, length-map (health_in words) server_in) in
-    get_or-map server_in (health_in words) server 0 _ there ∙ ap server_in (sym (health-get words server))
+  pub health-soft : (group new : ℕ) → health_in s (set words (soft_place s group) new) ≡ health_in s words
+  health-soft group new =
+      let at : 1 + (s.servers + group) ≡ soft_place s group = omega arith in
+      let P : ℕ → Type 0 = λ it. health_in s (set words it new) ≡ health_in s words in
+      subst P at
+      (ap (take s.servers) (drop-set-add 1 words (s.servers + group) new)
+      ∙ take-set-le s.servers (drop 1 words) (s.servers + group) new (omega arith))
 
-soft-first : (words : List ℕ) (new : ℕ) → 0 < length (drop 2 words)
-    → (get_or (set words 0 new) 0 0 ≡ new) × (get_or (set words 0 new) 1 0 ≡ get_or words 1 0) × (drop 2 (set words 0 new) ≡ drop 2 words)
-soft-first [] new some_server = absurd (omega arith)
-soft-first (one ∷ []) new some_server = absurd (omega arith)
-soft-first (one ∷ two ∷ words) new some_server = (refl, refl, refl)
+  pub shared-soft : (group new : ℕ)
+      → shared_in s (set words (soft_place s group) new)
+      ≡ record { servers = (shared_in s words).servers; slots = set (shared_in s words).slots group (slots_in new); enrolled = (shared_in s words).enrolled }
+  shared-soft group new =
+      let servers = health-soft group new in
+      let slots : map slots_in (soft_in s (set words (soft_place s group) new)) ≡ set (map slots_in (soft_in s words)) group (slots_in new) =
+      ap (map slots_in) (drop-set-add (s.servers + 1) words group new) ∙ map-set slots_in (soft_in s words) group new in
+      let enrolled : get_or (set words (soft_place s group) new) 0 0 ≡ get_or words 0 0 =
+      get_or-set_other words (soft_place s group) 0 new 0 (λ e. omega (arith, e)) in
+      λ i. record { servers = map server_in (servers i); slots = slots i; enrolled = enrolled i }
 
-enrolled-second : (words : List ℕ) (new : ℕ) → 0 < length (drop 2 words)
-    → (get_or (set words 1 new) 0 0 ≡ get_or words 0 0) × (get_or (set words 1 new) 1 0 ≡ new) × (drop 2 (set words 1 new) ≡ drop 2 words)
-enrolled-second [] new some_server = absurd (omega arith)
-enrolled-second (one ∷ []) new some_server = absurd (omega arith)
-enrolled-second (one ∷ two ∷ words) new some_server = (refl, refl, refl)
+  -- the enrolment word
+  some-word : 0 < length (shared_in s words).servers → 0 < length words
+  some-word inside =
+      let fewer = take-length_le s.servers (drop 1 words) in
+      omega (arith, server-lt_servers 0 inside, fewer, length-drop 1 words)
 
-some-server : (words : List ℕ) → 0 < length (shared_in words).servers → 0 < length (health_in words)
-some-server words inside = omega (arith, inside, length-map (health_in words) server_in)
+  pub health-enrolled : (new : ℕ) → health_in s (set words enrolment_place new) ≡ health_in s words
+  health-enrolled new = ap (take s.servers) (drop-set-lt 1 words 0 new (omega arith))
 
--- the soft word
-pub shared-soft : (words : List ℕ) (new : ℕ) → 0 < length (shared_in words).servers
-    → shared_in (set words soft_place new)
-    ≡ record { servers = (shared_in words).servers; slots = slots_in new; enrolled = (shared_in words).enrolled }
-shared-soft words new inside =
-    let parts = soft-first words new (some-server words inside) in
-    λ i. record { servers = map server_in (parts.2 i); slots = slots_in (parts.0 i); enrolled = parts.1 i }
-
-pub health-soft : (words : List ℕ) (new : ℕ) → 0 < length (shared_in words).servers → health_in (set words soft_place new) ≡ health_in words
-health-soft words new inside = (soft-first words new (some-server words inside)).2
-
--- the enrolment word
-pub shared-enrolled : (words : List ℕ) (new : ℕ) → 0 < length (shared_in words).servers
-    → shared_in (set words enrolment_place new)
-    ≡ record { servers = (shared_in words).servers; slots = (shared_in words).slots; enrolled = new }
-shared-enrolled words new inside =
-    let parts = enrolled-second words new (some-server words inside) in
-    λ i. record { servers = map server_in (parts.2 i); slots = slots_in (parts.0 i); enrolled = parts.1 i }
-
-pub health-enrolled : (words : List ℕ) (new : ℕ) → 0 < length (shared_in words).servers
-    → health_in (set words enrolment_place new) ≡ health_in words
-health-enrolled words new inside = (enrolled-second words new (some-server words inside)).2
+  pub shared-enrolled : (new : ℕ) → 0 < length (shared_in s words).servers
+      → shared_in s (set words enrolment_place new)
+      ≡ record { servers = (shared_in s words).servers; slots = (shared_in s words).slots; enrolled = new }
+  shared-enrolled new inside =
+      let servers = health-enrolled new in
+      let soft : soft_in s (set words 0 new) ≡ soft_in s words = drop-set-lt (s.servers + 1) words 0 new (omega arith) in
+      let enrolled : get_or (set words 0 new) 0 0 ≡ new = get_or-set_same words 0 new 0 (some-word inside) in
+      λ i. record { servers = map server_in (servers i); slots = map slots_in (soft i); enrolled = enrolled i }
 
 -- a load leaves its word
 pub set-same : (words : List ℕ) (at : ℕ) → set words at (get_or words at 0) ≡ words

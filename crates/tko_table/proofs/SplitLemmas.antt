@@ -21,9 +21,9 @@ kept-permuted s words views others same kept =
     record {
       core = record {
         valid = kept.core.valid;
-        core = core-permuted s (shared_in words) (states_of (joined views)) (states_of (joined others))
+        core = core-permuted s (shared_in s words) (states_of (joined views)) (states_of (joined others))
             (IsPermutation-map (λ (pass : Pass). pass.state) (joined views) (joined others) same) kept.core.core;
-        owned = All-permutation (OwnsItsMarks (shared_in words).servers) (joined views) (joined others) same kept.core.owned;
+        owned = All-permutation (OwnsItsMarks (shared_in s words).servers) (joined views) (joined others) same kept.core.owned;
         settings = All-permutation (λ (pass : Pass). pass.settings ≡ s) (joined views) (joined others) same kept.core.settings;
       };
       history = kept.history;

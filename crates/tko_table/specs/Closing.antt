@@ -1,13 +1,14 @@
 -- The words once no thread uses them any more.
-use Rattle.std.specs.Prelude.{◌≡◌, ℕ, ◌<◌, false, List, All}
+use Rattle.std.specs.Prelude.{◌≡◌, ℕ, ◌<◌, false, List, All, length}
 use Rattle.tko_model.specs.declared.settings.Settings.{Settings}
 use Rattle.tko_steps.specs.declared.phase.ThreadState.TheVariants.{Idle}
-use Rattle.tko_steps.specs.Core.{Shared}
+use Rattle.tko_steps.specs.Core.{Shared, no_slots, slots_at}
 use Rattle.tko_steps.specs.Steps.{is_marked_state}
 use Rattle.tko_table.specs.declared.pass.Change.{Change}
 use Rattle.tko_table.specs.declared.pass.Pass.{Pass}
 use Rattle.tko_table.specs.History.{Begins, Replays}
 use Rattle.tko_table.specs.Passes.{HasItsChanges, owns}
+use Rattle.tko_model.specs.Groups.{groups}
 
 -- the thread of the pass makes no call, and owns no server
 pub record IsDone (pass : Pass) : Type 0 where
@@ -22,7 +23,8 @@ pub record Left : Type 0 where
 
 -- what the threads of these passes left: the servers are the replay of one history, which begins
 -- with what each pass has seen; the changes in it by each number are, in order, those of its pass's
--- calls, and no other number stands in it; no server is marked, and no slot is taken
+-- calls, and no other number stands in it; no server is marked, and no slot of any
+-- group is taken
 pub record IsLeft (s : Settings) (passes : List Pass) (shared : Shared) : Type 0 where
   pub history : List Change
   pub replays : Replays s history shared.servers
@@ -30,5 +32,5 @@ pub record IsLeft (s : Settings) (passes : List Pass) (shared : Shared) : Type 0
   pub mine : All (HasItsChanges history) passes
   pub drawn : All (λ change. change.number < s.threads) history
   pub unmarked : All (λ server. is_marked_state server.mark ≡ false) shared.servers
-  pub firm : shared.slots.firm ≡ 0
-  pub held : shared.slots.held ≡ 0
+  pub soft_words : length shared.slots ≡ groups s
+  pub free : (group : ℕ) → group < groups s → slots_at shared.slots group ≡ no_slots

@@ -1,5 +1,5 @@
 -- The rule of the words: what holds of them and of the passes of all seats between any two steps.
-use Rattle.std.specs.Prelude.{◌≡◌, ℕ, ◌+◌, Bool, if◌then◌else◌, List, [], ◌∷◌, ◌++◌, map, drop, slice_index, All, true, ◌<◌}
+use Rattle.std.specs.Prelude.{◌≡◌, ℕ, ◌+◌, Bool, if◌then◌else◌, List, [], ◌∷◌, ◌++◌, map, drop, take, slice_index, All, true, ◌<◌}
 use Rattle.tko_model.specs.declared.mark.Mark.{Mark}
 use Rattle.tko_model.specs.declared.mark.Mark.TheVariants.{Soft}
 use Rattle.tko_model.specs.declared.mark.Reply.{Reply}
@@ -7,49 +7,49 @@ use Rattle.tko_model.specs.declared.mark.Reply.TheVariants.{Full, TookSoft}
 use Rattle.tko_model.specs.declared.settings.Settings.{Settings}
 use Rattle.tko_model.specs.declared.state.ServerState.{ServerState}
 use Rattle.tko_model.specs.Tracker.{becomes, stays, transition}
-use Rattle.tko_word.specs.Words.{IsWord, firm_in, held_in, server_in}
+use Rattle.tko_word.specs.Words.{IsWord, server_in}
 use Rattle.tko_steps.specs.declared.phase.Call.{Call}
 use Rattle.tko_steps.specs.declared.phase.Phase.{Phase}
 use Rattle.tko_steps.specs.declared.phase.Phase.TheVariants.{Read, AtThreshold, Limit, Reserving, Holding, Loosening, Loosened, Emptied}
-use Rattle.tko_steps.specs.declared.phase.Slots.{Slots}
 use Rattle.tko_steps.specs.declared.phase.ThreadState.{ThreadState}
 use Rattle.tko_steps.specs.declared.phase.ThreadState.TheVariants.{InCall}
-use Rattle.tko_steps.specs.Core.{CoreState, Shared, opened_words}
+use Rattle.tko_steps.specs.Core.{CoreState, Shared, opened_words, slots_in}
 use Rattle.tko_steps.specs.Invariant.{IsCore}
 use Rattle.tko_table.specs.declared.pass.Change.{Change}
 use Rattle.tko_table.specs.declared.pass.Pass.{Pass}
 use Rattle.tko_table.specs.History.{Begins, Replays, is_change}
 use Rattle.tko_table.specs.Passes.{OwnsItsMarks, HasItsChanges}
 
--- the words in their order: the soft word, the enrolment word, the health word of each server
-abbrev pub soft_place : ℕ
-soft_place = 0
-
+-- the words in their order: the enrolment word, the health word of each server, the soft word of
+-- each group
 abbrev pub enrolment_place : ℕ
-enrolment_place = 1
+enrolment_place = 0
 
 abbrev pub health_place : ℕ → ℕ
-health_place server = server + 2
+health_place server = server + 1
 
-abbrev pub health_in : List ℕ → List ℕ
-health_in words = drop 2 words
+abbrev pub soft_place : Settings → ℕ → ℕ
+soft_place s group = s.servers + 1 + group
 
-abbrev pub slots_in : ℕ → Slots
-slots_in word = record { firm = firm_in word; held = held_in word }
+abbrev pub health_in : Settings → List ℕ → List ℕ
+health_in s words = take s.servers (drop 1 words)
+
+abbrev pub soft_in : Settings → List ℕ → List ℕ
+soft_in s words = drop (s.servers + 1) words
 
 -- what the words hold
-abbrev pub shared_in : List ℕ → Shared
-shared_in words =
+abbrev pub shared_in : Settings → List ℕ → Shared
+shared_in s words =
     record {
-      servers = map server_in (health_in words);
-      slots = slots_in (slice_index words soft_place);
+      servers = map server_in (health_in s words);
+      slots = map slots_in (soft_in s words);
       enrolled = slice_index words enrolment_place;
     }
 
 -- the words as they open: each server up, no slot taken, no thread enrolled
 pub record IsOpened (s : Settings) (words : List ℕ) : Type 0 where
-  pub valid : All IsWord (health_in words)
-  pub shared : shared_in words ≡ opened_words s
+  pub valid : All IsWord (health_in s words)
+  pub shared : shared_in s words ≡ opened_words s
 
 -- the passes of all seats
 abbrev pub joined : List (List Pass) → List Pass
@@ -62,13 +62,13 @@ states_of passes = map (λ pass. pass.state) passes
 -- the words and the passes are this state of the core
 abbrev pub core_in : Settings → List ℕ → List Pass → CoreState
 core_in s words passes =
-    record { settings = s; shared = shared_in words; threads = states_of passes }
+    record { settings = s; shared = shared_in s words; threads = states_of passes }
 
 -- the words and the passes are a state of the core that meets the core's invariant
 pub record IsCoreHalf (s : Settings) (words : List ℕ) (passes : List Pass) : Type 0 where
-  pub valid : All IsWord (health_in words)
+  pub valid : All IsWord (health_in s words)
   pub core : IsCore (core_in s words passes)
-  pub owned : All (OwnsItsMarks (shared_in words).servers) passes
+  pub owned : All (OwnsItsMarks (shared_in s words).servers) passes
   pub settings : All (λ pass. pass.settings ≡ s) passes
 
 -- on the server as it was found, the operation puts this mark there, whatever room there is
@@ -115,4 +115,4 @@ pub record IsToldHalf
 pub record IsKept (s : Settings) (words : List ℕ) (views : List (List Pass)) : Type 0 where
   pub core : IsCoreHalf s words (joined views)
   pub history : List Change
-  pub told : IsToldHalf s (shared_in words) (joined views) history
+  pub told : IsToldHalf s (shared_in s words) (joined views) history

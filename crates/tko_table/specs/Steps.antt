@@ -8,6 +8,7 @@ use Rattle.tko_model.specs.declared.settings.Settings.{Settings}
 use Rattle.tko_model.specs.declared.state.ServerState.{ServerState}
 use Rattle.tko_model.specs.Tracker.{IsFit, server_at}
 use Rattle.tko_word.specs.Words.{IsMark, IsMarkOf, IsWord, most_threads, server_in, stamp_end}
+use Rattle.tko_model.specs.Groups.{limit_at}
 use Rattle.tko_steps.specs.declared.phase.Call.{Call}
 use Rattle.tko_steps.specs.declared.phase.Phase.{Phase}
 use Rattle.tko_steps.specs.declared.phase.ThreadState.TheVariants.{InCall}
@@ -26,7 +27,8 @@ use Rattle.tko_table.specs.declared.pass.Pass.{Pass}
 use Rattle.tko_table.specs.History.{Begins, Replays, made_by}
 use Rattle.tko_table.specs.Passes.{after_step, count_enrolled, enrol_first, is_marked_by, owns}
 use Rattle.tko_steps.specs.declared.phase.Slots.{Slots}
-use Rattle.tko_table.specs.Rule.{health_place, slots_in}
+use Rattle.tko_steps.specs.Core.{slots_in}
+use Rattle.tko_table.specs.Rule.{health_place}
 
 -- what a seat knows: its passes
 abbrev pub view_of : Seat (Unit {0}) (List Pass) → List Pass
@@ -70,12 +72,12 @@ pub record Takes (before : Pass) (call : Call) (phase : Phase) (it : Observed) (
     pub others : made_by call.number between ≡ []
     pub drawn : All (λ change. change.number < before.settings.threads) between
     pub found : Replays before.settings (before.seen ++ between) core.shared.servers
-    pub reads : it ≡ seen_by core.shared call.server (action_of call.number phase)
+    pub reads : it ≡ seen_by before.settings core.shared call.server (action_of call.number phase)
     pub left :
         Replays
         before.settings
         after.seen
-        (shared_after core.shared call.server (action_of call.number phase)).servers
+        (shared_after before.settings core.shared call.server (action_of call.number phase)).servers
     -- the servers that its thread owns are those whose marks name it
     pub own : (server : ℕ) →
         owns before.owned server
@@ -84,9 +86,10 @@ pub record Takes (before : Pass) (call : Call) (phase : Phase) (it : Observed) (
     pub gained : (server : ℕ) →
         owns after.owned server
         ≡ owned_after
+        before.settings
         call
         phase
-        (word_at core.shared (place_of call.server (action_of call.number phase)))
+        (word_at core.shared (place_of before.settings call.server (action_of call.number phase)))
         (owns before.owned)
         server
     pub knows : after ≡ after_step before call phase it (before.seen ++ between)
@@ -115,9 +118,10 @@ pub record IsSoundWord (s : Settings) (word : ℕ) : Type 0 where
   pub allowed : IsMarkOf s (server_in word).mark
   pub fit : IsFit s (server_in word).mark (server_in word).stamp
 
--- a soft word that was found: no more slots are taken than the limit allows
-pub record IsWithinLimit (s : Settings) (slots : Slots) : Type 0 where
-  pub room : slots.firm + slots.held ≤ s.limit
+-- a soft word that was found by a call on this server: no more slots are taken than the limit of its
+-- group allows
+pub record IsWithinLimit (s : Settings) (server : ℕ) (slots : Slots) : Type 0 where
+  pub room : slots.firm + slots.held ≤ limit_at s server
 
 -- what a load of a server's word tells: the call that is under way, or that begins with this
 -- operation on this server, took the step of its phase
@@ -148,12 +152,15 @@ pub record Exchanged
         is_marked_state expected.mark ≡ true →
         server_in found ≡ expected
 
--- what a load of the soft word tells
+-- what a load of a soft word tells
 pub record LookedAtSlots
     (old : Me (Unit {0}) (List Pass)) (found : ℕ) (new : Me (Unit {0}) (List Pass)) : Type 0
   where
     pub plays : Plays old found new
-    pub within : (pass : Pass) → old.0 ≡ pass ∷ [] → IsWithinLimit pass.settings (slots_in found)
+    pub within : (pass : Pass) (call : Call) (phase : Phase) →
+        old.0 ≡ pass ∷ [] →
+        pass.state ≡ InCall call phase →
+        IsWithinLimit pass.settings call.server (slots_in found)
 
 -- the seat's one pass may take the step of this call at this phase: the call is under way
 pub record IsAt (view : List Pass) (call : Call) (phase : Phase) : Type 0 where
@@ -190,11 +197,12 @@ abbrev pub is_settle : Action → Bool
 is_settle Settle = true
 is_settle action = false
 
--- what a look found: a server whose mark and stamp the settings allow, or slots within the limit
-abbrev pub IsSound : Settings → Observed → Type 0
-IsSound s (read.Server found) = IsMarkOf s found.mark × IsFit s found.mark found.stamp
-IsSound s (read.Slots slots) = slots.firm + slots.held ≤ s.limit
-IsSound s (read.Done won) = Unit {0}
+-- what a look of a call on this server found: a server whose mark and stamp the settings allow, or
+-- slots within the limit of its group
+abbrev pub IsSound : Settings → ℕ → Observed → Type 0
+IsSound s server (read.Server found) = IsMarkOf s found.mark × IsFit s found.mark found.stamp
+IsSound s server (read.Slots slots) = slots.firm + slots.held ≤ limit_at s server
+IsSound s server (read.Done won) = Unit {0}
 
 -- an exchange whose words can be packed
 pub record IsWritable (found : ServerState) (mark : Mark) : Type 0 where

@@ -1,11 +1,14 @@
 //! The words once no thread uses them any more.
 ghost use Rattle.std.specs.Prelude.{◌≡◌, ◌<◌, ◌+◌, ◌^◌, All, length};
 ghost use Rattle.std.specs.Mem.Slots.{IsFull, slots_len};
+ghost use Rattle.tko_model.specs.Groups.{groups};
+ghost use Rattle.tko_model.specs.Ranges.{IsWithinRanges};
 ghost use Rattle.tko_model.specs.Tracker.{server_at};
+ghost use Rattle.tko_steps.specs.Core.{slots_at};
 ghost use Rattle.tko_table.specs.Closing.{IsDone, IsLeft};
 ghost use Rattle.tko_table.specs.Steps.{view_of};
 
-use crate::values::{SOFT, place_of};
+use crate::values::{place_of, soft_place_in};
 use crate::{Seat, Words};
 use atomic_table::Closed;
 use std::alloc::Global;
@@ -18,10 +21,10 @@ use tko_word::{unpack, unpack_soft};
 pub struct ClosedWords {
     pub table: Closed<(), Global>,
     pub settings: Settings,
-    ghost ranges: { settings.servers < 2 ^ 32 },
+    ghost ranges: { IsWithinRanges settings },
     ghost full: { IsFull table.words },
     ghost none: { slots_len table.slots ≡ 0 },
-    ghost count: { slots_len table.words ≡ settings.servers + 2 },
+    ghost count: { slots_len table.words ≡ settings.servers + 1 + groups settings },
 }
 
 impl Model for ClosedWords {
@@ -35,10 +38,10 @@ impl Model for ClosedWords {
 
     ghost view = { λ w. record {
       settings = w.settings;
-      shared = shared_in (slots_items w.table.words);
+      shared = shared_in w.settings (slots_items w.table.words);
     } };
 
-    ghost invariant = { λ w. All IsWord (health_in (slots_items w.table.words)) };
+    ghost invariant = { λ w. All IsWord (health_in w.settings (slots_items w.table.words)) };
 }
 
 impl ClosedWords {
@@ -51,11 +54,13 @@ impl ClosedWords {
         ServerState { mark, stamp }
     }
 
-    /// The counts of the soft word.
-    pub fn slots(&self) -> Slots
-        ensures { result ≡ self.now.shared.slots }
+    /// The counts of the soft word of a group.
+    pub fn slots(&self, group: usize) -> Slots
+        requires { group < groups self.now.settings }
+        ensures { result ≡ slots_at self.now.shared.slots group }
     {
-        let (firm, held) = unpack_soft(self.table.word(SOFT));
+        let place = soft_place_in(&self.settings, group);
+        let (firm, held) = unpack_soft(self.table.word(place));
         Slots { firm, held }
     }
 }

@@ -17,7 +17,8 @@ use crate::plays::{
     LooksAtSlots, LooksUp, Operation, Releases, Succeeds,
 };
 use crate::values::{
-    ENROLMENT, SOFT, is_won, one_slot, one_thread, place_of, slot_over_mark, word_after, word_of,
+    ENROLMENT, is_won, one_slot, one_thread, place_of, slot_over_mark, soft_place_of, word_after,
+    word_of,
 };
 use crate::{Seat, Words};
 use tko_model::{Mark, Op, ServerState};
@@ -34,7 +35,7 @@ impl Words {
         requires kind { IsLook (action_of call.now.number phase) }
         ensures seat { IsSameSeat seat.old seat.new }
         ensures step { Took (view_of seat.old) call.now phase result (view_of seat.new) }
-        ensures sound { IsSound self.now.settings result }
+        ensures sound { IsSound self.now.settings call.now.server result }
     {
         if is_look_at_slots(phase.action(call)) {
             Observed::Slots(self.look_at_slots(seat, call, phase))
@@ -51,7 +52,7 @@ impl Words {
         ensures seat { IsSameSeat seat.old seat.new }
         ensures step { Took
             (view_of seat.old) call.now phase (seen.Server result) (view_of seat.new) }
-        ensures sound { IsSound self.now.settings (seen.Server result) }
+        ensures sound { IsSound self.now.settings call.now.server (seen.Server result) }
     {
         let (mark, stamp) = unpack(self.load(seat, call, phase));
         ServerState { mark, stamp }
@@ -99,11 +100,11 @@ impl Words {
         ensures seat { IsSameSeat seat.old seat.new }
         ensures step { Took
             (view_of seat.old) call.now phase (seen.Slots result) (view_of seat.new) }
-        ensures sound { IsSound self.now.settings (seen.Slots result) }
+        ensures sound { IsSound self.now.settings call.now.server (seen.Slots result) }
     {
-        let _ = call;
         let _ = phase;
-        let word = self.table.shared.load::<LooksAtSlots>(seat, SOFT);
+        let place = soft_place_of(&self.settings, call.server);
+        let word = self.table.shared.load::<LooksAtSlots>(seat, place);
         let (firm, held) = unpack_soft(word);
         Slots { firm, held }
     }
@@ -117,13 +118,13 @@ impl Words {
         ensures step { Took
             (view_of seat.old) call.now phase (seen.Done result) (view_of seat.new) }
     {
-        let _ = call;
         let _ = phase;
+        let place = soft_place_of(&self.settings, call.server);
         let expected = pack_soft(slots.firm, slots.held);
         let new = expected.wrapping_add(one_slot());
         let shared = &self.table.shared;
         is_won(
-            shared.compare_exchange::<ChangesSlots>(seat, SOFT, expected, new),
+            shared.compare_exchange::<ChangesSlots>(seat, place, expected, new),
             expected,
         )
     }
@@ -137,11 +138,12 @@ impl Words {
         ensures step { Took
             (view_of seat.old) call.now phase (seen.Done true) (view_of seat.new) }
     {
+        let place = soft_place_of(&self.settings, call.server);
         let shared = &self.table.shared;
         if is_settle(phase.action(call)) {
-            shared.fetch_sub::<ChangesSlots>(seat, SOFT, slot_over_mark());
+            shared.fetch_sub::<ChangesSlots>(seat, place, slot_over_mark());
         } else {
-            shared.fetch_add::<ChangesSlots>(seat, SOFT, slot_over_mark());
+            shared.fetch_add::<ChangesSlots>(seat, place, slot_over_mark());
         }
     }
 
@@ -154,11 +156,11 @@ impl Words {
         ensures step { Took
             (view_of seat.old) call.now phase (seen.Done true) (view_of seat.new) }
     {
-        let _ = call;
         let _ = phase;
+        let place = soft_place_of(&self.settings, call.server);
         self.table
             .shared
-            .fetch_sub::<ChangesSlots>(seat, SOFT, one_slot());
+            .fetch_sub::<ChangesSlots>(seat, place, one_slot());
     }
 
     /// Exchanges an unmarked word for an unmarked one, and answers whether it was still as found.

@@ -1,20 +1,18 @@
 //! Where the words lie, and the numbers that the steps write into them.
-ghost use Rattle.std.specs.Prelude.{◌≡◌, ◌==◌, ◌+◌, ◌<◌, ◌^◌};
+ghost use Rattle.std.specs.Prelude.{◌≡◌, ◌==◌, ◌+◌, ◌<◌, ◌≤◌, ◌^◌};
 ghost use Rattle.tko_word.specs.Words.{IsMark, IsWord, health_word, one_slot, server_in, slot_over_mark, stamp_end};
-ghost use Rattle.tko_table.specs.Rule.{health_place};
+ghost use Rattle.tko_model.specs.Groups.{group_of, groups};
+ghost use Rattle.tko_table.specs.Rule.{health_place, soft_place};
 ghost use Rattle.tko_table.specs.Steps.{IsWritable};
 
-use tko_model::{Mark, ServerState};
+use tko_model::{Mark, ServerState, Settings};
 use tko_word::{ONE_SLOT, SLOT_OVER_MARK, pack};
 
-/// The soft word's place.
-pub(crate) const SOFT: usize = 0;
-
 /// The enrolment word's place.
-pub(crate) const ENROLMENT: usize = 1;
+pub(crate) const ENROLMENT: usize = 0;
 
 /// The place of the first server's health word.
-const HEALTH: usize = 2;
+const HEALTH: usize = 1;
 
 /// The place of a server's health word.
 pub(crate) fn place_of(server: usize) -> usize
@@ -22,6 +20,30 @@ pub(crate) fn place_of(server: usize) -> usize
     ensures { result ≡ health_place server }
 {
     server + HEALTH
+}
+
+/// The place of a group's soft word, which is behind the health words.
+pub(crate) fn soft_place_in(settings: &Settings, group: usize) -> usize
+    requires { group < 2 ^ 32 }
+    ensures { result ≡ soft_place settings.now group }
+{
+    settings.servers as usize + HEALTH + group
+}
+
+/// How many words there are.
+pub(crate) fn count_words(settings: &Settings) -> usize
+    requires { groups settings.now ≤ 256 }
+    ensures { result ≡ settings.now.servers + 1 + groups settings.now }
+{
+    soft_place_in(settings, settings.groups())
+}
+
+/// The place of the soft word of a server's group.
+pub(crate) fn soft_place_of(settings: &Settings, server: usize) -> usize
+    requires { groups settings.now ≤ 256 }
+    ensures { result ≡ soft_place settings.now (group_of settings.now server) }
+{
+    soft_place_in(settings, settings.group_of(server))
 }
 
 /// The health word of a server as it was found.

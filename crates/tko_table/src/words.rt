@@ -1,26 +1,29 @@
 //! The words, and how they open.
 ghost use Rattle.std.specs.Prelude.{◌≡◌, ◌↔◌, ◌+◌, Some, IfOk, [], length};
 ghost use Rattle.tko_model.specs.Ranges.{IsWithinRanges, first_fault};
+ghost use Rattle.tko_model.specs.Groups.{groups};
 ghost use Rattle.tko_table.specs.Opening.{AreSeats, HasPassesFrom};
 ghost use Rattle.tko_table.specs.Passes.{new_passes};
 ghost use Rattle.tko_table.specs.Rule.{IsOpened};
 ghost use Rattle.tko_table.specs.Steps.{IsSameSeat, view_of};
 
 use crate::rule::Kept;
+use crate::values::count_words;
 use crate::{Seat, View};
 use atomic_table::Table;
 use std::alloc::{AllocError, Global};
 use tko_model::{Mark, OpenFault, Settings, SettingsFault};
 use tko_word::{pack, pack_soft};
 
-/// The soft word, the enrolment word and the health word of each server, in this order.
+/// The enrolment word, the health word of each server and the soft word of each group, in this
+/// order.
 #[derive(Drop)]
 pub struct Words {
     pub table: Table<(), View, Settings, Kept, Global>,
     pub settings: Settings,
     ghost key: { table.shared.key ≡ settings },
     ghost ranges: { IsWithinRanges settings },
-    ghost count: { table.shared.table_id.words ≡ settings.servers + 2 },
+    ghost count: { table.shared.table_id.words ≡ settings.servers + 1 + groups settings },
     ghost no_slot: { table.shared.table_id.slots ≡ 0 },
 }
 
@@ -95,11 +98,13 @@ impl Words {
 /// The words as they open.
 fn opened(alloc: Global, settings: &Settings) -> Result<Vec<u64>, AllocError>
     requires { IsWithinRanges settings.now }
-    ensures { IfOk result (λ words. IsOpened settings.now words.items) }
+    ensures opened { IfOk result (λ words. IsOpened settings.now words.items) }
+    ensures count { IfOk result (λ words.
+        length words.items ≡ settings.now.servers + 1 + groups settings.now) }
 {
     let server = pack(Mark::Up(0), settings.opening_stamp);
-    let mut words = vec![in alloc; server; settings.servers as usize + 2]?;
-    words[0] = pack_soft(0, 0);
-    words[1] = 0;
+    let mut words = vec![in alloc; server; settings.servers as usize + 1]?;
+    words[0] = 0;
+    words.resize(count_words(settings), pack_soft(0, 0))?;
     Ok(words)
 }

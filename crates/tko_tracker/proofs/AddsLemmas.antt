@@ -17,7 +17,7 @@ use Rattle.tko_steps.specs.declared.table.Decision.{Decision}
 use Rattle.tko_steps.specs.declared.table.Decision.TheVariants.{Goes, Answers}
 use Rattle.tko_steps.specs.declared.table.Observed.{Observed}
 use Rattle.tko_steps.specs.declared.table.Observed.TheVariants as seen
-use Rattle.tko_steps.specs.Core.{Shared, seen_by, shared_after}
+use Rattle.tko_steps.specs.Core.{Shared, seen_by, shared_after, slots_at}
 use Rattle.tko_steps.specs.Steps.{is_done, is_marked_state, state_after}
 use Rattle.tko_steps.specs.Table.{action_of, next_of, same_server}
 use Rattle.tko_table.specs.declared.pass.Change.{Change}
@@ -33,6 +33,7 @@ use Rattle.tko_tracker.specs.History.{IsAnsweredAt}
 use Rattle.tko_tracker.proofs.KnowsLemmas.{KnowsAt}
 use Rattle.tko_tracker.proofs.PlaceLemmas.{PlaceAfter, PlaceAt, is_start, place-next, start-at-end}
 use Rattle.tko_tracker.proofs.SoloLemmas.{SoloAfter, SoloAt, none-other, solo-next}
+use Rattle.tko_model.specs.Groups.{group_of, limit_at}
 
 -- what a call at this phase has added, where its pass was the first as it began
 pub record HasAdded (s : Settings) (first now : Pass) (call : Call) (phase : Phase) : Type 0 where
@@ -66,22 +67,22 @@ pub added-none : (s : Settings) (first : Pass) (call : Call) → HasAdded s firs
 added-none s first call = record { more = []; seen = sym (append-nil first.seen); own = refl; mine = refl; planned = tt; place = tt; steps = omega arith; later = λ e. cc; alone = λ one. refl }
 
 -- a thread does not lose the exchange of its own mark
-sure-at : (op : Op) (base owned : List ℕ) (call : Call) (shared : Shared) (read : Observed) (phase : Phase)
-    → KnowsAt op call.server base owned phase → read ≡ seen_by shared call.server (action_of call.number phase)
+sure-at : (s : Settings) (op : Op) (base owned : List ℕ) (call : Call) (shared : Shared) (read : Observed) (phase : Phase)
+    → KnowsAt op call.server base owned phase → read ≡ seen_by s shared call.server (action_of call.number phase)
     → ((found : ServerState) (mark : Mark) → action_of call.number phase ≡ Exchange found mark → is_marked_state found.mark ≡ true → read ≡ seen.Done true)
     → IsSure call shared phase
-sure-at op base owned call shared read Start knows reads sure = tt
-sure-at op base owned call shared read (Read found mark answer) knows reads sure = tt
-sure-at op base owned call shared read (AtThreshold found) knows reads sure = tt
-sure-at op base owned call shared read (Limit found) knows reads sure = tt
-sure-at op base owned call shared read (Reserving found slots) knows reads sure = tt
-sure-at op base owned call shared read (Holding found) knows reads sure = tt
-sure-at op base owned call shared read Firming knows reads sure = tt
-sure-at op base owned call shared read Losing knows reads sure = tt
-sure-at op base owned call shared read (Loosening found mark answer) knows reads sure = tt
-sure-at op base owned call shared read (Loosened found mark answer) knows reads sure =
+sure-at s op base owned call shared read Start knows reads sure = tt
+sure-at s op base owned call shared read (Read found mark answer) knows reads sure = tt
+sure-at s op base owned call shared read (AtThreshold found) knows reads sure = tt
+sure-at s op base owned call shared read (Limit found) knows reads sure = tt
+sure-at s op base owned call shared read (Reserving found slots) knows reads sure = tt
+sure-at s op base owned call shared read (Holding found) knows reads sure = tt
+sure-at s op base owned call shared read Firming knows reads sure = tt
+sure-at s op base owned call shared read Losing knows reads sure = tt
+sure-at s op base owned call shared read (Loosening found mark answer) knows reads sure = tt
+sure-at s op base owned call shared read (Loosened found mark answer) knows reads sure =
     let both : seen.Done (same_server (server_at shared.servers call.server) found) ≡ seen.Done true = sym reads ∙ sure found mark refl knows.3 in cc
-sure-at op base owned call shared read (Emptied answer) knows reads sure = tt
+sure-at s op base owned call shared read (Emptied answer) knows reads sure = tt
 
 module _ (s : Settings) (first now mid : Pass) (call : Call) (phase : Phase) (read : Observed) (has : HasAdded s first now call phase)
     (settings : now.settings ≡ s) (within : call.number < s.threads) (op : Op) (base owned : List ℕ) (knows : KnowsAt op call.server base owned phase)
@@ -112,16 +113,19 @@ module _ (s : Settings) (first now mid : Pass) (call : Call) (phase : Phase) (re
       ∙ (λ i. (has.own i ++ takes.others i) ++ made-changes call phase (is_done read) i)
       ∙ ap (λ it. it ++ changes) (append-nil (pending_at call phase))
 
+  reads-here : read ≡ seen_by s takes.core.shared call.server (action_of call.number phase)
+  reads-here = takes.reads ∙ ap (λ (it : Settings). seen_by it takes.core.shared call.server (action_of call.number phase)) settings
+
   abbrev decision : Decision
   decision = next_of s call phase read
 
   adds : changes_in call.number (mine_after [] call decision at) ++ pending (state_after call decision) ≡ pending_at call phase ++ changes
   adds =
-      let sure = sure-at op base owned call takes.core.shared read phase knows takes.reads step.sure in
+      let sure = sure-at s op base owned call takes.core.shared read phase knows reads-here step.sure in
       let told = told-next s call [] at takes.core.shared phase has.planned sure in
       let P : Observed → Type 0 = λ it. changes_in call.number (mine_after [] call (next_of s call phase it) at) ++ pending (state_after call (next_of s call phase it))
       ≡ pending_at call phase ++ changes_by call phase (is_done it) in
-      subst P (sym takes.reads) told
+      subst P (sym reads-here) told
 
   mine-mid : mid.mine ≡ mine_after first.mine call decision at
   mine-mid =
@@ -132,10 +136,10 @@ module _ (s : Settings) (first now mid : Pass) (call : Call) (phase : Phase) (re
   planned-mid : IsPlanned s (state_after call decision)
   planned-mid =
       let P : Observed → Type 0 = λ it. IsPlanned s (state_after call (next_of s call phase it)) in
-      subst P (sym takes.reads) (plans-next s call takes.core.shared phase has.planned)
+      subst P (sym reads-here) (plans-next s call takes.core.shared phase has.planned)
 
   abbrev last : List ServerState
-  last = (shared_after takes.core.shared call.server (action_of call.number phase)).servers
+  last = (shared_after s takes.core.shared call.server (action_of call.number phase)).servers
 
   seen-is : mid.seen ≡ (now.seen ++ takes.between) ++ changes
   seen-is = ap (λ (it : Pass). it.seen) takes.knows
@@ -151,14 +155,14 @@ module _ (s : Settings) (first now mid : Pass) (call : Call) (phase : Phase) (re
       let history = now.seen ++ takes.between in
       let core = takes.core in
       let found : Replays s history core.shared.servers = subst (λ it. Replays it history core.shared.servers) settings takes.found in
-      let left : Replays s (history ++ changes) last = subst (λ it. Replays s it last) seen-is (subst (λ it. Replays it mid.seen last) settings takes.left) in
-      let sure = sure-at op base owned call core.shared read phase knows takes.reads step.sure in
+      let left : Replays s (history ++ changes) last = subst (λ it. Replays s it last) seen-is (subst (λ (it : Settings). Replays it mid.seen (shared_after it takes.core.shared call.server (action_of call.number phase)).servers) settings takes.left) in
+      let sure = sure-at s op base owned call core.shared read phase knows reads-here step.sure in
       let P : Observed → Type 0 = λ it. Replays s (history ++ changes_by call phase (is_done it)) last
       → PlaceAfter s call.number call.op call.server first.seen (history ++ changes_by call phase (is_done it)) at (next_of s call phase it) in
       let next = place-next s first.seen has.more now.seen takes.between has.seen now.decided_at call core takes.is_found.is
       (takes.is_found.settings ∙ settings) found last phase has.place has.planned sure in
       subst (λ it. PlaceAfter s call.number call.op call.server first.seen it at decision) (sym seen-is)
-      (subst P (sym takes.reads) next left)
+      (subst P (sym reads-here) next left)
 
   at-once : mid.steps ≡ first.steps + 1 → at ≡ length mid.seen
   at-once e =
@@ -180,12 +184,12 @@ module _ (s : Settings) (first now mid : Pass) (call : Call) (phase : Phase) (re
       let none : takes.between ≡ [] = none-other call.number takes.between (subst (λ n. call.number < n) one within) drawn takes.others in
       let Q : List Change → Type 0 = λ it. Replays s (now.seen ++ it) core.shared.servers in
       let replays = subst Q none (subst (λ it. Replays it (now.seen ++ takes.between) core.shared.servers) settings takes.found) in
-      let next = solo-next s first.seen now.seen now.decided_at call core found.thread found.is found.inside single replays phase found.stands (has.alone one) in
+      let next = solo-next s first.seen now.seen now.decided_at call core found.thread found.is found.inside single its replays phase found.stands (has.alone one) in
       let R : List Change → Type 0 = λ it.
-      SoloAfter s call.server first.seen ((now.seen ++ it) ++ changes_by call phase (is_done (seen_by core.shared call.server (action_of call.number phase))))
-      (decided_after phase now.decided_at (length (now.seen ++ it))) (next_of s call phase (seen_by core.shared call.server (action_of call.number phase))) in
+      SoloAfter s call.server first.seen ((now.seen ++ it) ++ changes_by call phase (is_done (seen_by s core.shared call.server (action_of call.number phase))))
+      (decided_after phase now.decided_at (length (now.seen ++ it))) (next_of s call phase (seen_by s core.shared call.server (action_of call.number phase))) in
       let T : Observed → Type 0 = λ it. SoloAfter s call.server first.seen ((now.seen ++ takes.between) ++ changes_by call phase (is_done it)) at (next_of s call phase it) in
-      subst (λ it. SoloAfter s call.server first.seen it at decision) (sym seen-is) (subst T (sym takes.reads) (subst R (sym none) next))
+      subst (λ it. SoloAfter s call.server first.seen it at decision) (sym seen-is) (subst T (sym reads-here) (subst R (sym none) next))
 
   after-by : (it : Decision) → decision ≡ it → HasAddedAfter s first mid call it
   after-by (Goes lost next) is =

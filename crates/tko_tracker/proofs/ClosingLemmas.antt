@@ -161,8 +161,7 @@ final-is tracker passes view left joined settings is =
       mine = tell-all is.history passes view joined.same is.mine;
       drawn = is.drawn;
       unmarked = is.unmarked;
-      firm = is.firm;
-      held = is.held;
+      free = is.free;
     }
 
 pub joined-length : (passes : List Seated) (view : List Pass) → AreJoined passes view → length view ≡ length passes

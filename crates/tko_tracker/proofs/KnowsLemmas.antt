@@ -21,7 +21,7 @@ use Rattle.tko_steps.specs.declared.table.Action.TheVariants as action
 use Rattle.tko_steps.specs.declared.table.Decision.{Decision}
 use Rattle.tko_steps.specs.declared.table.Decision.TheVariants.{Goes, Answers}
 use Rattle.tko_steps.specs.declared.table.Observed.TheVariants as seen
-use Rattle.tko_steps.specs.Core.{Shared, seen_by}
+use Rattle.tko_steps.specs.Core.{Shared, seen_by, slots_at}
 use Rattle.tko_steps.specs.Cost.{most_steps}
 use Rattle.tko_steps.specs.Steps.{is_done, is_marked_state}
 use Rattle.tko_steps.specs.Table.{action_of, goes, lost_try, next_of, puts, same_server, same_slots, sets_out}
@@ -31,6 +31,7 @@ use Rattle.tko_table.specs.Passes.{is_marked_by, owned_after, owned_with, owns, 
 use Rattle.tko_table.specs.Steps.{IsSound, IsWritable}
 use Rattle.tko_tracker.specs.Calls.{answers_owner, can_answer, owned_left}
 use Rattle.tko_tracker.specs.Running.{CanWrite}
+use Rattle.tko_model.specs.Groups.{group_of, limit_at}
 
 -- no call goes on for more steps than this
 abbrev pub left : Settings → ℕ → Phase → ℕ
@@ -193,8 +194,8 @@ fit-below s (Up count) stamp fit = omega (arith, fit.1)
 fit-below s (Soft owner) stamp fit = omega (arith, fit)
 fit-below s (Hard owner) stamp fit = omega (arith, fit)
 
-writable : (s : Settings) (found : ServerState) (mark : Mark) → IsWithinRanges s → IsSound s (seen.Server found) → IsMarkOf s mark → IsWritable found mark
-writable s found mark ranges sound is =
+writable : (s : Settings) (server : ℕ) (found : ServerState) (mark : Mark) → IsWithinRanges s → IsSound s server (seen.Server found) → IsMarkOf s mark → IsWritable found mark
+writable s server found mark ranges sound is =
     record {
       expected = mark-in s found.mark ranges sound.0;
       new = mark-in s mark ranges is;
@@ -253,7 +254,7 @@ module _ (s : Settings) (ranges : IsWithinRanges s) (first : ℕ) (base : List �
       }
 
   -- the first look of a try
-  module _ (now : ServerState) (sound : IsSound s (seen.Server now)) (knows : Knows s first base call Start steps owned)
+  module _ (now : ServerState) (sound : IsSound s call.server (seen.Server now)) (knows : Knows s first base call Start steps owned)
       (owned-its : owns owned call.server ≡ is_marked_by (Some call.number) now.mark) where
     -- a server that its thread owned as the call began has a mark that names it
     named : owns base call.server ≡ true → is_marked_by (Some call.number) now.mark ≡ true
@@ -277,7 +278,7 @@ module _ (s : Settings) (ranges : IsWithinRanges s) (first : ℕ) (base : List �
         subst (λ it. Next Start it owned) (sym (cond-false _ _ _ firm ∙ cond-false _ _ _ firm_now))
         (goes-on Start (Read now mark answer) owned knows refl (omega arith)
         (knows.at, subst (λ it. CanExchange it now.mark) (sym is) can, subst (λ it. Leaves it mark answer) (sym is) leaves)
-        (writable s now mark ranges sound allowed)
+        (writable s call.server now mark ranges sound allowed)
         (λ own. ((owner own).0, ap (λ it. answers_owner it answer) is ∙ (owner own).1)))
 
     loosens : (op : Op) (mark : Mark) (answer : Reply) → call.op ≡ op → is_soft mark ≡ false → now.mark ≡ Soft call.number → CanLoosen op
@@ -286,7 +287,7 @@ module _ (s : Settings) (ranges : IsWithinRanges s) (first : ℕ) (base : List �
         subst (λ it. Next Start it owned) (sym (cond-false _ _ _ firm ∙ cond-true _ _ _ (ap is_soft mine)))
         (goes-on Start (Loosening now mark answer) owned knows refl (omega arith)
         (knows.at, subst CanLoosen (sym is) can, subst (λ it. Leaves it mark answer) (sym is) leaves, ap is_marked_state mine)
-        (writable s now mark ranges sound allowed) (λ own. ap (λ it. answers_owner it answer) is ∙ owner))
+        (writable s call.server now mark ranges sound allowed) (λ own. ap (λ it. answers_owner it answer) is ∙ owner))
 
     one-failure : 0 < s.failures
     one-failure = omega (arith, ranges.failures.0)
@@ -312,7 +313,7 @@ module _ (s : Settings) (ranges : IsWithinRanges s) (first : ℕ) (base : List �
         (λ fresh. cond_both (ltb (count + 1) s.failures) counts marks Out
         (λ less. reads SoftFailure (Up (count + 1)) (reply.Counted (count + 1)) is refl (ap is_soft up) tt (record { allowed = refl; owned = λ server servers. refl })
         (ltb-true (count + 1) s.failures less) (λ own. absurd (none own)))
-        (λ last. goes-on Start (AtThreshold now) owned knows refl (omega arith) (is, knows.at) (writable s now (Soft call.number) ranges sound within) none))
+        (λ last. goes-on Start (AtThreshold now) owned knows refl (omega arith) (is, knows.at) (writable s call.server now (Soft call.number) ranges sound within) none))
     start-up HardFailure count is up none =
         cond_both (leb worn now.stamp) (stays reply.Worn) (becomes (Hard call.number) reply.TookHard) Out
         (λ old. ends reply.Worn (allows HardFailure reply.Worn is refl) refl (λ own. absurd (none own)))
@@ -380,7 +381,7 @@ module _ (s : Settings) (ranges : IsWithinRanges s) (first : ℕ) (base : List �
   -- every step
   abbrev pub StepNext : Shared → Phase → Type 0
   StepNext shared phase =
-      let it = seen_by shared call.server (action_of call.number phase) in
+      let it = seen_by s shared call.server (action_of call.number phase) in
       Next phase (next_of s call phase it) (owned_after owned call.server (action_of call.number phase) (is_done it))
 
   exchanges : (won : Bool) (phase : Phase) (mark : Mark) (yes_then no_then : Decision)
@@ -389,9 +390,9 @@ module _ (s : Settings) (ranges : IsWithinRanges s) (first : ℕ) (base : List �
   exchanges true phase mark yes_then no_then one other = one refl
   exchanges false phase mark yes_then no_then one other = other refl
 
-  pub knows-next : (shared : Shared) (phase : Phase) → IsSound s (seen_by shared call.server (action_of call.number phase))
+  pub knows-next : (shared : Shared) (phase : Phase) → IsSound s call.server (seen_by s shared call.server (action_of call.number phase))
       → ((found : ServerState) (mark : Mark) → action_of call.number phase ≡ action.Exchange found mark → is_marked_state found.mark ≡ true
-      → seen_by shared call.server (action_of call.number phase) ≡ seen.Done true)
+      → seen_by s shared call.server (action_of call.number phase) ≡ seen.Done true)
       → Knows s first base call phase steps owned → owns owned call.server ≡ is_marked_by (Some call.number) (server_at shared.servers call.server).mark
       → StepNext shared phase
   knows-next shared Start sound sure knows own = start-mark (server_at shared.servers call.server) sound knows own (server_at shared.servers call.server).mark refl
@@ -412,11 +413,11 @@ module _ (s : Settings) (ranges : IsWithinRanges s) (first : ℕ) (base : List �
       (contends call.op found.mark knows.at.1 apart) (λ had. apart (knows.owner had).0))
   knows-next shared (AtThreshold found) sound sure knows own =
       let phase : Phase = AtThreshold found in
-      let slots = shared.slots in
-      let rest = cond (eqb (slots.firm + slots.held) s.limit) (lost_try s call) (goes call (Reserving found slots)) in
-      cond_both (eqb slots.firm s.limit) (goes call (Limit found)) rest (λ it. Next phase it owned)
+      let slots = slots_at shared.slots (group_of s call.server) in
+      let rest = cond (eqb (slots.firm + slots.held) (limit_at s call.server)) (lost_try s call) (goes call (Reserving found slots)) in
+      cond_both (eqb slots.firm (limit_at s call.server)) (goes call (Limit found)) rest (λ it. Next phase it owned)
       (λ full. goes-on phase (Limit found) owned knows refl (omega arith) knows.at tt knows.owner)
-      (λ below. cond_both (eqb (slots.firm + slots.held) s.limit) (lost_try s call) (goes call (Reserving found slots)) (λ it. Next phase it owned)
+      (λ below. cond_both (eqb (slots.firm + slots.held) (limit_at s call.server)) (lost_try s call) (goes call (Reserving found slots)) (λ it. Next phase it owned)
       (λ held. loses-soft phase knows knows.at.0 knows.at.1 knows.owner)
       (λ free. goes-on phase (Reserving found slots) owned knows refl (omega arith) knows.at knows.writes knows.owner))
   knows-next shared (Limit found) sound sure knows own =
@@ -427,7 +428,7 @@ module _ (s : Settings) (ranges : IsWithinRanges s) (first : ℕ) (base : List �
       (λ other. loses-soft phase knows knows.at.0 knows.at.1 knows.owner)
   knows-next shared (Reserving found slots) sound sure knows own =
       let phase : Phase = Reserving found slots in
-      cond_both (same_slots shared.slots slots) (goes call (Holding found)) (lost_try s call) (λ it. Next phase it owned)
+      cond_both (same_slots (slots_at shared.slots (group_of s call.server)) slots) (goes call (Holding found)) (lost_try s call) (λ it. Next phase it owned)
       (λ won. goes-on phase (Holding found) owned knows refl (omega arith) knows.at knows.writes knows.owner)
       (λ lost. loses-soft phase knows knows.at.0 knows.at.1 knows.owner)
   knows-next shared (Holding found) sound sure knows own =

@@ -15,7 +15,7 @@ use Rattle.tko_steps.specs.declared.table.Decision.{Decision}
 use Rattle.tko_steps.specs.declared.table.Decision.TheVariants.{Goes, Answers}
 use Rattle.tko_steps.specs.declared.table.Observed.{Observed}
 use Rattle.tko_steps.specs.declared.table.Observed.TheVariants as read_as
-use Rattle.tko_steps.specs.Core.{Shared, seen_by}
+use Rattle.tko_steps.specs.Core.{Shared, seen_by, slots_at}
 use Rattle.tko_steps.specs.Steps.{is_done, is_marked_state}
 use Rattle.tko_steps.specs.Table.{action_of, goes, lost_try, next_of, same_server, same_slots}
 use Rattle.tko_steps.proofs.StartLemmas.{from_start-is}
@@ -26,6 +26,7 @@ use Rattle.tko_table.specs.Passes.{changes_by}
 use Rattle.tko_table.proofs.ChangeLemmas.{made_by-append}
 use Rattle.tko_table.proofs.LeadsLemmas.{replays-changed}
 use Rattle.tko_tracker.specs.Tries.{IsChangedByOthers}
+use Rattle.tko_model.specs.Groups.{group_of, limit_at}
 
 -- after a beginning of what was seen, the server was like this, and what was seen since is others'
 pub record HasSeen (s : Settings) (number server : ℕ) (found : ServerState) (seen : List Change) : Type 0 where
@@ -90,7 +91,7 @@ module _ (s : Settings) (call : Call) (shared : Shared) (seen between : List Cha
   -- what the step of this phase leaves
   abbrev pub SeenNext : Phase → Type 0
   SeenNext phase =
-      let it = seen_by shared call.server (action_of call.number phase) in
+      let it = seen_by s shared call.server (action_of call.number phase) in
       After (history ++ changes_by call phase (is_done it)) (next_of s call phase it)
 
   abbrev pub IsOwn : Phase → Type 0
@@ -105,18 +106,18 @@ module _ (s : Settings) (call : Call) (shared : Shared) (seen between : List Cha
       cond_both (same_server now found) (Answers answer) (lost_try s call) (After (history ++ changes_by call (Read found mark answer) (same_server now found)))
       (λ won. tt) (λ lost. loses (history ++ changes_by call (Read found mark answer) (same_server now found)))
   seen-next (AtThreshold found) own knows =
-      let slots = shared.slots in
-      let rest = cond (eqb (slots.firm + slots.held) s.limit) (lost_try s call) (goes call (Reserving found slots)) in
-      cond_both (eqb slots.firm s.limit) (goes call (Limit found)) rest (After (history ++ []))
+      let slots = slots_at shared.slots (group_of s call.server) in
+      let rest = cond (eqb (slots.firm + slots.held) (limit_at s call.server)) (lost_try s call) (goes call (Reserving found slots)) in
+      cond_both (eqb slots.firm (limit_at s call.server)) (goes call (Limit found)) rest (After (history ++ []))
       (λ full. seen-on found [] refl knows)
-      (λ below. cond_both (eqb (slots.firm + slots.held) s.limit) (lost_try s call) (goes call (Reserving found slots)) (After (history ++ []))
+      (λ below. cond_both (eqb (slots.firm + slots.held) (limit_at s call.server)) (lost_try s call) (goes call (Reserving found slots)) (After (history ++ []))
       (λ held. loses (history ++ []))
       (λ free. seen-on found [] refl knows))
   seen-next (Limit found) own knows =
       cond_both (same_server found now) (Answers Full) (lost_try s call) (After (history ++ [])) (λ same. tt) (λ other. loses (history ++ []))
   seen-next (Reserving found taken) own knows =
-      let more = changes_by call (Reserving found taken) (same_slots shared.slots taken) in
-      cond_both (same_slots shared.slots taken) (goes call (Holding found)) (lost_try s call) (After (history ++ more))
+      let more = changes_by call (Reserving found taken) (same_slots (slots_at shared.slots (group_of s call.server)) taken) in
+      cond_both (same_slots (slots_at shared.slots (group_of s call.server)) taken) (goes call (Holding found)) (lost_try s call) (After (history ++ more))
       (λ won. seen-on found more (ap (λ test. changes_by call (Reserving found taken) test) won) knows)
       (λ lost. loses (history ++ more))
   seen-next (Holding found) own knows =
@@ -155,7 +156,7 @@ module _ (s : Settings) (call : Call) (shared : Shared) (seen between : List Cha
       cc)
 
   pub exchange-lost : (phase : Phase) (read : Observed) (found : ServerState) (mark : Mark) → SeenAt s call.number call.server seen phase
-      → read ≡ seen_by shared call.server (action_of call.number phase)
+      → read ≡ seen_by s shared call.server (action_of call.number phase)
       → (is_marked_state found.mark ≡ true → read ≡ read_as.Done true)
       → action_of call.number phase ≡ Exchange found mark → read ≡ read_as.Done false → IsChangedByOthers s call.number call.server found history
   exchange-lost Start read found mark knows reads sure is lost = cc

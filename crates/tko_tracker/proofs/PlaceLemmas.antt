@@ -1,5 +1,5 @@
 -- Where in the history a call is answered: what is known of that at each phase, and what an answer then makes of it.
-use Rattle.std.proofs.Common.{◌≡◌, ◌≢◌, ℕ, ◌+◌, ◌≤◌, Bool, true, false, cond, eqb, List, [], ◌∷◌, ◌++◌, length, refl, sym, ap, ◌∙◌, subst, arith}
+use Rattle.std.proofs.Common.{◌≡◌, ◌≢◌, ℕ, ◌+◌, ◌≤◌, Bool, true, false, cond, eqb, List, [], ◌∷◌, ◌++◌, length, refl, sym, ap, ◌∙◌, subst, arith, count_by}
 use Rattle.std.proofs.lemmas.Bool.{cond-false, cond-true, cond_both, eqb-true, le-ltb}
 use Rattle.std.proofs.lemmas.List.{append-nil, append_assoc}
 use Rattle.tko_model.specs.declared.mark.Op.{Op}
@@ -9,15 +9,15 @@ use Rattle.tko_model.specs.declared.mark.Reply.TheVariants.{Contended, Full, Too
 use Rattle.tko_model.specs.declared.settings.Settings.{Settings}
 use Rattle.tko_model.specs.declared.state.ServerState.{ServerState}
 use Rattle.tko_model.specs.declared.transition.Transition.{Transition}
-use Rattle.tko_model.specs.Tracker.{after, becomes, changed, has_room, reply_of, server_at, softs, stays, transition}
+use Rattle.tko_model.specs.Tracker.{after, becomes, changed, has_room, reply_of, server_at, softs_beside, stays, transition}
 use Rattle.tko_steps.specs.declared.phase.Call.{Call}
 use Rattle.tko_steps.specs.declared.phase.Phase.{Phase}
 use Rattle.tko_steps.specs.declared.phase.Phase.TheVariants.{Start, Read, AtThreshold, Limit, Reserving, Holding, Firming, Losing, Loosening, Loosened, Emptied}
 use Rattle.tko_steps.specs.declared.phase.Slots.{Slots}
 use Rattle.tko_steps.specs.declared.table.Decision.{Decision}
 use Rattle.tko_steps.specs.declared.table.Decision.TheVariants.{Goes, Answers}
-use Rattle.tko_steps.specs.Core.{CoreState, seen_by}
-use Rattle.tko_steps.specs.Invariant.{IsCore}
+use Rattle.tko_steps.specs.Core.{CoreState, seen_by, slots_at}
+use Rattle.tko_steps.specs.Invariant.{IsCore, is_loose_in}
 use Rattle.tko_steps.specs.Legal.{tracker_in}
 use Rattle.tko_steps.specs.Steps.{is_done}
 use Rattle.tko_steps.specs.Table.{action_of, from_start, goes, lost_try, next_of, same_server, same_slots}
@@ -32,6 +32,8 @@ use Rattle.tko_table.specs.Rule.{IsPlannedAt}
 use Rattle.tko_table.proofs.ChangeLemmas.{IsSure, by_test, puts-change, stays-no_change}
 use Rattle.tko_table.proofs.LeadsLemmas.{not-newer-same, replays-last, replays-not-newer}
 use Rattle.tko_tracker.specs.History.{IsAnsweredAt, own_change}
+use Rattle.tko_model.specs.Groups.{group_of, limit_at}
+use Rattle.tko_steps.proofs.CoreLemmas.{own-group}
 
 -- ---- an answer's place
 
@@ -84,7 +86,7 @@ pub record Saw (s : Settings) (seen : List Change) (server : ℕ) (found : Serve
 pub record SawLimit (s : Settings) (seen : List Change) (server : ℕ) (found : ServerState) (decided : ℕ) : Type 0 where
   pub servers : List ServerState
   pub replays : Replays s seen servers
-  pub limit : softs servers ≡ s.limit
+  pub limit : softs_beside s server servers ≡ limit_at s server
   pub since_found : IsNotNewer found (server_at servers server)
   pub place : length seen ≡ decided
 
@@ -120,7 +122,7 @@ module _ (s : Settings) (begun more seen between : List Change) (same : seen ≡
   now = server_at servers call.server
 
   abbrev slots : Slots
-  slots = core.shared.slots
+  slots = slots_at core.shared.slots (group_of s call.server)
 
   abbrev After : ℕ → List Change → Decision → Type 0
   After at new decision = PlaceAfter s call.number call.op call.server begun new at decision
@@ -137,11 +139,11 @@ module _ (s : Settings) (begun more seen between : List Change) (same : seen ≡
   -- an answer that changes nothing, after the history or after what was seen before
   stays-at : (answer : Reply) (earlier since later new : List Change) (there : List ServerState) → earlier ≡ begun ++ since
       → Replays s earlier there → new ≡ earlier ++ later
-      → transition s (has_room s (softs there)) call.number call.op (server_at there call.server).mark (server_at there call.server).stamp ≡ stays answer
+      → transition s (has_room s there call.server) call.number call.op (server_at there call.server).mark (server_at there call.server).stamp ≡ stays answer
       → IsAnsweredAt s call.number call.op call.server answer (length earlier) begun new
   stays-at answer earlier since later new there begins replays is_new decides =
       let it = server_at there call.server in
-      let none : is_change answer ≡ false = stays-no_change s (has_room s (softs there)) call.number call.op it.mark it.stamp answer decides in
+      let none : is_change answer ≡ false = stays-no_change s (has_room s there call.server) call.number call.op it.mark it.stamp answer decides in
       let left : there ≡ (after (tracker_in s there) call.number call.op call.server).servers =
       sym (ap (λ (t : Transition). changed there call.server t.change) decides) in
       let kept : Replays s (earlier ++ []) there = subst (λ x. Replays s x there) (sym (append-nil earlier)) replays in
@@ -163,21 +165,27 @@ module _ (s : Settings) (begun more seen between : List Change) (same : seen ≡
   start-after =
       from_start-is s call now (After (length history) (history ++ []))
       (λ answer is_answer is. λ differs.
-      stays-at answer history (more ++ between) [] (history ++ []) servers whole found_by refl (is (has_room s (softs servers))))
+      stays-at answer history (more ++ between) [] (history ++ []) servers whole found_by refl (is (has_room s servers call.server)))
       (λ soft fresh is.
       record { servers = servers; replays = subst (λ it. Replays s it servers) (sym (append-nil history)) found_by; is = refl })
       (λ mark answer put can by is. tt)
       (λ mark answer put can own is. tt)
 
   -- the look at the soft word, which finds as many settled marks as may be
-  limit-after : (found : ServerState) → Saw s seen call.server found → slots.firm ≡ s.limit
+  limit-after : (found : ServerState) → Saw s seen call.server found → slots.firm ≡ (limit_at s call.server)
       → SawLimit s (history ++ []) call.server found (length history)
   limit-after found saw full =
-      let no_more : softs servers ≤ s.limit = subst (λ (it : Settings). softs servers ≤ it.limit) settings (softs-le core is) in
+      let no_more : softs_beside s call.server servers ≤ limit_at s call.server =
+      subst (λ (it : Settings). softs_beside it call.server servers ≤ limit_at it call.server) settings (softs-le core call.server is) in
+      let firm : softs_beside s call.server servers
+      ≡ slots.firm + count_by (is_loose_in s (group_of s call.server)) core.threads =
+      subst (λ (it : Settings). softs_beside it call.server servers
+      ≡ (slots_at core.shared.slots (group_of it call.server)).firm + count_by (is_loose_in it (group_of it call.server)) core.threads) settings
+      (own-group core call.server is).firm in
       record {
         servers = servers;
         replays = subst (λ it. Replays s it servers) (sym (append-nil history)) found_by;
-        limit = omega (arith, full, no_more, is.firm);
+        limit = omega (arith, full, no_more, firm);
         since_found = subst (λ it. IsNotNewer it now) saw.is (replays-not-newer s seen between saw.servers servers call.server saw.replays found_by);
         place = ap length (append-nil history);
       }
@@ -187,10 +195,10 @@ module _ (s : Settings) (begun more seen between : List Change) (same : seen ≡
       → IsAnsweredAt s call.number call.op call.server Full decided begun (history ++ [])
   full-after found saw planned is_now =
       let there = server_at saw.servers call.server in
-      let room = has_room s (softs saw.servers) in
+      let room = has_room s saw.servers call.server in
       let later = replays-not-newer s seen between saw.servers servers call.server saw.replays found_by in
       let pinned : there ≡ found = not-newer-same found there now saw.since_found later is_now in
-      let no_room : room ≡ false = le-ltb (softs saw.servers) s.limit (omega (arith, saw.limit)) in
+      let no_room : room ≡ false = le-ltb (softs_beside s call.server saw.servers) (limit_at s call.server) (omega (arith, saw.limit)) in
       let decides : transition s room call.number call.op there.mark there.stamp ≡ stays Full =
       ap (λ (it : ServerState). transition s room call.number call.op it.mark it.stamp) pinned
       ∙ planned room
@@ -207,7 +215,7 @@ module _ (s : Settings) (begun more seen between : List Change) (same : seen ≡
   -- what the step of this phase leaves, where the replay of the history then ends here
   abbrev pub PlaceNext : List ServerState → Phase → Type 0
   PlaceNext last phase =
-      let it = seen_by core.shared call.server (action_of call.number phase) in
+      let it = seen_by s core.shared call.server (action_of call.number phase) in
       Replays s (history ++ changes_by call phase (is_done it)) last
       → After (decided_after phase decided (length history)) (history ++ changes_by call phase (is_done it)) (next_of s call phase it)
 
@@ -222,11 +230,11 @@ module _ (s : Settings) (begun more seen between : List Change) (same : seen ≡
       (λ lost left. loses (length history) (history ++ []))
       left
   place-next last (AtThreshold found) knows planned sure left =
-      let rest = cond (eqb (slots.firm + slots.held) s.limit) (lost_try s call) (goes call (Reserving found slots)) in
+      let rest = cond (eqb (slots.firm + slots.held) (limit_at s call.server)) (lost_try s call) (goes call (Reserving found slots)) in
       let P : Decision → Type 0 = After (length history) (history ++ []) in
-      cond_both (eqb slots.firm s.limit) (goes call (Limit found)) rest P
-      (λ full. limit-after found knows (eqb-true slots.firm s.limit full))
-      (λ below. cond_both (eqb (slots.firm + slots.held) s.limit) (lost_try s call) (goes call (Reserving found slots)) P
+      cond_both (eqb slots.firm (limit_at s call.server)) (goes call (Limit found)) rest P
+      (λ full. limit-after found knows (eqb-true slots.firm (limit_at s call.server) full))
+      (λ below. cond_both (eqb (slots.firm + slots.held) (limit_at s call.server)) (lost_try s call) (goes call (Reserving found slots)) P
       (λ held. loses (length history) (history ++ []))
       (λ free. tt))
   place-next last (Limit found) knows planned sure left =

@@ -21,7 +21,7 @@ use Rattle.tko_steps.specs.declared.table.Decision.{Decision}
 use Rattle.tko_steps.specs.declared.table.Decision.TheVariants.{Goes, Answers}
 use Rattle.tko_steps.specs.declared.table.Observed.{Observed}
 use Rattle.tko_steps.specs.declared.table.Observed.TheVariants as seen
-use Rattle.tko_steps.specs.Core.{CoreState, follows, seen_by}
+use Rattle.tko_steps.specs.Core.{CoreState, follows, seen_by, slots_at}
 use Rattle.tko_steps.specs.Cost.{most_steps}
 use Rattle.tko_steps.specs.Runs.{OwnStep}
 use Rattle.tko_steps.specs.Steps.{begun_by, in_call, is_done, state_after}
@@ -39,6 +39,7 @@ use Rattle.tko_tracker.proofs.AddsLemmas.{HasAdded, HasAddedAfter, HasEnded, add
 use Rattle.tko_tracker.proofs.KnowsLemmas.{Knows, KnowsAfter, KnowsAt, knows-next, left}
 use Rattle.tko_tracker.proofs.LookLemmas.{IsOwn, SeenAfter, SeenAt, exchange-lost, look-changed, seen-next}
 use Rattle.tko_tracker.proofs.TryLemmas.{KnowsAnywhere, TriedAfter, begins-anywhere, slot-held, tried-next, turn-is}
+use Rattle.tko_model.specs.Groups.{group_of, limit_at}
 
 -- the call of the pass that the view had first, at this phase
 pub record IsUnderWay
@@ -154,6 +155,10 @@ module _ (s : Settings) (ranges : IsWithinRanges s) (number : ℕ) (op : Op) (se
   settings-mid : mid.settings ≡ s
   settings-mid = ap (λ (it : Pass). it.settings) step.takes.knows ∙ at.settings
 
+  reads-here : read ≡ seen_by s step.takes.core.shared call.server (action_of call.number phase)
+  reads-here =
+      step.takes.reads ∙ ap (λ (it : Settings). seen_by it step.takes.core.shared call.server (action_of call.number phase)) at.settings
+
   knows-mid : KnowsAfter s at.first.steps at.first.owned call phase (next_of s call phase read) mid.steps mid.owned
   knows-mid =
       let takes = step.takes in
@@ -167,8 +172,8 @@ module _ (s : Settings) (ranges : IsWithinRanges s) (number : ℕ) (op : Op) (se
       (owned_after at.now.owned call.server act (is_done read)) in
       let R : List ℕ → Type 0 = λ it. KnowsAfter s at.first.steps at.first.owned call phase (next_of s call phase read) mid.steps it in
       let next = knows-next s ranges at.first.steps at.first.owned call (subst (λ n. n < s.threads) (sym at.by) at.within) at.now.steps at.now.owned
-      takes.core.shared phase (subst (IsSound s) takes.reads stepped.sound) (λ found mark is marked. sym takes.reads ∙ step.sure found mark is marked) at.knows (takes.own call.server) in
-      subst R owned (subst Q steps (subst P (sym takes.reads) next))
+      takes.core.shared phase (subst (IsSound s call.server) reads-here stepped.sound) (λ found mark is marked. sym reads-here ∙ step.sure found mark is marked) at.knows (takes.own call.server) in
+      subst R owned (subst Q steps (subst P (sym reads-here) next))
 
   added-mid : HasAddedAfter s at.first mid call (next_of s call phase read)
   added-mid = added-next s at.first at.now mid call phase read at.added at.settings (subst (λ n. n < s.threads) (sym at.by) at.within) call.op at.first.owned at.now.owned at.knows.at step
@@ -207,7 +212,7 @@ module _ (s : Settings) (ranges : IsWithinRanges s) (number : ℕ) (op : Op) (se
       let P : Observed → Type 0 = λ it.
       SeenAfter s call.number call.server ((at.now.seen ++ step.takes.between) ++ changes_by call phase (is_done it)) (next_of s call phase it) in
       let here : (at.now.seen ++ step.takes.between) ++ changes_by call phase (is_done read) ≡ mid.seen = sym (ap (λ (it : Pass). it.seen) step.takes.knows) in
-      subst (λ it. SeenAfter s call.number call.server it (next_of s call phase read)) here (subst P (sym step.takes.reads) next)
+      subst (λ it. SeenAfter s call.number call.server it (next_of s call phase read)) here (subst P (sym reads-here) next)
 
   is-taken : IsTaken at.now call phase taken
   is-taken =
@@ -215,20 +220,20 @@ module _ (s : Settings) (ranges : IsWithinRanges s) (number : ℕ) (op : Op) (se
       record {
         step = step;
         turn = turn-is core thread call phase found.inside found.stands;
-        held = λ e. slot-held at.now.settings core thread call phase found.is found.stands e;
+        held = λ group there e. slot-held at.now.settings core thread call phase found.is found.stands found.settings group there e;
         lost = λ expected mark is lost.
             exchange-lost at.now.settings call core.shared at.now.seen step.takes.between step.takes.found step.takes.others phase read expected mark
             seen-here step.takes.reads (λ marked. step.sure expected mark is marked) is lost;
         changed = λ expected then is_limit is other.
             look-changed at.now.settings call core.shared at.now.seen step.takes.between step.takes.found step.takes.others expected then read
             (subst (SeenAt at.now.settings call.number call.server at.now.seen) is_limit seen-here)
-            (step.takes.reads ∙ ap (λ it. seen_by core.shared call.server (action_of call.number it)) is_limit) is other;
+            (step.takes.reads ∙ ap (λ it. seen_by at.now.settings core.shared call.server (action_of call.number it)) is_limit) is other;
       }
 
   follows-is : follows core call phase ≡ next_of s call phase read
   follows-is =
-      ap (λ (it : Settings). next_of it call phase (seen_by core.shared call.server (action_of call.number phase))) (step.takes.is_found.settings ∙ at.settings)
-      ∙ ap (next_of s call phase) (sym step.takes.reads)
+      ap (λ (it : Settings). next_of it call phase (seen_by it core.shared call.server (action_of call.number phase))) (step.takes.is_found.settings ∙ at.settings)
+      ∙ ap (next_of s call phase) (sym reads-here)
 
   tried-mid : TriedAfter s call (own_step taken ∷ at.own) (next_of s call phase read)
   tried-mid =

@@ -6,7 +6,7 @@ use Rattle.std.proofs.lemmas.List.Elements.{All-head}
 use Rattle.tko_model.specs.declared.mark.Reply.TheVariants.{Contended, Full}
 use Rattle.tko_model.specs.declared.settings.Settings.{Settings}
 use Rattle.tko_model.specs.declared.state.ServerState.{ServerState}
-use Rattle.tko_model.specs.Tracker.{opened, server_at, softs}
+use Rattle.tko_model.specs.Tracker.{opened, server_at, softs_beside}
 use Rattle.tko_steps.specs.declared.phase.Call.{Call}
 use Rattle.tko_steps.specs.declared.phase.Phase.{Phase}
 use Rattle.tko_steps.specs.declared.phase.Phase.TheVariants.{Start, Read, AtThreshold, Limit, Reserving, Holding, Firming, Losing, Loosening, Loosened, Emptied}
@@ -14,11 +14,11 @@ use Rattle.tko_steps.specs.declared.phase.Slots.{Slots}
 use Rattle.tko_steps.specs.declared.phase.ThreadState.TheVariants.{NotEnrolled, InCall}
 use Rattle.tko_steps.specs.declared.table.Decision.{Decision}
 use Rattle.tko_steps.specs.declared.table.Decision.TheVariants.{Goes, Answers}
-use Rattle.tko_steps.specs.Core.{CoreState, seen_by, thread_at}
-use Rattle.tko_steps.specs.Invariant.{IsCore, holds, holds_at, is_loose, is_loose_at}
+use Rattle.tko_steps.specs.Core.{CoreState, seen_by, thread_at, slots_at}
+use Rattle.tko_steps.specs.Invariant.{IsCore, holds, holds_at, is_loose, is_loose_at, firm_at, held_at, holds_in, is_loose_in}
 use Rattle.tko_steps.specs.Steps.{is_done}
 use Rattle.tko_steps.specs.Table.{action_of, from_start, goes, lost_try, next_of, same_server}
-use Rattle.tko_steps.proofs.CountLemmas.{bit}
+use Rattle.tko_steps.proofs.CountLemmas.{bit, holds-own, loose-own}
 use Rattle.tko_steps.proofs.LoserLemmas.{eq-same_slots}
 use Rattle.tko_steps.proofs.StartLemmas.{from_start-is, is_plain, plain≢}
 use Rattle.tko_steps.proofs.TableLemmas.{eq-same_server}
@@ -27,6 +27,9 @@ use Rattle.tko_table.specs.History.{Replays, made_by}
 use Rattle.tko_table.specs.Passes.{changes_by, decided_after}
 use Rattle.tko_table.proofs.LeadsLemmas.{leads-once}
 use Rattle.tko_tracker.proofs.PlaceLemmas.{Saw}
+use Rattle.tko_model.specs.Groups.{group_of, limit_at}
+use Rattle.tko_steps.proofs.CoreLemmas.{own-group}
+use Rattle.tko_steps.specs.declared.phase.ThreadState.{ThreadState}
 
 -- ---- nobody else
 
@@ -49,19 +52,26 @@ one-count p (x ∷ []) zero d one inside = omega arith
 one-count p (x ∷ []) (suc at) d one inside = absurd (omega (arith, inside))
 
 -- the slots of a tracker whose one thread holds none
-abbrev free : List ServerState → Slots
-free servers = record { firm = softs servers; held = 0 }
+abbrev free : Settings → ℕ → List ServerState → Slots
+free s server servers = record { firm = softs_beside s server servers; held = 0 }
 
 slots-free : (core : CoreState) (thread : ℕ) (call : Call) (phase : Phase) → IsCore core → core.settings.threads ≡ 1 → thread < length core.threads
-    → thread_at core thread ≡ InCall call phase → holds_at phase ≡ false → is_loose_at phase ≡ false → core.shared.slots ≡ free core.shared.servers
+    → thread_at core thread ≡ InCall call phase → holds_at phase ≡ false → is_loose_at phase ≡ false
+    → slots_at core.shared.slots (group_of core.settings call.server) ≡ free core.settings call.server core.shared.servers
 slots-free core thread call phase is one inside stands none settled =
+    let s = core.settings in
+    let own = group_of s call.server in
+    let mine = own-group core call.server is in
+    let state : ThreadState = InCall call phase in
     let alone : length core.threads ≡ 1 = is.threads ∙ one in
-    let held : count_by holds core.threads ≡ 0 =
-    one-count holds core.threads thread NotEnrolled alone inside ∙ ap (λ state. bit (holds state)) stands ∙ ap bit none in
-    let loose : count_by is_loose core.threads ≡ 0 =
-    one-count is_loose core.threads thread NotEnrolled alone inside ∙ ap (λ state. bit (is_loose state)) stands ∙ ap bit settled in
-    let firm_is : core.shared.slots.firm ≡ softs core.shared.servers = omega (arith, is.firm, loose) in
-    let held_is : core.shared.slots.held ≡ 0 = sym is.held ∙ held in
+    let held : count_by (holds_in s own) core.threads ≡ 0 =
+    one-count (holds_in s own) core.threads thread NotEnrolled alone inside ∙ ap (λ it. bit (holds_in s own it)) stands
+    ∙ ap bit (holds-own s call.server state refl ∙ none) in
+    let loose : count_by (is_loose_in s own) core.threads ≡ 0 =
+    one-count (is_loose_in s own) core.threads thread NotEnrolled alone inside ∙ ap (λ it. bit (is_loose_in s own it)) stands
+    ∙ ap bit (loose-own s call.server state refl ∙ settled) in
+    let firm_is : firm_at core own ≡ softs_beside s call.server core.shared.servers = omega (arith, mine.firm, loose) in
+    let held_is : held_at core own ≡ 0 = sym mine.held ∙ held in
     λ i. record { firm = firm_is i; held = held_is i }
 
 -- ---- what is known at each phase
@@ -76,7 +86,7 @@ SoloAt s server begun seen decided (Read found mark answer) = StillSees s begun 
 SoloAt s server begun seen decided (AtThreshold found) = StillSees s begun seen server found
 SoloAt s server begun seen decided (Limit found) = StillSees s begun seen server found × (decided ≡ length begun)
 SoloAt s server begun seen decided (Reserving found slots) =
-    (servers : List ServerState) × (seen ≡ begun) × Replays s seen servers × (server_at servers server ≡ found) × (slots ≡ free servers)
+    (servers : List ServerState) × (seen ≡ begun) × Replays s seen servers × (server_at servers server ≡ found) × (slots ≡ free s server servers)
 SoloAt s server begun seen decided (Holding found) = StillSees s begun seen server found
 SoloAt s server begun seen decided Firming = decided ≡ length begun
 SoloAt s server begun seen decided Losing = ⊥
@@ -89,7 +99,7 @@ SoloAfter s server begun seen decided (Goes lost phase) = SoloAt s server begun 
 SoloAfter s server begun seen decided (Answers answer) = (answer ≢ Contended) × (decided ≡ length begun)
 
 module _ (s : Settings) (begun seen : List Change) (decided : ℕ) (call : Call) (core : CoreState) (thread : ℕ) (is : IsCore core)
-    (inside : thread < length core.threads) (one : core.settings.threads ≡ 1) (found_by : Replays s (seen ++ []) core.shared.servers) where
+    (inside : thread < length core.threads) (one : core.settings.threads ≡ 1) (settings : core.settings ≡ s) (found_by : Replays s (seen ++ []) core.shared.servers) where
   abbrev servers : List ServerState
   servers = core.shared.servers
 
@@ -143,7 +153,7 @@ module _ (s : Settings) (begun seen : List Change) (decided : ℕ) (call : Call)
   -- what the step of this phase leaves
   abbrev pub SoloNext : Phase → Type 0
   SoloNext phase =
-      let it = seen_by core.shared call.server (action_of call.number phase) in
+      let it = seen_by s core.shared call.server (action_of call.number phase) in
       After (decided_after phase decided (length history)) (history ++ changes_by call phase (is_done it)) (next_of s call phase it)
 
   pub solo-next : (phase : Phase) → thread_at core thread ≡ InCall call phase → SoloAt s call.server begun seen decided phase → SoloNext phase
@@ -153,18 +163,20 @@ module _ (s : Settings) (begun seen : List Change) (decided : ℕ) (call : Call)
       let P : Bool → Type 0 = λ test. After (length history) (history ++ changes_by call (Read found mark answer) test) (cond test (Answers answer) (lost_try s call)) in
       subst P (sym won) (plain≢ answer Contended knows.1 refl, length-on knows.0.0)
   solo-next (AtThreshold found) stands knows =
-      let slots = core.shared.slots in
-      let empty : slots ≡ free servers = slots-free core thread call (AtThreshold found) is one inside stands refl refl in
+      let slots = slots_at core.shared.slots (group_of s call.server) in
+      let empty : slots ≡ free s call.server servers =
+      subst (λ (it : Settings). slots_at core.shared.slots (group_of it call.server) ≡ free it call.server servers) settings
+      (slots-free core thread call (AtThreshold found) is one inside stands refl refl) in
       let none : slots.held ≡ 0 = ap (λ (it : Slots). it.held) empty in
-      let rest = cond (eqb (slots.firm + slots.held) s.limit) (lost_try s call) (goes call (Reserving found slots)) in
+      let rest = cond (eqb (slots.firm + slots.held) (limit_at s call.server)) (lost_try s call) (goes call (Reserving found slots)) in
       let P : Decision → Type 0 = After (length history) (history ++ []) in
       let same : now ≡ found = ap (λ it. server_at it call.server) (still knows.1.servers knows.1.replays) ∙ knows.1.is in
-      cond_both (eqb slots.firm s.limit) (goes call (Limit found)) rest P
+      cond_both (eqb slots.firm (limit_at s call.server)) (goes call (Limit found)) rest P
       (λ full. ((seen-on [] refl knows.0, kept found knows.1), length-on knows.0))
-      (λ below. cond_both (eqb (slots.firm + slots.held) s.limit) (lost_try s call) (goes call (Reserving found slots)) P
+      (λ below. cond_both (eqb (slots.firm + slots.held) (limit_at s call.server)) (lost_try s call) (goes call (Reserving found slots)) P
       (λ all.
-      let no_slot = eqb-true (slots.firm + slots.held) s.limit all in
-      let full : eqb slots.firm s.limit ≡ true = eq-eqb slots.firm s.limit (omega (arith, no_slot, none)) in
+      let no_slot = eqb-true (slots.firm + slots.held) (limit_at s call.server) all in
+      let full : eqb slots.firm (limit_at s call.server) ≡ true = eq-eqb slots.firm (limit_at s call.server) (omega (arith, no_slot, none)) in
       let e : true ≡ false = sym full ∙ below in cc)
       (λ left. (servers, seen-on [] refl knows.0, replays-now, same, empty)))
   solo-next (Limit found) stands knows =
@@ -172,11 +184,13 @@ module _ (s : Settings) (begun seen : List Change) (decided : ℕ) (call : Call)
       let P : Bool → Type 0 = λ test. After decided (history ++ []) (cond test (Answers Full) (lost_try s call)) in
       subst P (sym same) (λ e. cc, knows.1)
   solo-next (Reserving found taken) stands knows =
-      let slots = core.shared.slots in
+      let slots = slots_at core.shared.slots (group_of s call.server) in
       let there = knows.0 in
       let is_there : servers ≡ there = still there knows.2 in
-      let empty : slots ≡ free servers = slots-free core thread call (Reserving found taken) is one inside stands refl refl in
-      let same : slots ≡ taken = empty ∙ ap free is_there ∙ sym knows.4 in
+      let empty : slots ≡ free s call.server servers =
+      subst (λ (it : Settings). slots_at core.shared.slots (group_of it call.server) ≡ free it call.server servers) settings
+      (slots-free core thread call (Reserving found taken) is one inside stands refl refl) in
+      let same : slots ≡ taken = empty ∙ ap (free s call.server) is_there ∙ sym knows.4 in
       let won = eq-same_slots slots taken same in
       let P : Bool → Type 0 = λ test. After (length history) (history ++ changes_by call (Reserving found taken) test) (cond test (goes call (Holding found)) (lost_try s call)) in
       subst P (sym won) (seen-on [] refl knows.1, kept found (record { servers = there; replays = knows.2; is = knows.3 }))

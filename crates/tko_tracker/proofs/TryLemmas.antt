@@ -18,8 +18,8 @@ use Rattle.tko_steps.specs.declared.step.Stepped.TheVariants.{NoThread}
 use Rattle.tko_steps.specs.declared.step.Word.TheVariants as word
 use Rattle.tko_steps.specs.declared.table.Decision.{Decision}
 use Rattle.tko_steps.specs.declared.table.Decision.TheVariants.{Goes, Answers}
-use Rattle.tko_steps.specs.Core.{CoreState, abstract_of, after_step_from, follows, reported_from, thread_at}
-use Rattle.tko_steps.specs.Invariant.{IsCore, holds}
+use Rattle.tko_steps.specs.Core.{CoreState, abstract_of, after_step_from, follows, reported_from, thread_at, slots_at}
+use Rattle.tko_steps.specs.Invariant.{IsCore, holds, holds_in}
 use Rattle.tko_steps.specs.Lost.{IsChangedSince, IsSlotOfOther, finds_no_slot, is_look}
 use Rattle.tko_steps.specs.Runs.{Moment, OwnStep, StepTaken, Took, World, count_of, steps_in, with_reported}
 use Rattle.tko_steps.specs.Steps.{answer_of, kind_of, kind_of_exchange}
@@ -31,6 +31,8 @@ use Rattle.tko_steps.proofs.OwnLemmas.{act_step}
 use Rattle.tko_steps.proofs.TryLemmas.{exchange-not_look}
 use Rattle.tko_steps.proofs.WiringLemmas.{stepped_from}
 use Rattle.tko_tracker.specs.Tries.{HasTried, IsTurn}
+use Rattle.tko_model.specs.Groups.{group_of, limit_at, limit_of}
+use Rattle.tko_steps.proofs.CoreLemmas.{own-group}
 
 -- ---- the turn of a thread
 
@@ -49,35 +51,41 @@ no-slot-exchange s core thread call phase found new is = and_left _ _ (ap is_loo
 
 -- a look that finds no slot left finds one that another thread holds
 pub slot-held : (s : Settings) (core : CoreState) (thread : ℕ) (call : Call) (phase : Phase) → IsCore core → thread_at core thread ≡ InCall call phase
-    → finds_no_slot s (act_step core thread call phase) ≡ true → IsSlotOfOther core thread
-slot-held s core thread call Start is stands e = cc
-slot-held s core thread call (Read found mark answer) is stands e =
+    → core.settings ≡ s → (group : ℕ) → (act_step core thread call phase).place ≡ place.Soft group
+    → finds_no_slot s (act_step core thread call phase) ≡ true → IsSlotOfOther core thread group
+slot-held s core thread call Start is stands under group at e = cc
+slot-held s core thread call (Read found mark answer) is stands under group at e =
     let no = no-slot-exchange s core thread call (Read found mark answer) found.mark mark refl in cc
-slot-held s core thread call (AtThreshold found) is stands e =
-    let slots = core.shared.slots in
-    let parts = and_parts (ltb slots.firm s.limit) (eqb (slots.firm + slots.held) s.limit) e in
-    let below = ltb-true slots.firm s.limit parts.0 in
-    let all = eqb-true (slots.firm + slots.held) s.limit parts.1 in
-    let one : 1 ≤ count_by holds core.threads = omega (arith, below, all, is.held) in
-    let found_one = passes-count_by holds core.threads NotEnrolled one in
-    record {
+slot-held s core thread call (AtThreshold found) is stands under group at e =
+    let it = core.settings in
+    let own = group_of it call.server in
+    let slots = slots_at core.shared.slots own in
+    let same : own ≡ group = cc in
+    let here : finds_no_slot it (act_step core thread call (AtThreshold found)) ≡ true =
+    ap (λ (settings : Settings). finds_no_slot settings (act_step core thread call (AtThreshold found))) under ∙ e in
+    let parts = and_parts (ltb slots.firm (limit_of it own)) (eqb (slots.firm + slots.held) (limit_of it own)) here in
+    let below = ltb-true slots.firm (limit_of it own) parts.0 in
+    let all = eqb-true (slots.firm + slots.held) (limit_of it own) parts.1 in
+    let one : 1 ≤ count_by (holds_in it own) core.threads = omega (arith, below, all, (own-group core call.server is).held) in
+    let found_one = passes-count_by (holds_in it own) core.threads NotEnrolled one in
+    subst (IsSlotOfOther core thread) same (record {
       holder = found_one.at;
       other = λ same.
-          let mine : holds (thread_at core thread) ≡ true = ap (λ at. holds (thread_at core at)) (sym same) ∙ found_one.passes in
-          let none : holds (thread_at core thread) ≡ false = ap holds stands in
+          let mine : holds_in it own (thread_at core thread) ≡ true = ap (λ at. holds_in it own (thread_at core at)) (sym same) ∙ found_one.passes in
+          let none : holds_in it own (thread_at core thread) ≡ false = ap (holds_in it own) stands in
           cc;
       holds = found_one.passes;
-    }
-slot-held s core thread call (Limit found) is stands e = cc
-slot-held s core thread call (Reserving found slots) is stands e = cc
-slot-held s core thread call (Holding found) is stands e =
+    })
+slot-held s core thread call (Limit found) is stands under group at e = cc
+slot-held s core thread call (Reserving found slots) is stands under group at e = cc
+slot-held s core thread call (Holding found) is stands under group at e =
     let no = no-slot-exchange s core thread call (Holding found) found.mark (Soft call.number) refl in cc
-slot-held s core thread call Firming is stands e = cc
-slot-held s core thread call Losing is stands e = cc
-slot-held s core thread call (Loosening found mark answer) is stands e = cc
-slot-held s core thread call (Loosened found mark answer) is stands e =
+slot-held s core thread call Firming is stands under group at e = cc
+slot-held s core thread call Losing is stands under group at e = cc
+slot-held s core thread call (Loosening found mark answer) is stands under group at e = cc
+slot-held s core thread call (Loosened found mark answer) is stands under group at e =
     let no = no-slot-exchange s core thread call (Loosened found mark answer) found.mark mark refl in cc
-slot-held s core thread call (Emptied answer) is stands e = cc
+slot-held s core thread call (Emptied answer) is stands under group at e = cc
 
 -- ---- a past of this many steps, since which others changed each word of a call
 abbrev other_step : ℕ → Place → StepTaken
@@ -99,7 +107,7 @@ look_step =
     record {
       thread = 0;
       kind = kind.Look;
-      place = place.Soft;
+      place = place.Soft 0;
       found = word.Enrolled 0;
       left = word.Enrolled 0;
       won = true;
@@ -116,8 +124,9 @@ steps-looks : (n : ℕ) → steps_in (looks n) ≡ n
 steps-looks zero = refl
 steps-looks (suc n) = omega (arith, steps-looks n)
 
-abbrev past_of : ℕ → ℕ → ℕ → List Moment
-past_of thread server n = Took (other_step thread (place.Server server)) ∷ Took (other_step thread place.Soft) ∷ looks n
+abbrev past_of : ℕ → ℕ → ℕ → ℕ → List Moment
+past_of thread server group n =
+    Took (other_step thread (place.Server server)) ∷ Took (other_step thread (place.Soft group)) ∷ looks n
 
 count-exchange : (found new : Mark) → count_of (kind_of_exchange found new) ≡ 1
 count-exchange (Up a) (Up b) = refl
@@ -143,19 +152,19 @@ count-act call (Emptied answer) = refl
 
 abbrev pub KnowsAnywhere : Settings → Call → List OwnStep → Phase → Type 0
 KnowsAnywhere s call steps phase =
-    (w : World) (thread : ℕ) → IsChangedSince thread (place.Server call.server) w.past → IsChangedSince thread place.Soft w.past
+    (w : World) (thread : ℕ) → IsChangedSince thread (place.Server call.server) w.past → IsChangedSince thread (place.Soft (group_of s call.server)) w.past
     → KnowsTries s w thread call steps phase
 
 pub begins-anywhere : (s : Settings) (call : Call) → call.lost ≡ 0 → KnowsAnywhere s call [] Start
 begins-anywhere s call none w thread server soft = (tt, record { count = sym none; holds = refl; looked = refl })
 
 module _ (s : Settings) (w new : World) (thread other : ℕ) (call : Call) (steps : List OwnStep)
-    (server : IsChangedSince other (place.Server call.server) new.past) (soft : IsChangedSince other place.Soft new.past) where
+    (server : IsChangedSince other (place.Server call.server) new.past) (soft : IsChangedSince other (place.Soft (group_of s call.server)) new.past) where
   looked : (held : Bool) (found : ServerState) → HasLooked s w thread call.server call.lost steps held found
       → HasLooked s new other call.server call.lost steps held found
   looked held found has = record { count = has.count; holds = has.holds; looked = has.looked; since = inr server }
 
-  counted : (slots : Slots) → HasCounted s w thread steps slots → HasCounted s new other steps slots
+  counted : (slots : Slots) → HasCounted s w thread (group_of s call.server) steps slots → HasCounted s new other (group_of s call.server) steps slots
   counted slots has = record { looked = has.looked; since = inr soft }
 
   elsewhere : (phase : Phase) → Tries s w thread call steps phase → Tries s new other call steps phase
@@ -180,7 +189,7 @@ module _ (s : Settings) (core : CoreState) (thread : ℕ) (call : Call) (phase :
     (inside : thread < length core.threads) (stands : thread_at core thread ≡ InCall call phase) (settings : core.settings ≡ s)
     (knows : KnowsAnywhere s call steps phase) where
   abbrev world : World
-  world = record { core = core; past = past_of thread call.server n }
+  world = record { core = core; past = past_of thread call.server (group_of s call.server) n }
 
   abbrev own : OwnStep
   own = record { at = n + 1; step = act_step core thread call phase }
@@ -191,7 +200,7 @@ module _ (s : Settings) (core : CoreState) (thread : ℕ) (call : Call) (phase :
   server-changed : IsChangedSince thread (place.Server call.server) world.past
   server-changed = inl (record { other = apart; place = refl; changed = λ e. cc })
 
-  soft-changed : IsChangedSince thread place.Soft world.past
+  soft-changed : IsChangedSince thread (place.Soft (group_of s call.server)) world.past
   soft-changed = inr (refl, inl (record { other = apart; place = refl; changed = λ e. cc }))
 
   own-is : act_own world thread call phase ≡ own

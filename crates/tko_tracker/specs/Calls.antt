@@ -6,6 +6,7 @@ use Rattle.tko_model.specs.declared.mark.Mark.{Mark}
 use Rattle.tko_model.specs.declared.mark.Reply.{Reply}
 use Rattle.tko_model.specs.declared.mark.Reply.TheVariants as reply
 use Rattle.tko_model.specs.declared.state.ServerState.{ServerState}
+use Rattle.tko_steps.specs.declared.step.Place.TheVariants as place
 use Rattle.tko_steps.specs.declared.phase.Call.{Call}
 use Rattle.tko_steps.specs.declared.phase.Phase.{Phase}
 use Rattle.tko_steps.specs.declared.phase.Phase.TheVariants.{Start, Limit}
@@ -91,12 +92,14 @@ pub record IsStep (before : Pass) (call : Call) (phase : Phase) (read : Observed
         is_marked_state found.mark ≡ true → read ≡ seen.Done true
 
 -- the same with the step itself, which is the turn of its thread; where it is a look that finds no
--- slot left, though more marks could be settled, another thread holds one
+-- slot left of a group, though more marks could be settled there, another thread holds one
 pub record IsTaken (before : Pass) (call : Call) (phase : Phase) (taken : Taken) : Type 0 where
   pub step : IsStep before call phase taken.read taken.after
   pub turn : IsTurn step.takes.core step.takes.is_found.thread taken.step
-  pub held : finds_no_slot before.settings taken.step ≡ true →
-      IsSlotOfOther step.takes.core step.takes.is_found.thread
+  pub held : (group : ℕ) →
+      taken.step.place ≡ place.Soft group →
+      finds_no_slot before.settings taken.step ≡ true →
+      IsSlotOfOther step.takes.core step.takes.is_found.thread group
   -- where it is an exchange of the server's word that is lost, or a second look that finds another
   -- word than the first, other threads changed the server since it was as expected
   pub lost : (found : ServerState) (mark : Mark) →

@@ -2,7 +2,7 @@
 use Rattle.std.specs.Prelude.{◌≡◌, ℕ, ◌<◌, false, List, [], ◌∷◌, length, map, count_by, All}
 use Rattle.tko_model.specs.declared.state.ServerState.{ServerState}
 use Rattle.tko_steps.specs.declared.phase.ThreadState.TheVariants.{Idle}
-use Rattle.tko_steps.specs.Core.{has_number}
+use Rattle.tko_steps.specs.Core.{has_number, no_slots, slots_at}
 use Rattle.tko_steps.specs.Steps.{is_marked_state}
 use Rattle.tko_table.specs.declared.pass.Change.{Change}
 use Rattle.tko_table.specs.declared.pass.Pass.{Pass}
@@ -10,6 +10,7 @@ use Rattle.tko_table.specs.Closing.{IsDone, Left}
 use Rattle.tko_table.specs.History.{Replays, changes_in, made_by}
 use Rattle.tko_table.specs.Passes.{longest_seen, with_seen}
 use Rattle.tko_tracker.specs.Seated.{Seated, TrackerId}
+use Rattle.tko_model.specs.Groups.{groups}
 
 -- the pass once these two met: it has then seen the more of what they had seen
 abbrev pub met : Seated → Seated → Seated → Seated
@@ -35,7 +36,8 @@ HasItsCalls history it =
     it.pass.state ≡ Idle number → made_by number history ≡ changes_in number it.pass.mine
 
 -- what a tracker is at its end: its servers are the replay of one history, in which each pass'
--- changes stand once and in order, and no others; no server is marked, and no slot is taken
+-- changes stand once and in order, and no others; no server is marked, and no slot of any
+-- group is taken
 pub record IsFinal (tracker : TrackerId) (passes : List Seated) (left : Left) : Type 0 where
   pub settings : left.settings ≡ tracker.settings
   pub history : List Change
@@ -44,8 +46,8 @@ pub record IsFinal (tracker : TrackerId) (passes : List Seated) (left : Left) : 
   pub drawn : All (λ change. change.number < tracker.settings.threads) history
   pub unmarked :
       All (λ (server : ServerState). is_marked_state server.mark ≡ false) left.shared.servers
-  pub firm : left.shared.slots.firm ≡ 0
-  pub held : left.shared.slots.held ≡ 0
+  pub free : (group : ℕ) → group < groups tracker.settings →
+      slots_at left.shared.slots group ≡ no_slots
 
 -- Seats that are joined.
 

@@ -45,7 +45,7 @@ pub record Stepped
     pub was : before ≡ old ∷ []
     pub is : after ≡ new ∷ []
     pub step : IsStep old call phase read new
-    pub sound : IsSound s read
+    pub sound : IsSound s call.server read
 
 -- the view's one pass is that of a thread of this number, which makes no call
 pub record CanCall (s : Settings) (number : ℕ) (view : List Pass) : Type 0 where

@@ -1,5 +1,7 @@
 //! Passes that meet, and the end of a tracker.
-ghost use Rattle.std.specs.Prelude.{◌≡◌, ◌<◌, true, false, All, length, MatchResult};
+ghost use Rattle.tko_model.specs.Groups.{groups};
+ghost use Rattle.tko_steps.specs.Core.{no_slots, slots_at};
+ghost use Rattle.std.specs.Prelude.{◌≡◌, ◌<◌, true, false, All, length, MatchResult, ℕ};
 ghost use Rattle.tko_model.specs.Tracker.{server_at};
 ghost use Rattle.tko_steps.specs.Core.{has_number};
 ghost use Rattle.tko_table.specs.Steps.{view_of};
@@ -42,8 +44,9 @@ impl Tracker {
 #[derive(Drop)]
 pub struct Final {
     words: ClosedWords,
-    ghost firm: { words.shared.slots.firm ≡ 0 },
-    ghost held: { words.shared.slots.held ≡ 0 },
+    ghost free: { (group : ℕ) → group < groups words.settings →
+        slots_at words.shared.slots group ≡ no_slots },
+    ghost some: { 0 < groups words.settings },
 }
 
 impl Model for Final {
@@ -74,7 +77,7 @@ impl Final {
     pub fn soft(&self) -> (u32, u32)
         ensures { result ≡ (0, 0) }
     {
-        let slots = self.words.slots();
+        let slots = self.words.slots(0);
         (slots.firm, slots.held)
     }
 }

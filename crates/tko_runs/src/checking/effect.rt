@@ -3,11 +3,11 @@ ghost use Rattle.std.specs.Prelude.{◌≡◌, ◌+◌, ◌<◌, ◌^◌, ◌↔
 ghost use Rattle.tko_model.specs.Ranges.{IsWithinRanges};
 ghost use Rattle.tko_model.specs.Tracker.{changed, server_at};
 ghost use Rattle.tko_runs.specs.CheckStates.{AllValid, Shows, transition_of, with_change};
-ghost use Rattle.tko_runs.specs.States.{IsPlace, written};
+ghost use Rattle.tko_runs.specs.States.{HasServer, written};
 
 use crate::checking::point::CheckedCall;
 use crate::checking::words::is_same;
-use tko_model::{Mark, Reply, ServerState, Settings, Transition, count_softs};
+use tko_model::{Mark, Reply, ServerState, Settings, Transition, has_room};
 use tko_steps::{Place, Word};
 
 /// What a step shows of a call.
@@ -33,7 +33,7 @@ pub(crate) fn effect_of(
     requires settings { IsWithinRanges settings.now }
     requires valid { AllValid settings.now servers.now }
     requires call { call.now.server < length servers.now }
-    requires place { IsPlace servers.now place }
+    requires place { HasServer servers.now place }
     ensures at { result.at ≡ at }
     ensures shows { Shows settings.now servers.now call.now
         (written servers.now place left) result }
@@ -43,7 +43,7 @@ pub(crate) fn effect_of(
             Word::Server(left) => effect_on(settings, servers, call, at, server, left),
             Word::Soft(_) | Word::Enrolled(_) => quiet_effect(settings, servers, call, at),
         },
-        Place::Soft | Place::Enrolment => quiet_effect(settings, servers, call, at),
+        Place::Soft(_) | Place::Enrolment => quiet_effect(settings, servers, call, at),
     }
 }
 
@@ -103,7 +103,7 @@ fn own_transition(settings: &Settings, servers: &[ServerState], call: &CheckedCa
     ensures value { result ≡ transition_of settings.now servers.now call.now }
     ensures stamp { (server_at servers.now call.now.server).stamp + 1 < 2 ^ 64 }
 {
-    let room = settings.has_room(count_softs(servers));
+    let room = has_room(servers, settings, call.server);
     Transition::of(settings, room, call.number, call.op, servers[call.server])
 }
 

@@ -1,6 +1,7 @@
 //! What the check of a run keeps of the events so far.
 ghost use Rattle.std.specs.Prelude.{◌≡◌, ◌+◌, ◌<◌, ◌^◌, ◌↔◌, true, length, IfOk, IfErr, OnOk};
 ghost use Rattle.tko_model.specs.Ranges.{IsWithinRanges};
+ghost use Rattle.tko_runs.specs.Words.{room_at};
 ghost use Rattle.tko_runs.specs.States.{CanCome, HasCall, IsPlace, entry_at};
 ghost use Rattle.tko_runs.specs.Orders.{FollowsAt};
 ghost use Rattle.tko_steps.specs.Core.{word_at};
@@ -9,7 +10,7 @@ ghost use Rattle.tko_runs.specs.CheckStates.{AreJudged, HasEntered, HasFollowed,
 use crate::checking::calls::Calls;
 use crate::checking::effect::effect_of;
 use crate::checking::point::{CheckedCall, point_of};
-use crate::checking::words::can_leave;
+use crate::checking::words::{Room, can_leave};
 use crate::run::state::State;
 use crate::{Event, Order, RunFault};
 use std::alloc::Global;
@@ -88,7 +89,7 @@ impl CheckState {
         requires state { IsCheckState self.old }
         requires thread { thread < length self.old.run.threads }
         requires call { HasCall (entry_at self.old.run thread) }
-        requires place { IsPlace self.old.run.words.servers place }
+        requires place { IsPlace self.old.run.words place }
         requires room { self.old.steps + 1 < 2 ^ 64 }
         ensures ok { OnOk result
             (HasFollowed self.old thread kind place found left answer self.new) }
@@ -128,15 +129,32 @@ fn follows(
     found: Word,
     left: Word,
 ) -> bool
-    requires { IsPlace run.now.words.servers place }
+    requires { IsPlace run.now.words place }
     ensures { (result ≡ true) ↔ FollowsAt settings.now run.now kind place found left }
 {
-    is_word(run, place, found) && can_leave(settings, run.slots().held, kind, found, left)
+    is_word(run, place, found)
+        && can_leave(settings, room_at(settings, run, place), kind, found, left)
+}
+
+/// The room of the group of a place.
+fn room_at(settings: &Settings, run: &State, place: Place) -> Room
+    ensures held { result.held ≡ (room_at settings.now run.now.words.slots place).held }
+    ensures limit { result.limit ≡ (room_at settings.now run.now.words.slots place).limit }
+{
+    let group = match place {
+        Place::Server(server) => settings.group_of(server),
+        Place::Soft(group) => group,
+        Place::Enrolment => 0,
+    };
+    Room {
+        held: run.slots(group).held,
+        limit: settings.limit_of(group),
+    }
 }
 
 /// Whether this is the word at that place.
 fn is_word(run: &State, place: Place, found: Word) -> bool
-    requires { IsPlace run.now.words.servers place }
+    requires { IsPlace run.now.words place }
     ensures { (result ≡ true) ↔ (found ≡ word_at run.now.words place) }
 {
     found == run.word_at(place)

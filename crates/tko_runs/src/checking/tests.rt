@@ -58,7 +58,7 @@ fn on_slots(kind: Kind, firm: u32, held: u32) -> Event {
     Event::Step {
         thread: 1,
         kind,
-        place: Place::Soft,
+        place: Place::Soft(0),
         found: Word::Soft(Slots { firm: 1, held: 0 }),
         left: Word::Soft(Slots { firm, held }),
         answer: None,

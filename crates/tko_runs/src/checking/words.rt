@@ -7,17 +7,33 @@ use tko_model::{Mark, ServerState, Settings};
 use tko_steps::{Kind, Slots, Word};
 use tko_word::STAMP_END;
 
-/// Whether a step of this kind can leave this of what it finds, while `held` slots are held.
-pub(crate) fn can_leave(settings: &Settings, held: u32, kind: Kind, found: Word, left: Word) -> bool
-    ensures { (result ≡ true) ↔ CanLeave settings.now held kind found left }
+/// What the group of a word has room for.
+#[derive(Clone, Copy)]
+pub(crate) struct Room {
+    /// How many of its slots are held.
+    pub held: u32,
+    /// How many marks and slots it may have.
+    pub limit: u32,
+}
+
+/// Whether a step of this kind can leave this of what it finds, where its group has this room.
+pub(crate) fn can_leave(
+    settings: &Settings,
+    room: Room,
+    kind: Kind,
+    found: Word,
+    left: Word,
+) -> bool
+    ensures { (result ≡ true) ↔ CanLeave settings.now
+        (record { held = room.held; limit = room.limit }) kind found left }
 {
     match found {
         Word::Server(found) => match left {
-            Word::Server(left) => can_leave_server(settings, held, kind, found, left),
+            Word::Server(left) => can_leave_server(settings, room.held, kind, found, left),
             Word::Soft(_) | Word::Enrolled(_) => false,
         },
         Word::Soft(found) => match left {
-            Word::Soft(left) => can_leave_slots(settings, kind, found, left),
+            Word::Soft(left) => can_leave_slots(room.limit, kind, found, left),
             Word::Server(_) | Word::Enrolled(_) => false,
         },
         Word::Enrolled(found) => match left {
@@ -101,12 +117,12 @@ fn is_mark_of(settings: &Settings, mark: Mark) -> bool
     }
 }
 
-fn can_leave_slots(settings: &Settings, kind: Kind, found: Slots, left: Slots) -> bool
-    ensures { (result ≡ true) ↔ CanLeaveSlots settings.now kind found left }
+fn can_leave_slots(limit: u32, kind: Kind, found: Slots, left: Slots) -> bool
+    ensures { (result ≡ true) ↔ CanLeaveSlots limit kind found left }
 {
     match kind {
         Kind::Look => left == found,
-        Kind::Reserve => left == found || is_reserved(settings, found, left),
+        Kind::Reserve => left == found || is_reserved(limit, found, left),
         Kind::Shift => is_settled(found, left) || is_settled(left, found),
         Kind::Give => is_given(found, left),
         Kind::Count | Kind::Mark | Kind::Own | Kind::Enrol => false,
@@ -114,12 +130,12 @@ fn can_leave_slots(settings: &Settings, kind: Kind, found: Slots, left: Slots) -
 }
 
 /// Whether one more slot is held, where one was left.
-fn is_reserved(settings: &Settings, found: Slots, left: Slots) -> bool
-    ensures { (result ≡ true) ↔ IsReserved settings.now found left }
+fn is_reserved(limit: u32, found: Slots, left: Slots) -> bool
+    ensures { (result ≡ true) ↔ IsReserved limit found left }
 {
     left.firm == found.firm
         && found.held.checked_add(1) == Some(left.held)
-        && found.firm as u64 + (found.held as u64) < settings.limit as u64
+        && found.firm as u64 + (found.held as u64) < limit as u64
 }
 
 /// Whether a held slot became a settled mark.

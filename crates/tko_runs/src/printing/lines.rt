@@ -83,7 +83,7 @@ fn append_place(out: &mut Vec<u8>, place: Place) -> Result<(), NoMemory>
 {
     match place {
         Place::Server(server) => append_number(out, b"server:", server as u64),
-        Place::Soft => Ok(out.extend_from_slice(b"soft")?),
+        Place::Soft(_) => Ok(out.extend_from_slice(b"soft")?),
         Place::Enrolment => Ok(out.extend_from_slice(b"enrolment")?),
     }
 }

@@ -3,6 +3,7 @@
 //! This is the one fold over events: it says which event can come next, which word stands, and what
 //! the words are at the end.
 ghost use Rattle.std.specs.Prelude.{◌≡◌, ◌↔◌, ◌<◌, ◌+◌, None, true, length, IfOk};
+ghost use Rattle.tko_steps.specs.Core.{slots_at};
 ghost use Rattle.tko_runs.specs.States.{CanCome, HasCall, IsEnrolment, IsIdle, IsPlace, entry_at, number_of, opened_state, state_after, with_answer, with_begin, with_enrolment, with_word};
 ghost use Rattle.tko_steps.specs.Core.{is_call_step, word_at};
 
@@ -21,11 +22,14 @@ pub(crate) enum ThreadEntry {
     InCall { number: u32 },
 }
 
+/// A soft word with no slot taken.
+const NO_SLOTS: Slots = Slots { firm: 0, held: 0 };
+
 /// The words, and the table of the threads. Contracts see a `RunState`.
 #[derive(Drop)]
 pub(crate) struct State {
     servers: Vec<ServerState>,
-    slots: Slots,
+    slots: Vec<Slots>,
     enrolled: u32,
     threads: Vec<ThreadEntry>,
 }
@@ -38,7 +42,7 @@ impl Model for State {
     ghost view = { λ state. record {
       words = record {
         servers = state.servers.items;
-        slots = state.slots;
+        slots = state.slots.items;
         enrolled = state.enrolled;
       };
       threads = state.threads.items;
@@ -51,7 +55,7 @@ impl State {
     {
         Ok(State {
             servers: opened_servers(alloc, settings)?,
-            slots: Slots { firm: 0, held: 0 },
+            slots: vec![in alloc; NO_SLOTS; settings.groups()]?,
             enrolled: 0,
             threads: vec![in alloc; ThreadEntry::NotEnrolled; settings.threads as usize]?,
         })
@@ -64,20 +68,25 @@ impl State {
         self.servers.as_slice()
     }
 
-    pub fn slots(&self) -> Slots
-        ensures { result ≡ self.now.words.slots }
+    /// The counts of the soft word of a group; of one that isn't there, none.
+    pub fn slots(&self, group: usize) -> Slots
+        ensures { result ≡ slots_at self.now.words.slots group }
     {
-        self.slots
+        if group < self.slots.len() {
+            self.slots[group]
+        } else {
+            NO_SLOTS
+        }
     }
 
     /// What the word at a place holds.
     pub fn word_at(&self, place: Place) -> Word
-        requires { IsPlace self.now.words.servers place }
+        requires { IsPlace self.now.words place }
         ensures { result ≡ word_at self.now.words place }
     {
         match place {
             Place::Server(server) => Word::Server(self.servers[server]),
-            Place::Soft => Word::Soft(self.slots),
+            Place::Soft(group) => Word::Soft(self.slots[group]),
             Place::Enrolment => Word::Enrolled(self.enrolled),
         }
     }
@@ -145,11 +154,12 @@ impl State {
 
     /// Whether there is such a place.
     fn is_place(&self, place: Place) -> bool
-        ensures { (result ≡ true) ↔ IsPlace self.now.words.servers place }
+        ensures { (result ≡ true) ↔ IsPlace self.now.words place }
     {
         match place {
             Place::Server(server) => server < self.servers.len(),
-            Place::Soft | Place::Enrolment => true,
+            Place::Soft(group) => group < self.slots.len(),
+            Place::Enrolment => true,
         }
     }
 
@@ -223,7 +233,7 @@ impl State {
 
     /// Writes the word that a step left.
     fn write(&mut self, place: Place, left: Word)
-        requires { IsPlace self.old.words.servers place }
+        requires { IsPlace self.old.words place }
         ensures { self.new ≡ with_word self.old place left }
     {
         match place {
@@ -231,8 +241,8 @@ impl State {
                 Word::Server(state) => self.servers[server] = state,
                 Word::Soft(_) | Word::Enrolled(_) => {}
             },
-            Place::Soft => match left {
-                Word::Soft(slots) => self.slots = slots,
+            Place::Soft(group) => match left {
+                Word::Soft(slots) => self.slots[group] = slots,
                 Word::Server(_) | Word::Enrolled(_) => {}
             },
             Place::Enrolment => {}

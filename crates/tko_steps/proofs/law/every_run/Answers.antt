@@ -4,7 +4,7 @@ use Rattle.tko_steps.specs.Legal.{ChangesAtMostOnce, IsFullAtLimit, IsLegal}
 use Rattle.tko_steps.specs.Lost.{ExpectsWhatItSaw, HasLostEachTry}
 use Rattle.tko_steps.specs.Runs.{Call, calls_of, run}
 use Rattle.tko_steps.proofs.ChainLemmas.{ChangesAreOwn-run, IsChain-run}
-use Rattle.tko_steps.proofs.EveryCallLemmas.{SoundCalls-run, softs-le}
+use Rattle.tko_steps.proofs.EveryCallLemmas.{SoundCalls-run, softs_in-le}
 use Rattle.tko_steps.proofs.KindLemmas.{HaveKinds-core, NoneIsLost-run}
 use Rattle.tko_steps.proofs.LegalLemmas.{IsSoundCall}
 use Rattle.tko_steps.proofs.LoserLemmas.{LosesToOthers-run}
@@ -13,10 +13,10 @@ use Rattle.tko_steps.proofs.OtherLemmas.{TriedCalls-run}
 use Rattle.tko_steps.proofs.CostLemmas.{ShortCalls-run}
 use Rattle.tko_steps.proofs.NumberLemmas.{Numbers-run}
 use Rattle.tko_steps.proofs.OwnerLemmas.{OwnersAnswers-run}
-use Rattle.tko_steps.proofs.RunLemmas.{CountsSlots-core, HasOneResponsible-core, Holds-run, OwnsItsMarks-world}
-use Rattle.std.proofs.Common.{◌≤◌, subst}
+use Rattle.tko_steps.proofs.RunLemmas.{CountSlots-core, HasOneResponsible-core, Holds-run, OwnsItsMarks-world}
+use Rattle.std.proofs.Common.{subst}
 use Rattle.tko_model.specs.declared.settings.Settings.{Settings}
-use Rattle.tko_model.specs.Tracker.{softs}
+use Rattle.tko_steps.specs.Safe.{AreWithinLimits}
 use Rattle.tko_steps.specs.Core.{abstract_of}
 use Rattle.tko_steps.proofs.law.every_run.Goals as goal
 
@@ -59,7 +59,7 @@ pub returns-clause-steps : goal.returns-clause-steps
 returns-clause-steps c = ShortCalls-run
 
 pub returns-clause-slots : goal.returns-clause-slots
-returns-clause-slots c = λ s ranges turns. CountsSlots-core (run s turns).core (Holds-run s ranges turns).core
+returns-clause-slots c = λ s ranges turns. CountSlots-core (run s turns).core (Holds-run s ranges turns).core
 
 pub returns-clause-distinct : goal.returns-clause-distinct
 returns-clause-distinct c = λ s ranges turns. (Holds-run s ranges turns).core.numbers
@@ -79,8 +79,8 @@ returns-clause-core c = λ s ranges turns. (Holds-run s ranges turns).core
 pub returns-clause-limit : goal.returns-clause-limit
 returns-clause-limit c = λ s ranges turns.
     let holds = Holds-run s ranges turns in
-    let P : Settings → Type 0 = λ settings. softs (abstract_of (run s turns).core) ≤ settings.limit in
-    subst P holds.settings (softs-le (run s turns).core holds.core)
+    let P : Settings → Type 0 = λ settings. AreWithinLimits settings (abstract_of (run s turns).core) in
+    subst P holds.settings (λ group below. softs_in-le (run s turns).core group holds.core below)
 
 pub returns-clause-kinds : goal.returns-clause-kinds
 returns-clause-kinds c = λ s ranges turns. HaveKinds-core (run s turns).core (Holds-run s ranges turns).core

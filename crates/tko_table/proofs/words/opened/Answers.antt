@@ -1,9 +1,14 @@
-use Rattle.std.proofs.Common.{rules, ap, set}
-use Rattle.tko_table.proofs.OpenLemmas.{words-opened}
+use Rattle.std.proofs.Common.{rules}
+use Rattle.tko_model.proofs.GroupLemmas.{groups-le}
+use Rattle.tko_table.proofs.OpenLemmas.{words-opened, words-resized}
 use Rattle.tko_table.proofs.words.opened.Goals as goal
 
-pub returns : goal.returns
-returns c =
-    words-opened c.args.settings.now _ c.pack-server.result c.pack_soft.result
-    (ap (λ made. set (set made 0 c.pack_soft.result) 1 0) (search rules))
+pub count_words-requires : goal.count_words-requires
+count_words-requires c = groups-le c.args.settings.now c.requires
+
+pub returns-clause-opened : goal.returns-clause-opened
+returns-clause-opened c =
+    let s = c.args.settings.now in
+    words-opened s _ c.pack-server.result c.pack_soft.result
+    (words-resized s _ _ _ _ c.pack-server.result c.pack_soft.result c.in_ok-resize.ensures.items (search rules) (search rules) c.count_words.ensures)
     c.pack-server.ensures.valid c.pack-server.ensures.back c.pack_soft.ensures.firm c.pack_soft.ensures.held

@@ -1,4 +1,7 @@
-use Rattle.std.proofs.Common.{rules, ◌∙◌, subst}
+use Rattle.std.proofs.Common.{rules, ◌<◌, ◌∙◌, arith, subst, sym}
+use Rattle.tko_model.specs.Groups.{groups}
+use Rattle.tko_model.specs.declared.settings.Settings.{Settings}
+use Rattle.tko_model.proofs.GroupLemmas.{group_of-lt}
 use Rattle.tko_table.specs.Steps.{view_of}
 use Rattle.tko_tracker.specs.Closing.{HoldsEachOnce, IsFinal}
 use Rattle.tko_tracker.specs.Seated.{TrackerId, tracker_of}
@@ -18,4 +21,13 @@ returns c =
       holds,
       final-is (tracker_of c.tracker.inside.words) c.args.passes.items (view_of c.joined-seat.result) c.close.result c.joined-seat.ensures.joined
           c.close.ensures.settings c.close.ensures.left,
+    )
+
+pub invariant_of-result : goal.invariant_of-result
+invariant_of-result c =
+    let words = c.tracker.inside.words in
+    let same = c.close.ensures.settings in
+    let some : 0 < groups words.settings = omega (arith, group_of-lt words.settings 0 words.ranges) in (
+      λ group below. c.close.ensures.left.free group (subst (λ (it : Settings). group < groups it) same below),
+      (subst (λ (it : Settings). 0 < groups it) (sym same) some, tt),
     )

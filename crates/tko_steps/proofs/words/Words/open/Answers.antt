@@ -4,5 +4,5 @@ use Rattle.tko_steps.proofs.words.Words.open.Goals as goal
 
 pub returns : goal.returns
 returns c =
-    opened_is c.args.settings.now c.pack-server.result c.pack_soft.result c.in_ok-health.health.items (search rules)
+    opened_is c.args.settings.now c.pack-server.result c.pack_soft.result c.in_ok-health.health.items c.in_ok-soft.soft.items (search rules) (search rules)
     c.pack-server.ensures.back c.pack_soft.ensures.firm c.pack_soft.ensures.held

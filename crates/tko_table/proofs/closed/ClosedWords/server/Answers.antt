@@ -9,13 +9,13 @@ use Rattle.tko_table.proofs.closed.ClosedWords.server.Goals as goal
 pub unpack-mark-requires : goal.unpack-mark-requires
 unpack-mark-requires c =
     let words = slots_items c.self.inside.table.words in
-    let there = server-inside c.self.inside.settings (shared_in words) c.args.self.now c.args.server words c.self.view_is (sym (slots_counts c.self.inside.table.words).0 ∙ c.self.inside.count) c.requires in
-    closed-word words c.place_of.result c.args.server c.word.result c.place_of.ensures c.word.ensures there c.self.invariant
+    let there = server-inside c.self.inside.settings (shared_in c.self.inside.settings words) c.args.self.now c.args.server words c.self.view_is (sym (slots_counts c.self.inside.table.words).0 ∙ c.self.inside.count) c.requires in
+    closed-word c.self.inside.settings words c.place_of.result c.args.server c.word.result c.place_of.ensures c.word.ensures there c.self.invariant
 
 pub returns : goal.returns
 returns c =
     let words = slots_items c.self.inside.table.words in
-    let there = server-inside c.self.inside.settings (shared_in words) c.args.self.now c.args.server words c.self.view_is (sym (slots_counts c.self.inside.table.words).0 ∙ c.self.inside.count) c.requires in
+    let there = server-inside c.self.inside.settings (shared_in c.self.inside.settings words) c.args.self.now c.args.server words c.self.view_is (sym (slots_counts c.self.inside.table.words).0 ∙ c.self.inside.count) c.requires in
     sym c.unpack-mark.ensures.read
-    ∙ closed-server words c.place_of.result c.args.server c.word.result c.place_of.ensures c.word.ensures there
+    ∙ closed-server c.self.inside.settings words c.place_of.result c.args.server c.word.result c.place_of.ensures c.word.ensures there
     ∙ ap (λ (it : Left). server_at it.shared.servers c.args.server) c.self.view_is

@@ -5,7 +5,7 @@ use Rattle.tko_table.proofs.words.Words.whole.Goals as goal
 
 pub of_words-requires : goal.of_words-requires
 of_words-requires c =
-    opened-kept c.args.settings _ (search rules) (subst (IsOpened c.args.settings) (search rules) c.in_ok-words.ensures)
+    opened-kept c.args.settings _ (search rules) (subst (IsOpened c.args.settings) (search rules) c.in_ok-words.ensures.opened)
 
 pub returns-in-Err-clause-settings : goal.returns-in-Err-clause-settings
 returns-in-Err-clause-settings c = λ fault.
