@@ -163,8 +163,8 @@ class Metrics(ServerTest):
         with proxy.client() as client:
             self.assertEqual(client.ask(b"get a\r\n"), b"END\r\n")
             numbers = self.numbers(port)
-            # (the connection that asks is open beside those that are seen from outside)
-            self.assertEqual(numbers["process_open_fds"], proxy.files() + 1)
+            # (the connection that asked was open too; it is closed soon after its answer)
+            wait_until(lambda: numbers["process_open_fds"] == proxy.files() + 1, 5, "its descriptors were counted")
             self.assertEqual(numbers["process_max_fds"], 200)
             resident = proxy.status("VmRSS") * 1024
             self.assertTrue(0.5 * resident < numbers["process_resident_memory_bytes"] < 2 * resident, (numbers, resident))
