@@ -114,5 +114,8 @@ class RefusedMemory(ServerTest):
                 break
             noted += errors.endswith(b"note: memory ran out in a session or in a round\n")
             self.assertTrue(status == 0 or status == 1 and errors.endswith(b"fault: memory\n"), f"call {call}: {errors}")
+            # No client is cut short in silence, also not one that is closed as it is accepted.
+            if status == 0 and reply != whole:
+                self.assertIn(b" clients sessions=1 faults=1\n", errors, f"call {call}")
         self.assertEqual((reply, status), (whole, 0))
         self.assertGreater(noted, 0)
