@@ -66,7 +66,8 @@ pub data IsFirst (request : Request) (waiting : ℕ) (one : OneKey) : Type 0 whe
 
 -- it begins so
 abbrev pub BeginsKeys : Request → ℕ → Answer → Type 0
-BeginsKeys request waiting at = (one : OneKey) × (at ≡ answer.Next one) × IsFirst request waiting one
+BeginsKeys request waiting at =
+    (one : OneKey) × (at ≡ answer.Next one) × IsFirst request waiting one
 
 -- how the answer to a request begins: the proxy answers it itself; or a key is to be asked for
 pub data Begins {H L T C : Type 0} (steps : H → HealthItem → H → Type 0) (request : Request)
@@ -109,7 +110,8 @@ pub data Joins (request : Request) (begin : ℕ) (left : List (List ℕ)) (trail
       → outbox' ≡ take begin outbox ++ reply_text trail
       → Joins request begin left trail outbox at outbox'
   values : IsSome (values_in (answer_of trail))
-      → JoinsNext request begin left (outbox ++ unwrap_or (values_in (answer_of trail)) []) at outbox'
+      → JoinsNext request begin left
+          (outbox ++ unwrap_or (values_in (answer_of trail)) []) at outbox'
       → Joins request begin left trail outbox at outbox'
 
 -- what the response to a key is to the reply

@@ -59,8 +59,8 @@ HasNoMetrics options _ = ⊥
 
 module _ {O : Type 0} (takes : O → List ℕ → O → Type 0) (failures : O → ℕ) where
   -- why it fails: the options name nothing to run on, or nothing can listen there or where the
-  -- metrics are asked for, and then nothing was written; the outlet failed; accepting failed after `ready`; or memory ran out, and then
-  -- `ready` went out or nothing
+  -- metrics are asked for, and then nothing was written; the outlet failed; accepting failed after
+  -- `ready`; or memory ran out, and then `ready` went out or nothing
   abbrev pub ServeFails : ServeOptions → O → O → Fault → Type 0
   ServeFails options from to fault.Listen =
       (NoPlan options fault.Listen ⊎ HasPlan options) × (to ≡ from)

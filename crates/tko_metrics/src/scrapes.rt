@@ -31,8 +31,8 @@ pub struct Scrapes {
     names: Vec<String>,
 }
 
-/// Keys for the tables of a request's headers. A request has few headers, so it does not matter that
-/// its sender knows them.
+/// Keys for the tables of a request's headers. A request has few headers, so it does not matter
+/// that its sender knows them.
 struct KnownKeys;
 
 impl RandomSource for KnownKeys {

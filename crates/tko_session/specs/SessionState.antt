@@ -156,8 +156,8 @@ pub data IsBehind {W : Type 0} (cut : Request → W → W → Type 0) (items : L
       → cut it reached new.parts → new.state.owes ≡ true → IsBehind cut items left reached new
 
 module _ {W : Type 0} (effects : Effects W) where
-  -- the counts of sends rose by the sends in the trails of these events, the counts of probes by the
-  -- probes in their rounds, and by nothing else
+  -- the counts of sends rose by the sends in the trails of these events, the counts of probes by
+  -- the probes in their rounds, and by nothing else
   pub record CountsRise (old : W) (events : List Event) (new : W) : Type 0 where
     pub sends : (server : ℕ) → effects.sent new server
         ≡ effects.sent old server + sends_to server (trails_of (turns_of events))

@@ -170,7 +170,8 @@ seen_by s shared server action = seen_in action (word_at shared (place_of s serv
 abbrev pub IsOnOneWord : Settings → Shared → ℕ → Action → Type 0
 IsOnOneWord s shared server action =
     let at = place_of s server action in
-    shared_after s shared server action ≡ with_word shared at (word_after action (word_at shared at))
+    shared_after s shared server action
+      ≡ with_word shared at (word_after action (word_at shared at))
 
 -- the words after a step on the soft word of this group
 abbrev pub with_soft_words : Shared → ℕ → Action → Shared

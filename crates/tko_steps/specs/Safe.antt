@@ -1,6 +1,6 @@
 -- What holds in each state of each run: the soft word of each group counts the soft marks and the
--- slots that calls hold there, never past the group's limit, and each thread owns exactly the servers
--- whose marks name it.
+-- slots that calls hold there, never past the group's limit, and each thread owns exactly the
+-- servers whose marks name it.
 use Rattle.std.specs.Prelude.{◌≡◌, ◌↔◌, ℕ, ◌+◌, ◌<◌, ◌≤◌, true, nat_lt, if◌then◌else◌, List, count_by, Some}
 use Rattle.tko_model.specs.declared.settings.Settings.{Settings}
 use Rattle.tko_model.specs.declared.state.ServerState.{ServerState}
@@ -14,7 +14,8 @@ use Rattle.tko_steps.specs.Runs.{World, owns}
 pub record CountsSlots (core : CoreState) (group : ℕ) : Type 0 where
   -- settled marks are soft marks, and each other soft mark has a held slot
   pub settled : firm_at core group ≤ softs_in core.settings group (abstract_of core)
-  pub marked : softs_in core.settings group (abstract_of core) ≤ firm_at core group + held_at core group
+  pub marked : softs_in core.settings group (abstract_of core)
+      ≤ firm_at core group + held_at core group
   pub limit : firm_at core group + held_at core group ≤ limit_of core.settings group
   -- each slot is held by one call, and each soft mark that isn't settled is the loose mark of one
   pub held : held_at core group ≡ count_by (holds_in core.settings group) core.threads

@@ -37,7 +37,8 @@ pub enum Phase {
     AtThreshold {
         found: ServerState,
     },
-    /// As many soft marks of the group are settled as may be: it is about to look at the server again.
+    /// As many soft marks of the group are settled as may be: it is about to look at the server
+    /// again.
     Limit {
         found: ServerState,
     },

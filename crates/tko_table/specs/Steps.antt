@@ -118,8 +118,8 @@ pub record IsSoundWord (s : Settings) (word : ℕ) : Type 0 where
   pub allowed : IsMarkOf s (server_in word).mark
   pub fit : IsFit s (server_in word).mark (server_in word).stamp
 
--- a soft word that was found by a call on this server: no more slots are taken than the limit of its
--- group allows
+-- a soft word that was found by a call on this server: no more slots are taken than the limit of
+-- its group allows
 pub record IsWithinLimit (s : Settings) (server : ℕ) (slots : Slots) : Type 0 where
   pub room : slots.firm + slots.held ≤ limit_at s server
 
