@@ -4,8 +4,8 @@
 //!   `Trails`, which records each request and each trail. `Kept` keeps the trails, and `Counts`
 //!   of tko_counts counts what is in them.
 //! - `Answer`: how far the answer to a request came, as a value that sends nothing itself;
-//!   `OneKey`, a key that is to be asked for, and `Asking`, one whose request was sent. The reply is
-//!   put at the end of an `Outbox`, the replies that wait to be written.
+//!   `OneKey`, a key that is to be asked for, and `Asking`, one whose request was sent. The reply
+//!   is put at the end of an `Outbox`, the replies that wait to be written.
 //! - `answer`: sends what an answer asks for, until the reply is complete.
 //! - `status`: the mark of each server as text.
 #![tactic(auto)]

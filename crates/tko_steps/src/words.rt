@@ -12,8 +12,8 @@ use std::marker::Model;
 use tko_model::{Mark, ServerState, Settings};
 use tko_word::{pack, pack_soft, unpack, unpack_soft};
 
-/// The health word of each server, the soft word of each group and the enrolment word. Contracts see
-/// what the words hold.
+/// The health word of each server, the soft word of each group and the enrolment word. Contracts
+/// see what the words hold.
 #[derive(Drop)]
 pub struct Words {
     health: Vec<u64>,
