@@ -4,7 +4,7 @@ use Rattle.std.specs.Prelude.{◌≡◌, ℕ, ◌+◌, ◌<◌, ◌^◌, ◌==�
 use Rattle.tko_model.specs.declared.mark.Mark.{Mark}
 use Rattle.tko_model.specs.declared.mark.Mark.TheVariants as mark
 use Rattle.tko_model.specs.declared.mark.Op.{Op}
-use Rattle.tko_model.specs.declared.settings.Settings.{Settings}
+use Rattle.tko_model.specs.Settings.{Settings}
 use Rattle.tko_model.specs.declared.state.ServerState.{ServerState}
 use Rattle.tko_model.specs.Groups.{group_of, groups}
 use Rattle.tko_model.specs.Tracker.{opened, server_at}
@@ -171,7 +171,7 @@ abbrev pub IsOnOneWord : Settings → Shared → ℕ → Action → Type 0
 IsOnOneWord s shared server action =
     let at = place_of s server action in
     shared_after s shared server action
-      ≡ with_word shared at (word_after action (word_at shared at))
+    ≡ with_word shared at (word_after action (word_at shared at))
 
 -- the words after a step on the soft word of this group
 abbrev pub with_soft_words : Shared → ℕ → Action → Shared
