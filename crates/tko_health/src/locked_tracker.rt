@@ -13,7 +13,7 @@ use tko_model::{Duty, Look, Mark, Op, Plain, Reply};
 /// Names the settings of a tracker in a lock, which all its threads rely on. The program picks them
 /// at a call that passes `Brand`.
 pub trait TrackerSettings {
-    ghost use Rattle.tko_model.specs.declared.settings.Settings.{Settings};
+    ghost use Rattle.tko_model.specs.Settings.{Settings};
 
     ghost settings: { Settings };
 }

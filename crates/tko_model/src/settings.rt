@@ -1,5 +1,5 @@
 //! The settings of a tracker and their ranges.
-ghost use Rattle.std.specs.Prelude.{◌≡◌, ◌<◌, ◌↔◌, Some, IfOk, IsOk};
+ghost use Rattle.std.specs.Prelude.{◌≡◌, ◌<◌, ◌^◌, ◌↔◌, Some, IfOk, IsOk};
 ghost use Rattle.tko_model.specs.Ranges.{IsWithin, IsWithinRanges, are_within, first_fault, first_fault_in, has_groups};
 
 use crate::Layout;
@@ -159,7 +159,8 @@ impl Settings {
     /// The group of a server.
     #[tactic(auto, unfolding(crate::specs::Groups::group_of))]
     pub fn group_of(&self, server: usize) -> usize
-        ensures { result ≡ group_of self.now server }
+        ensures value { result ≡ group_of self.now server }
+        ensures small { result < 2 ^ 32 }
     {
         self.group_of.get(server).copied().unwrap_or(0) as usize
     }

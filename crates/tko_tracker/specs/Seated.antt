@@ -8,7 +8,7 @@ use Rattle.tko_model.specs.declared.mark.Op.{Op}
 use Rattle.tko_model.specs.declared.mark.Op.TheVariants.{LookUp, Release}
 use Rattle.tko_model.specs.declared.mark.Reply.{Reply}
 use Rattle.tko_model.specs.declared.mark.Reply.TheVariants.{Released}
-use Rattle.tko_model.specs.declared.settings.Settings.{Settings}
+use Rattle.tko_model.specs.Settings.{Settings}
 use Rattle.tko_model.specs.Looks.{look_of, look_reply}
 use Rattle.tko_steps.specs.declared.phase.ThreadState.TheVariants.{Idle}
 use Rattle.tko_steps.specs.Cost.{most_steps}

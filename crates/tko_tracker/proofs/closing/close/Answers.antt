@@ -1,6 +1,6 @@
 use Rattle.std.proofs.Common.{rules, ◌<◌, ◌∙◌, arith, subst, sym}
 use Rattle.tko_model.specs.Groups.{groups}
-use Rattle.tko_model.specs.declared.settings.Settings.{Settings}
+use Rattle.tko_model.specs.Settings.{Settings}
 use Rattle.tko_model.proofs.GroupLemmas.{group_of-lt}
 use Rattle.tko_table.specs.Steps.{view_of}
 use Rattle.tko_tracker.specs.Closing.{HoldsEachOnce, IsFinal}

@@ -1,5 +1,5 @@
 use Rattle.std.proofs.Common.{◌<◌, All, refl, subst}
-use Rattle.tko_model.specs.declared.settings.Settings.{Settings}
+use Rattle.tko_model.specs.Settings.{Settings}
 use Rattle.tko_health.proofs.SeatingLemmas.{all_below, same_error}
 use Rattle.tko_health.proofs.locked_seating.LockedSeating.open.Goals as goal
 
