@@ -41,7 +41,15 @@ pub record Seated : Type 0 where
 abbrev pub first_pass : List Pass → Pass
 first_pass [] =
     new_pass
-    (record { servers = 0; threads = 0; failures = 0; limit = 0; tries = 0; opening_stamp = 0 })
+    (record {
+      servers = 0;
+      threads = 0;
+      failures = 0;
+      limits = [];
+      group_of = [];
+      tries = 0;
+      opening_stamp = 0;
+    })
 first_pass (pass ∷ passes) = pass
 
 abbrev pub seated : Seat (Unit {0}) (List Pass) → Seated
