@@ -19,11 +19,14 @@ pub trait TrackerSettings {
 }
 
 impl TrackerSettings for Brand {
+    ghost use Rattle.std.specs.Prelude.{[], ◌∷◌};
+
     ghost settings = { record {
       servers = 1;
       threads = 1;
       failures = 1;
-      limit = 0;
+      limits = 0 ∷ [];
+      group_of = 0 ∷ [];
       tries = 1;
       opening_stamp = 0;
     } };
