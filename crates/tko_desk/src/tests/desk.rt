@@ -6,10 +6,10 @@ use crate::Desk;
 use std::marker::Brand;
 use std::sync::Wait;
 use std::test::Fail;
-use tko_model::Settings;
+use tko_model::OneGroup;
 use tko_tracker::{IdlePass, Named, Tracker, open};
 
-const SETTINGS: Settings = Settings {
+const SETTINGS: OneGroup = OneGroup {
     servers: 1,
     threads: 3,
     failures: 1,
@@ -45,7 +45,7 @@ fn lend<R: Wait, N: Named>(
 
 #[test]
 fn three_passes_are_lent(rt: HostRuntime) -> Result<(), Fail> {
-    let (tracker, passes) = open(rt.alloc(), SETTINGS)?;
+    let (tracker, passes) = open(rt.alloc(), SETTINGS.settings(rt.alloc())?)?;
     let numbers = lend::<_, Brand>(&rt, &tracker, passes);
     assert_eq!(rt; numbers, Some((2, 1, 0, 1)));
     Ok(())

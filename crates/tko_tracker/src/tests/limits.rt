@@ -103,3 +103,18 @@ fn limit_zero_never_marks_soft(rt: HostRuntime) -> Result<(), Fail> {
     ];
     play(&rt, rt.alloc(), settings, &calls, 2)
 }
+
+#[test]
+fn tracker_of_1024_threads(rt: HostRuntime) -> Result<(), Fail> {
+    let settings = OneGroup {
+        threads: 1_024,
+        ..SETTINGS
+    };
+    let (tracker, passes) = open(rt.alloc(), settings.settings(rt.alloc())?)?;
+    assert_eq!(rt; passes.len(), 1_024);
+    let Ok(last) = close(tracker, passes) else {
+        panic!(rt; "a pass is missing")
+    };
+    assert_eq!(rt; is_at(&last, 0), (Mark::Up(0), 0));
+    Ok(())
+}
