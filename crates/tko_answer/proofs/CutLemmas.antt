@@ -1,5 +1,5 @@
 -- Laws of requests at which memory ran out.
-use Rattle.std.proofs.Common.{◌≡◌, ℕ, Bool, Result, Ok, Err, List, [], ◌∷◌, refl, sym, subst, ◌∙◌}
+use Rattle.std.proofs.Common.{◌≡◌, ℕ, Bool, Result, Ok, Err, List, [], ◌∷◌, refl, sym, subst, ◌∙◌, add-zero}
 use Rattle.std.specs.Prelude.{OnErr}
 use Rattle.std.proofs.lemmas.List.Elements.{All-nil}
 use Rattle.tko_model.specs.Records.{HealthItem}
@@ -31,6 +31,8 @@ module _ {H L T C : Type 0} {steps : H → HealthItem → H → Type 0} {exchang
     keys = is;
     each = gains_none old;
     values = All-nil HasValues;
+    sends = λ server. sym (add-zero (sent old.backend.links server));
+    probes = λ server. refl;
     last = at_first key [] refl (subst (λ r. IsKeyCut steps exchanges sent probed r key old new) (sym (request_for_alone request key is)) cut);
   })
 
@@ -43,6 +45,8 @@ module _ {H L T C : Type 0} {steps : H → HealthItem → H → Type 0} {exchang
     keys = refl;
     each = gains_none at;
     values = All-nil HasValues;
+    sends = λ server. sym (add-zero (sent at.backend.links server));
+    probes = λ server. refl;
     last = untried refl;
   })
 
@@ -57,6 +61,8 @@ module _ {H L T C : Type 0} {steps : H → HealthItem → H → Type 0} {exchang
     keys = retrieval_keys all unique ∙ so_far.are;
     each = so_far.each;
     values = so_far.values;
+    sends = so_far.sends;
+    probes = so_far.probes;
     last = untried refl;
   })
 
@@ -72,5 +78,7 @@ module _ {H L T C : Type 0} {steps : H → HealthItem → H → Type 0} {exchang
     keys = retrieval_keys all unique ∙ so_far.are;
     each = so_far.each;
     values = so_far.values;
+    sends = so_far.sends;
+    probes = so_far.probes;
     last = at_first key rest is (subst (λ r. IsKeyCut steps exchanges sent probed r key mid new) (one_of all unique key) cut);
   })

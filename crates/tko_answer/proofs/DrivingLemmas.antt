@@ -10,7 +10,7 @@ use Rattle.tko_links.specs.Links.{LinksItem}
 use Rattle.tko_pools.specs.Configs.{AreServers, Configuration, targets_of}
 use Rattle.tko_route.specs.Calls.{Call, Does, IsExchange, Upstream, came}
 use Rattle.tko_route.specs.Routing.{Reached, last_place}
-use Rattle.tko_route.specs.Trail.{Attempts, CutShort, IsCutTrail, IsTrail, Makes, answer_of, cut, form_at, next_target}
+use Rattle.tko_route.specs.Trail.{Attempts, IsCut, IsCutTrail, IsTrail, Makes, answer_of, cut, form_at, next_target}
 use Rattle.tko_route.specs.declared.attempt.Attempt.{Attempt}
 use Rattle.tko_route.specs.declared.routing.Stage.{Stage}
 use Rattle.tko_route.specs.declared.routing.Stage.TheVariants as stage
@@ -366,8 +366,9 @@ module _ {H L T C : Type 0} {steps : H → HealthItem → H → Type 0} {exchang
   pub sent_cut : {request : Request} {old now : Parts H L T C} {outbox outbox' : List ℕ} {clear : ℕ} {it : Asking} {targets : List ℕ} {after : L} {was_sent : Bool}
       → (sending : IsSending steps exchanges sent probed records request old outbox clear it targets now outbox')
       → IsExchange (record { steps = steps; exchanges = exchanges; sent = sent }) now.backend.links (record { server = clear; request = it.key.request; result = Err (record { sent = was_sent }) }) after
+      → ((server : ℕ) → probed after server ≡ probed now.backend.links server)
       → IsAnswerCut steps exchanges sent probed records request old (with_noted it.waiting.attempts (record now { backend = record now.backend { links = after } }))
-  sent_cut {now = now} {it = it} {after = after} {was_sent = was_sent} sending exchange =
+  sent_cut {now = now} {it = it} {after = after} {was_sent = was_sent} sending exchange unprobed =
       let upstream : Upstream H L = record { steps = steps; exchanges = exchanges; sent = sent } in
       let run = sending.run in
       let start = sending.start in
@@ -381,7 +382,8 @@ module _ {H L T C : Type 0} {steps : H → HealthItem → H → Type 0} {exchang
       cut_in sending.at (attempts_cut (record {
         trail = trail;
         was_sent = was_sent;
-        attempts = subst (λ (c : Configuration). CutShort upstream (start.backend.health, start.backend.links) (cut (way_of c first sending.key trail) was_sent) (now.backend.health, after)) config short.attempts;
+        attempts = subst (λ (c : Configuration). IsCut upstream (start.backend.health, start.backend.links) (cut (way_of c first sending.key trail) was_sent) (now.backend.health, after)) config short;
+        probes = λ server. unprobed server ∙ run.probes server;
         others = ap (λ (p : Parts H L T C). with_noted trail (record p { backend = record p.backend { links = after } })) run.others;
       }))
 

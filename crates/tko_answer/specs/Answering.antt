@@ -6,7 +6,7 @@ use Rattle.tko_text.specs.declared.request.Request.TheVariants.{Get, Gets}
 use Rattle.tko_links.specs.Links.{LinksItem}
 use Rattle.tko_pools.specs.Configs.{targets_of}
 use Rattle.tko_route.specs.declared.attempt.Attempt.{Attempt}
-use Rattle.tko_route.specs.Trail.{Attempts, CutShort, IsTrail, cut, sends_in}
+use Rattle.tko_route.specs.Trail.{Attempts, IsCut, IsTrail, cut, sends_in}
 use Rattle.tko_answer.specs.declared.parts.Parts.{Parts}
 use Rattle.tko_backend.specs.Probers.{noted}
 use Rattle.tko_answer.specs.Replies.{RoutedKey, HasValues, joined, reply_text, trails_in, sends_to}
@@ -43,16 +43,17 @@ module _ {H L T C : Type 0} (steps : H → HealthItem → H → Type 0)
       };
     }
 
-module _ {H L T C : Type 0} (steps : H → HealthItem → H → Type 0)
-    (exchanges : L → LinksItem → L → Type 0) (sent : L → ℕ → ℕ) where
-  -- memory ran out in a request of this one key, after these attempts
+  -- memory ran out in a request of this one key, after these attempts: they are at the first of its
+  -- targets, none was answered, and each server was sent to as often as they say, and the next
+  -- target once more if the request was sent to it
   pub record IsCutShort (request : Request) (key : List ℕ) (old : Parts H L T C)
       (new : Parts H L T C) : Type 0 where
     pub trail : List Attempt
     pub was_sent : Bool
-    pub attempts : CutShort (record { steps = steps; exchanges = exchanges; sent = sent })
+    pub attempts : IsCut (record { steps = steps; exchanges = exchanges; sent = sent })
         (old.backend.health, old.backend.links)
         (cut (way_of old.config request key trail) was_sent) (new.backend.health, new.backend.links)
+    pub probes : (server : ℕ) → probed new.backend.links server ≡ probed old.backend.links server
     pub others : new ≡ record old {
       backend = record old.backend {
         health = new.backend.health;

@@ -111,7 +111,7 @@ pub data Joins (request : Request) (begin : ℕ) (left : List (List ℕ)) (trail
       → Joins request begin left trail outbox at outbox'
   values : IsSome (values_in (answer_of trail))
       → JoinsNext request begin left
-          (outbox ++ unwrap_or (values_in (answer_of trail)) []) at outbox'
+      (outbox ++ unwrap_or (values_in (answer_of trail)) []) at outbox'
       → Joins request begin left trail outbox at outbox'
 
 -- what the response to a key is to the reply

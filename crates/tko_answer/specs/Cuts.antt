@@ -1,5 +1,5 @@
 -- What a request did at which memory ran out.
-use Rattle.std.specs.Prelude.{◌≡◌, ℕ, List, ◌∷◌, ◌++◌, All}
+use Rattle.std.specs.Prelude.{◌≡◌, ℕ, ◌+◌, List, ◌∷◌, ◌++◌, All}
 use Rattle.tko_model.specs.Records.{HealthItem, Gains}
 use Rattle.tko_text.specs.declared.request.Request.{Request}
 use Rattle.tko_text.specs.declared.request.Request.TheVariants.{StatsTko}
@@ -7,7 +7,7 @@ use Rattle.tko_links.specs.Links.{LinksItem}
 use Rattle.tko_route.specs.declared.attempt.Attempt.{Attempt}
 use Rattle.tko_answer.specs.declared.parts.Parts.{Parts}
 use Rattle.tko_answer.specs.Answering.{IsCutShort, IsTried}
-use Rattle.tko_answer.specs.Replies.{HasValues, RoutedKey, keys_in}
+use Rattle.tko_answer.specs.Replies.{HasValues, RoutedKey, keys_in, sends_to, trails_in}
 use Rattle.tko_answer.specs.Status.{Looked, addresses_in, looks_from}
 use Rattle.tko_answer.specs.TrailEvents.{TrailEvent}
 use Rattle.tko_answer.specs.Answers.{IsKeyRouted, request_for, request_keys}
@@ -25,7 +25,7 @@ module _ {H L T C : Type 0} (steps : H → HealthItem → H → Type 0)
   -- memory ran out at a request of this one key: between its attempts; or after them, so that its
   -- reply or its trail was lost
   pub data IsKeyCut (request : Request) (key : List ℕ) (old new : Parts H L T C) : Type 0 where
-    attempts_cut : IsCutShort steps exchanges sent request key old new
+    attempts_cut : IsCutShort steps exchanges sent probed request key old new
         → IsKeyCut request key old new
     reply_lost : (trail : List Attempt) (mid : Parts H L T C)
         → IsTried steps exchanges sent probed request key old trail mid
@@ -41,8 +41,8 @@ module _ {H L T C : Type 0} (steps : H → HealthItem → H → Type 0)
 module _ {H L T C : Type 0} (steps : H → HealthItem → H → Type 0)
     (exchanges : L → LinksItem → L → Type 0) (sent probed : L → ℕ → ℕ)
     (records : T → TrailEvent → T → Type 0) where
-  -- some keys of a request were routed, in order, each got a list of values, and then memory ran
-  -- out
+  -- some keys of a request were routed, in order, each got a list of values, and each server was
+  -- sent to as often as their trails say; and then memory ran out
   pub record AreKeysCut (request : Request) (old new : Parts H L T C) : Type 0 where
     pub routed : List RoutedKey
     pub left : List (List ℕ)
@@ -50,6 +50,10 @@ module _ {H L T C : Type 0} (steps : H → HealthItem → H → Type 0)
     pub keys : request_keys request ≡ keys_in routed ++ left
     pub each : Gains (IsKeyRouted steps exchanges sent records request) old routed mid
     pub values : All HasValues routed
+    pub sends : (server : ℕ)
+        → sent mid.backend.links server
+        ≡ sent old.backend.links server + sends_to server (trails_in routed)
+    pub probes : (server : ℕ) → probed mid.backend.links server ≡ probed old.backend.links server
     pub last : IsFirstCut steps exchanges sent probed request left mid new
 
   -- memory ran out in the answer to a request that was recorded

@@ -80,7 +80,7 @@ returns-in-Err-clause-cut g c =
     let exchange = subst (λ r. IsExchange (upstream g.H.Health g.L.Links) c.loop.parts.backend.links (record { server = c.in-Asks.clear; request = r; result = Err c.in-Err.fault }) c.exchange.new.self)
     c.request.ensures (record { item = came.record; spent = came.spent; sends = came.sends }) in
     subst (λ p. IsAnswerCut g.H.Health.steps g.L.Links.exchanges g.L.Links.sent g.L.Links.probed g.T.Trails.records c.args.request c.args.parts.now p)
-    (sym c.stop.ensures) (sent_cut sending exchange)
+    (sym c.stop.ensures) (sent_cut sending exchange came.probes)
 
 pub returns-in-Err-clause-reach : goal.returns-in-Err-clause-reach
 returns-in-Err-clause-reach g c =
