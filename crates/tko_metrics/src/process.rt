@@ -1,4 +1,7 @@
 //! What the system says of the process.
+ghost use Rattle.std.specs.Prelude.{◌≡◌};
+ghost use Rattle.std.specs.List.{count_by};
+ghost use Rattle.tko_metrics.specs.Marks.{ends_name};
 
 use std::alloc::Global;
 use std::fs::{File, Files};
@@ -81,6 +84,8 @@ fn names_in(directory: &File) -> u64 {
 }
 
 /// How many names end in this piece of a list.
-fn ends_in(piece: &[u8]) -> u64 {
+fn ends_in(piece: &[u8]) -> u64
+    ensures { result ≡ count_by ends_name piece.now }
+{
     piece.iter().filter(|byte| **byte == 0).count() as u64
 }

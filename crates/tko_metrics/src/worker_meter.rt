@@ -1,4 +1,6 @@
 //! The numbers of one worker.
+ghost use Rattle.std.specs.Prelude.{◌≡◌};
+ghost use Rattle.tko_metrics.specs.Marks.{number_of};
 
 use crate::counter::Counter;
 use std::alloc::{AllocError, Global};
@@ -115,7 +117,9 @@ impl ServerNumbers {
 }
 
 impl Marking {
-    fn of(number: u64) -> Marking {
+    fn of(number: u64) -> Marking
+        ensures { (mark : Marking) → number ≡ number_of mark → result ≡ mark }
+    {
         match number {
             0 => Marking::Up,
             1 => Marking::Soft,
@@ -123,7 +127,9 @@ impl Marking {
         }
     }
 
-    fn number(self) -> u64 {
+    fn number(self) -> u64
+        ensures { result ≡ number_of self }
+    {
         match self {
             Marking::Up => 0,
             Marking::Soft => 1,
