@@ -1,5 +1,6 @@
 //! The groups of the servers.
-ghost use Rattle.std.specs.Prelude.{◌≡◌, ◌≤◌, ◌==◌, [], IfOk, get_or, length, map};
+ghost use Rattle.std.specs.Prelude.{◌≡◌, ◌<◌, ◌≤◌, ◌==◌, [], IfOk, IfSome, get_or, length, map};
+ghost use Rattle.std.specs.List.{position};
 ghost use Rattle.serde_json.specs.View.{view};
 ghost use Rattle.tko_pools.specs.Configs.{soft_limits_at};
 ghost use Rattle.tko_pools.specs.Groups.{first_place, groups_of, is_in, owner_of, owners_of, owning};
@@ -26,14 +27,16 @@ pub(crate) fn owners_of(
 }
 
 /// The place of the first child that holds a server.
-#[tactic(auto, using(crate::proofs::NumberingLemmas::position_map))]
 fn owner_of(children: &[Vec<usize>], server: usize) -> usize
     ensures { result ≡ owner_of (map (λ child. child.items) children.now) server }
 {
-    children
-        .iter()
-        .position(|child| is_in(child, server))
-        .unwrap_or(children.len())
+    holder_of(children, server).unwrap_or(children.len())
+}
+
+fn holder_of(children: &[Vec<usize>], server: usize) -> Option<usize>
+    ensures { result ≡ position (λ child. is_in child.items server) children.now }
+{
+    children.iter().position(|child| is_in(child, server))
 }
 
 /// Whether a number is in a list.
@@ -81,10 +84,14 @@ fn place_of(numbers: &[usize], number: usize) -> usize
     ensures value { result ≡ first_place (λ other. other == number) numbers.now }
     ensures within { result ≤ length numbers.now }
 {
-    numbers
-        .iter()
-        .position(|other| *other == number)
-        .unwrap_or(numbers.len())
+    found_in(numbers, number).unwrap_or(numbers.len())
+}
+
+fn found_in(numbers: &[usize], number: usize) -> Option<usize>
+    ensures value { result ≡ position (λ other. other == number) numbers.now }
+    ensures within { IfSome result (λ place. place < length numbers.now) }
+{
+    numbers.iter().position(|other| *other == number)
 }
 
 /// The soft limits of the pools that these places have among the names.
