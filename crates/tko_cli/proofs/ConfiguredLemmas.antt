@@ -3,7 +3,8 @@ use Rattle.std.proofs.Common.{◌≡◌, ℕ, ◌+◌, ◌≤◌, List, [], ◌�
 use Rattle.std.specs.Prelude.{codes, decimal}
 use Rattle.std.proofs.lemmas.List.{length-map, map-append}
 use Rattle.std.proofs.lemmas.List.FromFn.{length-map-range_with_len, map-range_with_len_more}
-use Rattle.tko_model.specs.Ranges.{first_fault, max_servers}
+use Rattle.tko_model.specs.Limits.{max_servers}
+use Rattle.tko_model.specs.Ranges.{first_fault}
 use Rattle.tko_model.specs.declared.settings.SettingsFault.{SettingsFault}
 use Rattle.tko_pools.specs.Configs.{Refuses}
 use Rattle.tko_pools.specs.declared.fault.ConfigFault.{ConfigFault}

@@ -1,6 +1,6 @@
 //! The configuration that the options name.
 ghost use Rattle.std.specs.Prelude.{◌≡◌, ◌≤◌, IfOk, IfErr, map, string_bytes};
-ghost use Rattle.tko_model.specs.Ranges.{max_servers};
+ghost use Rattle.tko_model.specs.Limits.{max_servers};
 ghost use Rattle.tko_pools.specs.Configs.{in_order};
 ghost use Rattle.tko_cli.specs.Configured.{IsConfigured, NoConfig, scripted_names};
 

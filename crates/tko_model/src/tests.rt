@@ -1,10 +1,10 @@
 //! Replies of the tracker that were worked out by hand.
 
-use crate::{Duty, Mark, Op, OpenFault, Plain, Reply, Settings, SettingsFault};
+use crate::{Duty, Mark, OneGroup, Op, OpenFault, Plain, Reply, SettingsFault};
 use std::process::Abort;
 use std::test::Fail;
 
-const SETTINGS: Settings = Settings {
+const SETTINGS: OneGroup = OneGroup {
     servers: 2,
     threads: 2,
     failures: 2,
@@ -22,7 +22,7 @@ fn answer(rt: &impl Abort, tracker: &mut Plain, thread: u32, op: Op, server: usi
 
 #[test]
 fn answers_as_the_tables_say(rt: HostRuntime) -> Result<(), Fail> {
-    let mut tracker = Plain::open(rt.alloc(), SETTINGS)?;
+    let mut tracker = Plain::open(rt.alloc(), SETTINGS.settings(rt.alloc())?)?;
     for (thread, op, server, reply) in [
         (0, Op::SoftFailure, 0, Reply::Counted(1)),
         (1, Op::SoftFailure, 0, Reply::TookSoft),
@@ -47,11 +47,11 @@ fn answers_as_the_tables_say(rt: HostRuntime) -> Result<(), Fail> {
 
 #[test]
 fn a_worn_server_takes_no_change(rt: HostRuntime) -> Result<(), Fail> {
-    let worn = Settings {
+    let worn = OneGroup {
         opening_stamp: 2_251_799_813_685_240,
         ..SETTINGS
     };
-    let mut tracker = Plain::open(rt.alloc(), worn)?;
+    let mut tracker = Plain::open(rt.alloc(), worn.settings(rt.alloc())?)?;
     assert_eq!(rt;
         answer(&rt, &mut tracker, 0, Op::SoftFailure, 0),
         Reply::Worn
@@ -62,11 +62,11 @@ fn a_worn_server_takes_no_change(rt: HostRuntime) -> Result<(), Fail> {
     );
     assert_eq!(rt; answer(&rt, &mut tracker, 0, Op::LookUp, 0), Reply::Up(0));
     assert_eq!(rt; answer(&rt, &mut tracker, 0, Op::Success, 0), Reply::Clean);
-    let past = Settings {
+    let past = OneGroup {
         opening_stamp: 2_251_799_813_685_241,
         ..SETTINGS
     };
-    let fault = Plain::open(rt.alloc(), past).err();
+    let fault = Plain::open(rt.alloc(), past.settings(rt.alloc())?).err();
     assert!(rt; matches!(fault, Some(OpenFault::Settings(SettingsFault::Stamp))));
     Ok(())
 }

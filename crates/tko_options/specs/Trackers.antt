@@ -1,6 +1,6 @@
 -- The settings of the tracker that the options name.
 use Rattle.std.specs.Prelude.{ℕ}
-use Rattle.tko_model.specs.declared.settings.Settings.{Settings}
+use Rattle.tko_model.specs.Settings.{Settings}
 use Rattle.tko_options.specs.declared.dry_options.DryOptions.{DryOptions}
 use Rattle.tko_options.specs.declared.serve_options.ServeOptions.{ServeOptions}
 

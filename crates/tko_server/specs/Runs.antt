@@ -2,7 +2,7 @@
 use Rattle.std.specs.Prelude.{length}
 use Rattle.tko_model.specs.declared.plain.OpenFault.{OpenFault}
 use Rattle.tko_model.specs.declared.plain.OpenFault.TheVariants as opening
-use Rattle.tko_model.specs.declared.settings.Settings.{Settings}
+use Rattle.tko_model.specs.Settings.{Settings}
 use Rattle.tko_server.specs.declared.run_fault.RunFault.{RunFault}
 use Rattle.tko_server.specs.declared.run_fault.RunFault.TheVariants as run
 use Rattle.tko_server.specs.declared.running.Options.{Options}

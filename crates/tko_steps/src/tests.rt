@@ -3,9 +3,9 @@
 use crate::{BeginFault, Core, Kind, Place, Slots, Stepped, Word};
 use std::alloc::Global;
 use std::test::Fail;
-use tko_model::{Mark, Op, OpenFault, Reply, ServerState, Settings};
+use tko_model::{Mark, OneGroup, Op, OpenFault, Reply, ServerState};
 
-const SETTINGS: Settings = Settings {
+const SETTINGS: OneGroup = OneGroup {
     servers: 2,
     threads: 2,
     failures: 1,
@@ -97,14 +97,15 @@ fn enrolled(
     tries: u32,
     opening_stamp: u64,
 ) -> Result<Core, OpenFault> {
-    let settings = Settings {
+    let settings = OneGroup {
         servers,
         threads,
         failures,
         limit,
         tries,
         opening_stamp,
-    };
+    }
+    .settings(alloc)?;
     let mut core = Core::open(alloc, settings)?;
     for thread in 0..threads as usize {
         let _ = core.step(thread);
@@ -280,7 +281,7 @@ fn last_change_before_the_stamp_is_worn(rt: HostRuntime) -> Result<(), Fail> {
 
 #[test]
 fn begin_names_the_first_fault(rt: HostRuntime) -> Result<(), Fail> {
-    let mut core = Core::open(rt.alloc(), SETTINGS)?;
+    let mut core = Core::open(rt.alloc(), SETTINGS.settings(rt.alloc())?)?;
     assert_eq!(rt; core.begin(0, Op::LookUp, 9), Err(BeginFault::NoThread));
     assert_eq!(rt; core.begin(2, Op::LookUp, 0), Err(BeginFault::NoThread));
     let _ = core.step(0);
@@ -293,7 +294,7 @@ fn begin_names_the_first_fault(rt: HostRuntime) -> Result<(), Fail> {
 
 #[test]
 fn the_thread_that_comes_first_draws_0(rt: HostRuntime) -> Result<(), Fail> {
-    let mut core = Core::open(rt.alloc(), SETTINGS)?;
+    let mut core = Core::open(rt.alloc(), SETTINGS.settings(rt.alloc())?)?;
     let enrolment = |number| Stepped::Did {
         kind: Kind::Enrol,
         place: Place::Enrolment,
