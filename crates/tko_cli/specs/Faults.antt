@@ -29,6 +29,7 @@ setting_name setting.Failures = codes "failures"
 setting_name setting.Limit = codes "limit"
 setting_name setting.Tries = codes "tries"
 setting_name setting.Stamp = codes "stamp"
+setting_name setting.Groups = codes "groups"
 
 -- the word that names why a text is no configuration
 abbrev pub config_name : ConfigFault → List ℕ

@@ -80,6 +80,7 @@ fn setting_name(setting: SettingsFault) -> &'static str
         SettingsFault::Limit => "limit",
         SettingsFault::Tries => "tries",
         SettingsFault::Stamp => "stamp",
+        SettingsFault::Groups => "groups",
     }
 }
 

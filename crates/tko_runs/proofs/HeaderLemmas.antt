@@ -10,7 +10,7 @@ use Rattle.tko_runs.specs.declared.version.Version.{Version}
 use Rattle.tko_runs.specs.declared.version.Version.TheVariants.{One, Two, Three}
 use Rattle.tko_runs.specs.Headers.{HasLine, LacksLine}
 use Rattle.tko_bytes.specs.Lines.{lines_of}
-use Rattle.tko_runs.specs.Schedules.{IsFault, counts_in, groups_in, header, header_number, header_numbers, in_field, one_group_in, settings_in, version_in}
+use Rattle.tko_runs.specs.Schedules.{IsFault, counts_in, groups_in, header, header_number, header_numbers, in_field, one_group_in, settings_in, version_in, with_groups}
 use Rattle.tko_runs.specs.Versions.{header_lines}
 use Rattle.tko_bytes.specs.Fields.{fields_in}
 use Rattle.tko_runs.proofs.CommandLemmas.{lines_of-empty}
@@ -174,7 +174,7 @@ pub groups_in-has : (counts : Counts) (text r1 r2 r3 r4 : List ℕ) (tries stamp
     → HasLine (header_numbers (codes "groups")) r1 groups r2
     → HasLine (header_number (codes "tries")) r2 tries r3
     → HasLine (header_number (codes "stamp")) r3 stamp r4
-    → groups_in counts (lines_of text) ≡ Ok (record { servers = counts.servers; threads = counts.threads; failures = counts.failures; limits = limits; group_of = groups; tries = in_field tries; opening_stamp = stamp })
+    → groups_in counts (lines_of text) ≡ Ok (with_groups counts limits groups (in_field tries) stamp)
 unfolding groups_in
 groups_in-has counts text r1 r2 r3 r4 tries stamp limits groups one two three four =
     rw (one.lines, one.is, two.lines, two.is, three.lines, three.is, four.lines, four.is) refl

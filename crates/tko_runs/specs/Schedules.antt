@@ -180,6 +180,19 @@ one_group_in counts lines =
       opening_stamp = stamp;
     })))))
 
+-- the settings with these limits and groups
+abbrev pub with_groups : Counts → List ℕ → List ℕ → ℕ → ℕ → Settings
+with_groups counts limits groups tries stamp =
+    record {
+      servers = counts.servers;
+      threads = counts.threads;
+      failures = counts.failures;
+      limits = limits;
+      group_of = groups;
+      tries = tries;
+      opening_stamp = stamp;
+    }
+
 -- the same lines, where each group has a limit and each server a group
 unfoldable pub groups_in : Counts → List (List ℕ) → Result Settings ScheduleFault
 groups_in counts lines =
@@ -187,15 +200,7 @@ groups_in counts lines =
     on_line 6 (header_numbers (codes "groups") (line_at lines 1)) (λ groups.
     on_line 7 (header_number (codes "tries") (line_at lines 2)) (λ tries.
     on_line 8 (header_number (codes "stamp") (line_at lines 3)) (λ stamp.
-    Ok (record {
-      servers = counts.servers;
-      threads = counts.threads;
-      failures = counts.failures;
-      limits = limits;
-      group_of = groups;
-      tries = in_field tries;
-      opening_stamp = stamp;
-    })))))
+    Ok (with_groups counts limits groups (in_field tries) stamp)))))
 
 abbrev pub settings_in : Version → Counts → List (List ℕ) → Result Settings ScheduleFault
 settings_in One counts lines = one_group_in counts lines

@@ -1,7 +1,7 @@
 //! The header of a schedule: the lines that give its version and its settings.
 ghost use Rattle.std.specs.Prelude.{◌≡◌, ◌-◌, Ok, drop, IfOk, IfErr};
 ghost use Rattle.tko_bytes.specs.Lines.{lines_of};
-ghost use Rattle.tko_runs.specs.Schedules.{IsFault, counts_in, groups_in, header, one_group_in, settings_in};
+ghost use Rattle.tko_runs.specs.Schedules.{IsFault, counts_in, groups_in, header, one_group_in, settings_in, with_groups};
 ghost use Rattle.tko_runs.specs.Versions.{header_lines};
 
 mod lines;
@@ -17,6 +17,29 @@ pub(crate) struct Counts {
     pub servers: u32,
     pub threads: u32,
     pub failures: u32,
+}
+
+impl Counts {
+    /// The settings with these groups.
+    fn with_groups(
+        self,
+        limits: Vec<u32>,
+        group_of: Vec<u32>,
+        tries: u32,
+        opening_stamp: u64,
+    ) -> Settings
+        ensures { result ≡ with_groups self limits.items group_of.items tries opening_stamp }
+    {
+        Settings {
+            servers: self.servers,
+            threads: self.threads,
+            failures: self.failures,
+            limits,
+            group_of,
+            tries,
+            opening_stamp,
+        }
+    }
 }
 
 /// The version and the settings of the header at the start of a text, and the rest of the text.
@@ -113,14 +136,6 @@ fn read_groups<'a>(
     let (groups, rest) = header_list(alloc, 6, b"groups", rest)?;
     let (tries, rest) = header_number(7, b"tries", rest)?;
     let (stamp, rest) = header_number(8, b"stamp", rest)?;
-    let settings = Settings {
-        servers: counts.servers,
-        threads: counts.threads,
-        failures: counts.failures,
-        limits,
-        group_of: groups,
-        tries: in_field(tries),
-        opening_stamp: stamp,
-    };
+    let settings = counts.with_groups(limits, groups, in_field(tries), stamp);
     Ok((settings, rest))
 }

@@ -25,7 +25,7 @@ returns-in_err-stamp-clause-err c =
 
 pub returns-clause-ok : goal.returns-clause-ok
 returns-clause-ok c =
-    rw c.in_field.ensures
+    rw (c.with_groups-settings.ensures, c.in_field.ensures)
     (groups_in-has c.args.counts _ _ _ _ _ _ _ _ _ c.in_ok-limits.ensures.ok c.in_ok-groups.ensures.ok c.in_ok-tries.ensures.ok c.in_ok-stamp.ensures.ok)
 
 pub returns-clause-rest : goal.returns-clause-rest
