@@ -18,10 +18,12 @@ use Rattle.tko_text.specs.Limits.{data_limit, number_limit}
 use Rattle.tko_text.specs.Numbers.{expiry_of}
 use Rattle.tko_bytes.specs.Numbers.{number_of}
 use Rattle.tko_bytes.specs.Lines.{line_feed, content}
-use Rattle.tko_text.specs.Reading.{After, Next, Pass, PassLine, Never, Reading, Completes, Decides, IsWrongEnd, by_line, by_length, passed, start, fed, Emits, EmitsEach, Gives}
+use Rattle.tko_text.specs.Reading.{After, Next, Pass, PassLine, Never, Reading, Completes, Decides, IsWrongEnd, by_line, by_length, passed, Emits}
 use Rattle.tko_bytes.specs.Words.{words}
-use Rattle.tko_session.specs.SessionState.{GoesOn, Continues, line_too_long}
-use Rattle.std.proofs.lemmas.List.Elements.{All-head, All-tail}
+
+-- the fault after which nothing is read
+abbrev line_too_long : Item
+line_too_long = item.Fault LineTooLong
 
 -- a fault other than a line too long, after which reading goes on
 abbrev IsOrdinary : ParsedLine → Type 0
@@ -184,20 +186,8 @@ ends_reading from told to (text, left, after, at, decides, goes) e =
     ap (λ (r : Reading). r.after) goes ∙ ap (λ a. (passed a left).after) never
 
 -- after any other item reading goes on
-goes_on_reading : (from : Reading) (told : Item) (to : Reading) → Emits from told to → told ≢ line_too_long
+pub goes_on_reading : (from : Reading) (told : Item) (to : Reading) → Emits from told to → told ≢ line_too_long
     → to.after ≢ Never
 unfolding Emits
 goes_on_reading from told to (text, left, after, at, decides, goes) ne = λ never.
     passed_goes_on after left ((decided text told after decides).1 ne) (sym (ap (λ (r : Reading). r.after) goes) ∙ never)
-
-each_goes_on : (from : Reading) (items : List Item) (to : Reading) → from.after ≢ Never → EmitsEach from items to
-    → GoesOn items → to.after ≢ Never
-each_goes_on from [] to reads is goes = λ never. reads (sym (ap (λ (r : Reading). r.after) is) ∙ never)
-each_goes_on from (told ∷ items) to reads (mid, tells, each) goes =
-    each_goes_on mid items to (goes_on_reading from told mid tells (All-head Continues told items goes).read) each (All-tail Continues told items goes)
-
--- reading goes on after items of which none is a line too long
-pub reading_goes_on : (bytes : List ℕ) (items : List Item) (to : Reading) → Gives (fed start bytes) items to
-    → GoesOn items → to.after ≢ Never
-reading_goes_on bytes items to gives goes =
-    each_goes_on (fed start bytes) items to (λ never. cc) gives.each goes
