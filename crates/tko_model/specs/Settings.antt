@@ -26,3 +26,15 @@ in_one_group it = record {
   tries = it.tries;
   opening_stamp = it.opening_stamp;
 }
+
+-- the same settings with another number of servers
+abbrev pub with_servers : ℕ → Settings → Settings
+with_servers servers s = record {
+  servers = servers;
+  threads = s.threads;
+  failures = s.failures;
+  limits = s.limits;
+  group_of = s.group_of;
+  tries = s.tries;
+  opening_stamp = s.opening_stamp;
+}

@@ -1,6 +1,7 @@
 //! The settings of a tracker and their ranges.
 ghost use Rattle.std.specs.Prelude.{◌≡◌, ◌<◌, ◌^◌, ◌↔◌, Some, IfOk, IsOk};
 ghost use Rattle.tko_model.specs.Ranges.{IsWithin, IsWithinRanges, are_within, first_fault, first_fault_in, has_groups};
+ghost use Rattle.tko_model.specs.Settings.{with_servers};
 
 use crate::Layout;
 use std::alloc::Global;
@@ -92,14 +93,32 @@ impl Settings {
         self.check_in(Layout::Two)
     }
 
+    /// `check` of the same settings with another number of servers.
+    pub fn check_with_servers(&self, servers: u32) -> Result<(), SettingsFault>
+        ensures ok { IsOk result ↔ IsWithinRanges (with_servers servers self.now) }
+        ensures err { (fault : SettingsFault) →
+            (result ≡ Err fault) ↔ (first_fault (with_servers servers self.now) ≡ Some fault) }
+    {
+        self.check_for(Layout::Two, servers)
+    }
+
     /// `check` with the ranges of a layout.
-    #[tactic(auto, unfolding(crate::specs::Ranges::first_fault_in))]
     pub fn check_in(&self, layout: Layout) -> Result<(), SettingsFault>
         ensures ok { IsOk result ↔ IsWithin layout self.now }
         ensures err { (fault : SettingsFault) →
             (result ≡ Err fault) ↔ (first_fault_in layout self.now ≡ Some fault) }
     {
-        if self.servers == 0 || self.servers > MAX_SERVERS {
+        self.check_for(layout, self.servers)
+    }
+
+    /// `check_in` of the same settings with another number of servers.
+    #[tactic(auto, unfolding(crate::specs::Ranges::first_fault_in))]
+    fn check_for(&self, layout: Layout, servers: u32) -> Result<(), SettingsFault>
+        ensures ok { IsOk result ↔ IsWithin layout (with_servers servers self.now) }
+        ensures err { (fault : SettingsFault) → (result ≡ Err fault)
+            ↔ (first_fault_in layout (with_servers servers self.now) ≡ Some fault) }
+    {
+        if servers == 0 || servers > MAX_SERVERS {
             return Err(SettingsFault::Servers);
         }
         if self.threads == 0 || self.threads > layout.max_threads() {
@@ -117,19 +136,19 @@ impl Settings {
         if self.opening_stamp > WORN_STAMP {
             return Err(SettingsFault::Stamp);
         }
-        if !self.has_groups() {
+        if !self.has_groups_for(servers) {
             return Err(SettingsFault::Groups);
         }
         Ok(())
     }
 
-    /// Whether there are groups, and each server has one of them.
-    fn has_groups(&self) -> bool
-        ensures { result ≡ has_groups self.now }
+    /// Whether there are groups, and each of so many servers has one of them.
+    fn has_groups_for(&self, servers: u32) -> bool
+        ensures { result ≡ has_groups (with_servers servers self.now) }
     {
         let groups = self.limits.len();
         (1..=MAX_GROUPS).contains(&groups)
-            && self.group_of.len() == self.servers as usize
+            && self.group_of.len() == servers as usize
             && are_within(&self.group_of, groups as u32 - 1)
     }
 

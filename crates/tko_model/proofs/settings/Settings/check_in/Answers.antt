@@ -1,15 +1,9 @@
--- A list with a number that is too high has no bound, and groups that do not fit no settings in range.
-use Rattle.tko_model.proofs.RangeLemmas.{are_within-all, has_groups-all}
+-- The settings with their own number of servers are the settings.
+use Rattle.std.proofs.Common.{ap}
 use Rattle.tko_model.proofs.settings.Settings.check_in.Goals as goal
+use Rattle.tko_model.specs.Settings.{Settings}
 
-pub returns-then-not-are_within-clause-ok : goal.returns-then-not-are_within-clause-ok
-returns-then-not-are_within-clause-ok c = (
-  λ e. absurd (cc e),
-  λ is. cc (c.are_within.ensures, c.if-not-are_within.true, are_within-all 256 c.args.self.now.limits is.limits),
-)
-
-pub returns-then-not-has_groups-clause-ok : goal.returns-then-not-has_groups-clause-ok
-returns-then-not-has_groups-clause-ok c = (
-  λ e. absurd (cc e),
-  λ is. cc (c.has_groups.ensures, c.if-not-has_groups.true, has_groups-all c.args.layout c.args.self.now is),
-)
+pub returns-clause-err : goal.returns-clause-err
+returns-clause-err c =
+    let servers = ap (λ (it : Settings). it.servers) c.self.view_is in
+    rw servers at c.check_for.ensures.err
