@@ -1,5 +1,5 @@
 //! Workers over connections in memory, and the server over loopback.
-ghost use Rattle.std.specs.Prelude.{◌≡◌, IfOk, length};
+ghost use Rattle.std.specs.Prelude.{◌≡◌, ◌∷◌, [], IfOk, length};
 
 use std::alloc::Global;
 use std::test::Fail;
@@ -36,7 +36,8 @@ impl TrackerSettings for Two {
       servers = 1;
       threads = 2;
       failures = 1;
-      limit = 40;
+      limits = 40 ∷ [];
+      group_of = 0 ∷ [];
       tries = 8;
       opening_stamp = 0;
     } };
