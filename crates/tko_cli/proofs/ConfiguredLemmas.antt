@@ -5,6 +5,7 @@ use Rattle.std.proofs.lemmas.List.{length-map, map-append}
 use Rattle.std.proofs.lemmas.List.FromFn.{length-map-range_with_len, map-range_with_len_more}
 use Rattle.tko_model.specs.Limits.{max_servers}
 use Rattle.tko_model.specs.Ranges.{first_fault}
+use Rattle.tko_model.specs.Settings.{in_one_group}
 use Rattle.tko_model.specs.declared.settings.SettingsFault.{SettingsFault}
 use Rattle.tko_pools.specs.Configs.{Refuses}
 use Rattle.tko_pools.specs.declared.fault.ConfigFault.{ConfigFault}
@@ -55,5 +56,5 @@ names-few text names count e few =
 
 -- without a configuration the settings are judged first
 pub unset : (options : DryOptions) (name : SettingsFault) → options.config ≡ None
-    → first_fault (dry_settings options options.servers) ≡ Some name → NoConfig options (fault.Settings name)
+    → first_fault (in_one_group (dry_settings options options.servers)) ≡ Some name → NoConfig options (fault.Settings name)
 unset options name alone first = record { alone = rw alone refl; first = first }

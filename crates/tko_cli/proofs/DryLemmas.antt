@@ -35,7 +35,7 @@ outside_alone options name scripts asked unset =
     let names = scripted_names options.servers in
     let count : length names ≡ options.servers = length-map-range_with_len _ 0 options.servers in
     let P : Option (List ℕ) → Type 0 = λ json. ConfigOf json options.servers (in_order names) in
-    let Q : ℕ → Type 0 = λ n. first_fault (dry_settings options n) ≡ Some name in
+    let Q : ℕ → Type 0 = λ n. first_fault (in_one_group (dry_settings options n)) ≡ Some name in
     record {
       scripts = scripts;
       asked = asked;
@@ -47,13 +47,13 @@ outside_alone options name scripts asked unset =
 -- parts over the configuration that the options name
 pub begun : (options : DryOptions) (scripts : List Script) (config : Configuration) (tracker : Tracker) (parts : DryParts)
     → AllAsk (words_in options) scripts → IsConfigured options config
-    → tracker ≡ opened (dry_settings options (length config.addresses))
+    → tracker ≡ opened (dry_tracker options config)
     → AreFresh scripts config tracker parts
     → Begins options parts
 begun options scripts config tracker parts asked configured opens is =
     let P : Configuration → Type 0 = λ it. IsConfigured options it in
     let Q : Tracker → Type 0 = λ it. AreFresh scripts config it parts in
-    let R : Configuration → Type 0 = λ it. AreFresh scripts it (opened (dry_settings options (length it.addresses))) parts in
+    let R : Configuration → Type 0 = λ it. AreFresh scripts it (opened (dry_tracker options it)) parts in
     record {
       scripts = scripts;
       asked = asked;

@@ -18,7 +18,7 @@ pub(crate) fn config_of(alloc: Global, options: &DryOptions) -> Result<Config, F
     match &options.config {
         Some(json) => Ok(Config::read(alloc, json.as_bytes())?),
         None => {
-            options.settings(options.servers).check()?;
+            options.settings(options.servers).settings(alloc)?.check()?;
             Ok(scripted_config(alloc, options.servers)?)
         }
     }
