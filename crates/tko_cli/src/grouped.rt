@@ -1,6 +1,7 @@
 //! The settings of a tracker over the pools of a configuration.
 ghost use Rattle.std.specs.Prelude.{◌≡◌, IfErr, IfOk, length};
 ghost use Rattle.tko_model.specs.Ranges.{IsWithinRanges};
+ghost use Rattle.tko_model.specs.Settings.{in_one_group};
 ghost use Rattle.tko_cli.specs.Grouped.{NoSettings, grouped};
 
 use crate::Fault;
@@ -18,6 +19,7 @@ pub(crate) fn settings_over(
     requires servers { options.servers ≡ length config.now.addresses }
     ensures ok { IfOk result (λ settings. settings ≡ grouped config.now options) }
     ensures within { IfOk result IsWithinRanges }
+    ensures options { IfOk result (λ _. IsWithinRanges (in_one_group options)) }
     ensures err { IfErr result (NoSettings options) }
 {
     let mut settings = options.settings(alloc)?;
