@@ -1,6 +1,10 @@
+mod GroupLemmas
+mod HeldLemmas
 mod InOrderLemmas
 mod JsonLemmas
 mod KnownLemmas
 mod NumberingLemmas
+mod OwnerLemmas
 mod ReasonLemmas
+mod RouteLemmas
 mod SoundLemmas
