@@ -1,9 +1,9 @@
 -- The children that own servers, as they are found.
-use Rattle.std.proofs.Common.{◌≡◌, ◌<◌, ◌≤◌, ℕ, zero, suc, ◌+◌, Bool, true, false, cond, List, [], ◌∷◌, ◌++◌, length, map, refl, sym, arith, inl, inr, ◌||◌}
+use Rattle.std.proofs.Common.{◌≡◌, ◌<◌, ◌≤◌, ℕ, zero, suc, ◌+◌, Bool, true, false, cond, List, [], ◌∷◌, ◌++◌, length, map, refl, ap, sym, arith, inl, inr, ◌||◌}
 use Rattle.std.specs.Prelude.{◌==◌, unwrap_or}
 use Rattle.std.specs.List.{filter, position, range_with_len}
 use Rattle.std.proofs.lemmas.Bool.{cases_Bool, eqb-true, ne_eqb}
-use Rattle.std.proofs.lemmas.List.{length-map, map-id}
+use Rattle.std.proofs.lemmas.List.{append-nil, length-map, map-id}
 use Rattle.std.proofs.lemmas.List.FromFn.{map-range_with_len_more, filter_of_map_range_with_len_more, length-range_with_len}
 use Rattle.tko_pools.specs.Groups.{first_place, is_in, owner_of, owners_of, owning}
 use Rattle.tko_pools.proofs.NumberingLemmas.{position_map}
@@ -99,3 +99,12 @@ few-places (owner ∷ owners) children =
 pub length-owners : (children : List (List ℕ)) (servers : ℕ) → length (owners_of children servers) ≡ servers
 length-owners children servers =
     rw (length-map (range_with_len 0 servers) (owner_of children), length-range_with_len 0 servers) refl
+
+pub few-owned : (children : List (List ℕ)) (servers count most : ℕ) (owners places : List ℕ)
+    → owners ≡ owners_of children servers → places ≡ owning owners count → servers ≤ most
+    → length places ≤ most
+few-owned children servers count most owners places owners_so places_so within =
+    let few = few-places owners count in
+    let owned : length owners ≡ servers = rw owners_so (length-owners children servers) in
+    let same = ap length places_so in
+    omega (arith, few, owned, same, within)

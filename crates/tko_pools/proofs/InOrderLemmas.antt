@@ -3,13 +3,14 @@ use Rattle.std.proofs.Common.{◌≡◌, ◌<◌, ◌≤◌, ℕ, zero, suc, ◌
 use Rattle.std.specs.List.{All, range_with_len}
 use Rattle.std.specs.Prelude.{◌%◌, Option, None, replicate, slice_index}
 use Rattle.std.proofs.Math.Nat.{mod-one}
-use Rattle.std.proofs.lemmas.List.{length-map, map-append}
+use Rattle.std.proofs.lemmas.List.{length-map, length-replicate, map-append}
 use Rattle.std.proofs.lemmas.List.Elements.{All-nil, All-cons}
 use Rattle.std.proofs.lemmas.List.FromFn.{map-range_with_len_more}
 use Rattle.tko_pools.specs.Configs.{Configuration, IsSound, chosen_by, in_order, numbers_below, targets_of}
 use Rattle.tko_pools.specs.Hash.{fnv1a_of}
 use Rattle.tko_pools.specs.Reasons.{max_servers}
 use Rattle.tko_pools.specs.Routes.{default_exptime}
+use Rattle.tko_pools.proofs.LimitLemmas.{IsSmall}
 
 -- a child with one server
 abbrev alone : ℕ → List ℕ
@@ -26,14 +27,14 @@ children-more items count children all child before last e =
 -- the configuration is the one of these addresses
 pub in_order-made : {X : Type 0} (text : X → List ℕ) (texts : List X) (addresses children : List (List ℕ)) (groups : List ℕ) (limits : List (Option ℕ)) (count : ℕ)
     → addresses ≡ map text texts → children ≡ map alone (numbers_below count)
-    → groups ≡ replicate count 0 → limits ≡ None ∷ [] → count ≡ length texts
+    → groups ≡ replicate (length texts) 0 → limits ≡ None ∷ [] → count ≡ length texts
     → record {
-        addresses = addresses;
-        children = children;
-        failover_exptime = default_exptime;
-        groups = groups;
-        soft_limits = limits;
-      } ≡ in_order (map text texts)
+      addresses = addresses;
+      children = children;
+      failover_exptime = default_exptime;
+      groups = groups;
+      soft_limits = limits;
+    } ≡ in_order (map text texts)
 in_order-made text texts addresses children groups limits count named numbered grouped limited counted =
     rw (named, numbered, grouped, limited, counted, length-map texts text) refl
 
@@ -75,11 +76,12 @@ in_order-sound addresses few = record {
   numbers = below 0 (length addresses) (length addresses) (omega arith);
   servers = few;
   groups = record {
-      some = omega arith;
-      few = omega arith;
-      one_each = length-replicate (length addresses) 0;
-      within = one-group (length addresses);
-    };
+    some = omega arith;
+    few = omega arith;
+    one_each = length-replicate (length addresses) 0;
+    within = one-group (length addresses);
+    small = All-cons IsSmall None [] tt (All-nil IsSmall);
+  };
 }
 
 pub made-sound : {X : Type 0} (text : X → List ℕ) (texts : List X) (config : Configuration)

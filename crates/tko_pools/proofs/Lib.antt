@@ -3,6 +3,7 @@ mod HeldLemmas
 mod InOrderLemmas
 mod JsonLemmas
 mod KnownLemmas
+mod LimitLemmas
 mod NumberingLemmas
 mod OwnerLemmas
 mod ReasonLemmas

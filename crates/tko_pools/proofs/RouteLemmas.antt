@@ -28,9 +28,14 @@ named-some : (name : Option (List ℕ)) (others : Option (List (List ℕ)))
 named-some None others = tt
 named-some (Some name) others = joined-some name others
 
+tested-some : (none : Bool) (text : List ℕ) (texts : List (List ℕ))
+    → AreSome (cond none None (child_names (text ∷ texts)))
+tested-some true text texts = tt
+tested-some false text texts = named-some (child_name text) (child_names texts)
+
 texts-some : (texts : List (List ℕ)) → AreSome (cond (length texts == 0) None (child_names texts))
 texts-some [] = tt
-texts-some (text ∷ texts) = named-some (child_name text) (child_names texts)
+texts-some (text ∷ texts) = tested-some (length (text ∷ texts) == 0) text texts
 
 listed-some : (items : Option Items) → AreSome (option_and_then names_in items)
 listed-some None = tt

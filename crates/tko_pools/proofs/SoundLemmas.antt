@@ -14,12 +14,13 @@ use Rattle.serde_json.specs.Data.{Data, null, boolean, number, string, array, ob
 use Rattle.serde_json.specs.Find.{get, get_member}
 use Rattle.tko_pools.specs.Json.{pool_list, pool_of, pools_of, servers_named, servers_of}
 use Rattle.tko_pools.specs.Reasons.{pool_reason, pools_reason, max_servers, unknown_child}
-use Rattle.tko_pools.specs.Configs.{IsSound, addresses_of, child_of, soft_limits_at}
-use Rattle.tko_pools.specs.Groups.{first_place, groups_of, owners_of, owning}
+use Rattle.tko_pools.specs.Configs.{AreGroups, IsSound, addresses_of, child_of, soft_limits_in}
+use Rattle.tko_pools.specs.Groups.{first_place, groups_in, owners_of, owning}
 use Rattle.tko_pools.specs.SoftLimits.{limit_value, soft_limit_named}
 use Rattle.tko_pools.specs.Numbering.{number_in}
 use Rattle.tko_pools.proofs.GroupLemmas.{few-places, length-owners}
 use Rattle.tko_pools.proofs.HeldLemmas.{all-numbers-held}
+use Rattle.tko_pools.proofs.LimitLemmas.{limits-small}
 use Rattle.tko_pools.proofs.OwnerLemmas.{groups-below, some-below}
 use Rattle.tko_pools.proofs.KnownLemmas.{IsKnown, all-flat, all-known, known-number}
 
@@ -103,17 +104,15 @@ child-nonempty addresses pools name some =
     subst P (sym (length-map (servers_named pools name) (number_in addresses))) some
 
 -- what is known of the parts of a configuration, as they are made
-pub record AreParts (pools : Data) (names addresses children : List (List ℕ)) (owners places groups : List ℕ) (limits : List (Option ℕ)) : Type 0 where
-  pub addresses : addresses ≡ addresses_of pools names
-  pub children : children ≡ map (child_of addresses pools) names
+pub record AreParts (pools : Data) (names addresses children : List (List ℕ)) (groups : List ℕ) (limits : List (Option ℕ)) : Type 0 where
+  pub are_addresses : addresses ≡ addresses_of pools names
+  pub are_children : children ≡ map (child_of addresses pools) names
   pub sound : pools_reason (pool_list pools) ≡ None
   pub named : unknown_child pools names ≡ None
   pub some : 0 < length names
   pub within : length addresses ≤ max_servers
-  pub owners : owners ≡ owners_of children (length addresses)
-  pub places : places ≡ owning owners (length children)
-  pub groups : groups ≡ groups_of owners places
-  pub limits : limits ≡ soft_limits_at pools names places
+  pub are_groups : groups ≡ groups_in children (length addresses)
+  pub are_limits : limits ≡ soft_limits_in pools names children (length addresses)
 
 -- children with servers mean that there is one
 some-servers : (children : List (List ℕ)) (count : ℕ) → 0 < length children
@@ -122,65 +121,81 @@ some-servers [] count some filled below = absurd (omega (arith, some))
 some-servers (child ∷ children) count some filled below =
     some-below child count (All-head (λ c. 0 < length c) child children filled) (All-head (AllBelow count) child children below)
 
-module _ (pools : Data) (names addresses children : List (List ℕ)) (owners places groups : List ℕ) (limits : List (Option ℕ)) (exptime : ℕ) (parts : AreParts pools names addresses children owners places groups limits) where
+module _ (pools : Data) (names addresses children : List (List ℕ)) (groups : List ℕ) (limits : List (Option ℕ)) (exptime : ℕ) (parts : AreParts pools names addresses children groups limits) where
+  abbrev owners : List ℕ
+  owners = owners_of children (length addresses)
+
+  abbrev places : List ℕ
+  places = owning owners (length children)
+
   children-filled : All (λ child. 0 < length child) children
   children-filled =
-      rw parts.children (All-map
-          (λ child. 0 < length child)
-          (child_of addresses pools)
-          names
-          (All-weaker (λ name. 0 < length (servers_named pools name)) (λ name. 0 < length (child_of addresses pools name)) (child-nonempty addresses pools) names (children-nonempty pools names parts.sound parts.named)))
+      rw parts.are_children (All-map
+      (λ child. 0 < length child)
+      (child_of addresses pools)
+      names
+      (All-weaker (λ name. 0 < length (servers_named pools name)) (λ name. 0 < length (child_of addresses pools name)) (child-nonempty addresses pools) names (children-nonempty pools names parts.sound parts.named)))
 
   children-below : All (AllBelow (length addresses)) children
   children-below =
       let known : All (λ name. All (IsKnown addresses) (servers_named pools name)) names =
-      rw parts.addresses (all-flat (IsKnown (addresses_of pools names)) (servers_named pools) names (all-known (flat_map (servers_named pools) names) [])) in
-      rw parts.children (All-map
-          (AllBelow (length addresses))
-          (child_of addresses pools)
-          names
-          (All-weaker (λ name. All (IsKnown addresses) (servers_named pools name)) (λ name. AllBelow (length addresses) (child_of addresses pools name)) (numbers-below addresses pools) names known))
+      rw parts.are_addresses (all-flat (IsKnown (addresses_of pools names)) (servers_named pools) names (all-known (flat_map (servers_named pools) names) [])) in
+      rw parts.are_children (All-map
+      (AllBelow (length addresses))
+      (child_of addresses pools)
+      names
+      (All-weaker (λ name. All (IsKnown addresses) (servers_named pools name)) (λ name. AllBelow (length addresses) (child_of addresses pools name)) (numbers-below addresses pools) names known))
 
   are-below : All (λ group. group < length places) groups
   are-below =
-      let held = all-numbers-held pools names addresses children parts.addresses parts.children in
-      rw parts.groups (groups-below children (length addresses) owners places parts.owners parts.places held)
+      let held = all-numbers-held pools names addresses children parts.are_addresses parts.are_children in
+      rw parts.are_groups (groups-below children (length addresses) owners places refl refl held)
 
   one-each : length groups ≡ length addresses
   one-each =
-      rw (parts.groups, length-map owners (λ owner. first_place (λ place. place == owner) places), parts.owners) (length-owners children (length addresses))
+      rw (parts.are_groups, length-map owners (λ owner. first_place (λ place. place == owner) places)) (length-owners children (length addresses))
 
   few-groups : length places ≤ max_servers
   few-groups =
       let few = few-places owners (length children) in
-      let owned : length owners ≡ length addresses = rw parts.owners (length-owners children (length addresses)) in
-      let same : length places ≡ length (owning owners (length children)) = ap length parts.places in
-      omega (arith, few, owned, same, parts.within)
+      let owned = length-owners children (length addresses) in
+      omega (arith, few, owned, parts.within)
 
   some-children : 0 < length children
   some-children =
-      let count : length children ≡ length names = rw (parts.children, length-map names (child_of addresses pools)) refl in
+      let count : length children ≡ length names = rw (parts.are_children, length-map names (child_of addresses pools)) refl in
       omega (arith, count, parts.some)
 
-  pub is-sound : IsSound (record {
-        addresses = addresses;
-        children = children;
-        failover_exptime = exptime;
-        groups = groups;
-        soft_limits = limits;
-      })
-  is-sound =
+  are-groups : AreGroups (record {
+    addresses = addresses;
+    children = children;
+    failover_exptime = exptime;
+    groups = groups;
+    soft_limits = limits;
+  })
+  are-groups =
       let some = some-servers children (length addresses) some-children children-filled children-below in
       let grouped : 0 < length groups = rw one-each some in
-      let count : length limits ≡ length places = rw (parts.limits, length-map places (λ place. soft_limit_named pools (get_or names place []))) refl in
+      let count : length limits ≡ length places = rw (parts.are_limits, length-map places (λ place. soft_limit_named pools (get_or names place []))) refl in
+      record {
+        some = rw count (some-below groups (length places) grouped are-below);
+        few = rw count few-groups;
+        one_each = one-each;
+        within = rw count are-below;
+        small = rw parts.are_limits (limits-small pools names places);
+      }
+
+  pub is-sound : IsSound (record {
+    addresses = addresses;
+    children = children;
+    failover_exptime = exptime;
+    groups = groups;
+    soft_limits = limits;
+  })
+  is-sound =
       record {
         children = children-filled;
         numbers = children-below;
         servers = parts.within;
-        groups = record {
-            some = rw count (some-below groups (length places) grouped are-below);
-            few = rw count few-groups;
-            one_each = one-each;
-            within = rw count are-below;
-          };
+        groups = are-groups;
       }

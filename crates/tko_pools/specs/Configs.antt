@@ -1,11 +1,11 @@
 -- What a configuration is: the servers by their numbers, and each child's servers.
-use Rattle.std.specs.Prelude.{◌≡◌, ℕ, ◌%◌, ◌<◌, ◌≤◌, List, [], ◌∷◌, length, map, slice_index, get_or, replicate, All, Option, Some, None, is_some, unwrap_or, true}
+use Rattle.std.specs.Prelude.{◌≡◌, ℕ, ◌%◌, ◌<◌, ◌≤◌, List, [], ◌∷◌, length, map, slice_index, get_or, replicate, All, Option, Some, None, IfSome, is_some, unwrap_or, true}
 use Rattle.std.specs.List.{flat_map, range_with_len}
 use Rattle.std.specs.Str.{IsUtf8}
 use Rattle.serde_json.specs.Data.{Data}
 use Rattle.serde_json.specs.Find.{as_object}
 use Rattle.serde_json.specs.Read.{read}
-use Rattle.tko_pools.specs.Groups.{groups_of, owners_of, owning}
+use Rattle.tko_pools.specs.Groups.{groups_in, places_in}
 use Rattle.tko_pools.specs.Hash.{fnv1a_of}
 use Rattle.tko_pools.specs.Json.{pools_in, servers_named}
 use Rattle.tko_pools.specs.Numbering.{number_in, numbered}
@@ -13,7 +13,7 @@ use Rattle.tko_pools.specs.declared.fault.ConfigFault.{ConfigFault}
 use Rattle.tko_pools.specs.declared.fault.ConfigFault.TheVariants as fault
 use Rattle.tko_pools.specs.Reasons.{Reports, max_servers, reason_of}
 use Rattle.tko_pools.specs.Routes.{RouteRead, default_exptime, route_in}
-use Rattle.tko_pools.specs.SoftLimits.{soft_limit_named}
+use Rattle.tko_pools.specs.SoftLimits.{max_soft_limit, soft_limit_named}
 
 pub record Configuration : Type 0 where
   -- the addresses in the order of their numbers
@@ -56,19 +56,22 @@ abbrev pub soft_limits_at : Data → List (List ℕ) → List ℕ → List (Opti
 soft_limits_at pools names places =
     map (λ place. soft_limit_named pools (get_or names place [])) places
 
+-- the soft limits of the groups of as many servers of these children, which are the pools of names
+abbrev pub soft_limits_in : Data → List (List ℕ) → List (List ℕ) → ℕ → List (Option ℕ)
+soft_limits_in pools names children servers =
+    soft_limits_at pools names (places_in children servers)
+
 -- the configuration of these pools and this route
 abbrev pub configuration : Data → RouteRead → Configuration
 configuration pools route =
     let addresses = addresses_of pools route.children in
     let children = map (child_of addresses pools) route.children in
-    let owners = owners_of children (length addresses) in
-    let places = owning owners (length children) in
     record {
       addresses = addresses;
       children = children;
       failover_exptime = route.failover_exptime;
-      groups = groups_of owners places;
-      soft_limits = soft_limits_at pools route.children places;
+      groups = groups_in children (length addresses);
+      soft_limits = soft_limits_in pools route.children children (length addresses);
     }
 
 -- the numbers of `count` servers
@@ -108,12 +111,14 @@ Refuses text fault.Json = IsNoRoot text
 Refuses text fault.Memory = Unit {0}
 Refuses text other = IsRefused text other
 
--- there is a group and not more than 256, and each server has one of them
+-- there is a group and not more than 256, each server has one of them, and no pool's own soft limit
+-- is above 256
 pub record AreGroups (config : Configuration) : Type 0 where
   pub some : 0 < length config.soft_limits
   pub few : length config.soft_limits ≤ max_servers
   pub one_each : length config.groups ≡ length config.addresses
   pub within : All (λ group. group < length config.soft_limits) config.groups
+  pub small : All (λ limit. IfSome limit (λ n. n ≤ max_soft_limit)) config.soft_limits
 
 -- each child has a server, each number is below the number of addresses, and the servers have groups
 pub record IsSound (config : Configuration) : Type 0 where

@@ -24,7 +24,15 @@ owners_of children servers = map (owner_of children) (range_with_len 0 servers)
 abbrev pub owning : List ℕ → ℕ → List ℕ
 owning owners children = filter (is_in owners) (range_with_len 0 children)
 
+-- the places of the children that own one of as many servers
+abbrev pub places_in : List (List ℕ) → ℕ → List ℕ
+places_in children servers = owning (owners_of children servers) (length children)
+
 -- the group of each server: the place of its owner among the children that own one
 abbrev pub groups_of : List ℕ → List ℕ → List ℕ
 groups_of owners places =
     map (λ owner. first_place (λ place. place == owner) places) owners
+
+-- the groups of as many servers of these children
+abbrev pub groups_in : List (List ℕ) → ℕ → List ℕ
+groups_in children servers = groups_of (owners_of children servers) (places_in children servers)

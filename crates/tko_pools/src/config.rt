@@ -9,7 +9,7 @@ mod copying;
 mod in_order;
 
 use crate::flaws::{check_pools, unknown_child};
-use crate::groups::{groups_of, owners_of, owning, soft_limits_at};
+use crate::groups::Grouping;
 use crate::json::{pools_in, servers_named};
 use crate::numbering::Addresses;
 use crate::route::Route;
@@ -102,14 +102,13 @@ impl Config {
             return Err(ConfigFault::TooManyServers);
         }
         let children = children_of(alloc, &addresses, pools, names)?;
-        let owners = owners_of(alloc, &children, addresses.len())?;
-        let places = owning(alloc, &owners, children.len())?;
+        let grouping = Grouping::of(alloc, pools, names, &children, addresses.len())?;
         Ok(Config {
-            groups: groups_of(alloc, &owners, &places)?,
-            soft_limits: soft_limits_at(alloc, pools, names, &places)?,
             addresses,
             children,
             failover_exptime: route.failover_exptime(),
+            groups: grouping.groups,
+            soft_limits: grouping.soft_limits,
         })
     }
 }

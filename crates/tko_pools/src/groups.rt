@@ -2,16 +2,48 @@
 ghost use Rattle.std.specs.Prelude.{◌≡◌, ◌<◌, ◌≤◌, ◌==◌, [], IfOk, IfSome, get_or, length, map};
 ghost use Rattle.std.specs.List.{position};
 ghost use Rattle.serde_json.specs.View.{view};
-ghost use Rattle.tko_pools.specs.Configs.{soft_limits_at};
-ghost use Rattle.tko_pools.specs.Groups.{first_place, groups_of, is_in, owner_of, owners_of, owning};
+ghost use Rattle.tko_pools.specs.Configs.{soft_limits_at, soft_limits_in};
+ghost use Rattle.tko_pools.specs.Groups.{first_place, groups_in, groups_of, is_in, owner_of, owners_of, owning};
 ghost use Rattle.tko_pools.specs.Reasons.{max_servers};
 
 use crate::soft_limits::soft_limit_named;
 use serde_json::Value;
 use std::alloc::{AllocError, Global};
 
+/// The groups of the servers of some children, and the soft limit of each group's pool.
+#[derive(Drop)]
+pub(crate) struct Grouping {
+    pub(crate) groups: Vec<u32>,
+    pub(crate) soft_limits: Vec<Option<u32>>,
+}
+
+impl Grouping {
+    /// The grouping of as many servers of these children, which are the pools of these names.
+    pub(crate) fn of(
+        alloc: Global,
+        pools: &Value,
+        names: &[&str],
+        children: &[Vec<usize>],
+        servers: usize,
+    ) -> Result<Grouping, AllocError>
+        requires few { servers ≤ max_servers }
+        ensures groups { IfOk result (λ grouping. grouping.groups.items
+            ≡ groups_in (map (λ child. child.items) children.now) servers) }
+        ensures limits { IfOk result (λ grouping. grouping.soft_limits.items ≡ soft_limits_in
+            (view pools.now) (map (λ name. name.now) names.now)
+            (map (λ child. child.items) children.now) servers) }
+    {
+        let owners = owners_of(alloc, children, servers)?;
+        let places = owning(alloc, &owners, children.len())?;
+        Ok(Grouping {
+            groups: groups_of(alloc, &owners, &places)?,
+            soft_limits: soft_limits_at(alloc, pools, names, &places)?,
+        })
+    }
+}
+
 /// The owner of each server: the place of the first child that holds it.
-pub(crate) fn owners_of(
+fn owners_of(
     alloc: Global,
     children: &[Vec<usize>],
     servers: usize,
@@ -47,11 +79,7 @@ fn is_in(numbers: &[usize], number: usize) -> bool
 }
 
 /// The places of the children that own a server, in their order.
-pub(crate) fn owning(
-    alloc: Global,
-    owners: &[usize],
-    children: usize,
-) -> Result<Vec<usize>, AllocError>
+fn owning(alloc: Global, owners: &[usize], children: usize) -> Result<Vec<usize>, AllocError>
     ensures { IfOk result (λ places. places.items ≡ owning owners.now children) }
 {
     let mut places = Vec::new(alloc);
@@ -64,11 +92,7 @@ pub(crate) fn owning(
 }
 
 /// The group of each server: the place of its owner among the children that own one.
-pub(crate) fn groups_of(
-    alloc: Global,
-    owners: &[usize],
-    places: &[usize],
-) -> Result<Vec<u32>, AllocError>
+fn groups_of(alloc: Global, owners: &[usize], places: &[usize]) -> Result<Vec<u32>, AllocError>
     requires few { length places.now ≤ max_servers }
     ensures { IfOk result (λ groups. groups.items ≡ groups_of owners.now places.now) }
 {
@@ -95,7 +119,7 @@ fn found_in(numbers: &[usize], number: usize) -> Option<usize>
 }
 
 /// The soft limits of the pools that these places have among the names.
-pub(crate) fn soft_limits_at(
+fn soft_limits_at(
     alloc: Global,
     pools: &Value,
     names: &[&str],
