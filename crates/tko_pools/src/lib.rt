@@ -11,10 +11,12 @@ mod address;
 mod config;
 mod fault;
 mod flaws;
+mod groups;
 mod hash;
 mod json;
 mod numbering;
 mod route;
+mod soft_limits;
 
 pub use address::is_address;
 pub use config::Config;
