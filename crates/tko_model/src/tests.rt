@@ -89,10 +89,15 @@ fn only_the_thread_that_marked_a_server_may_probe_it(rt: HostRuntime) {
     }
 }
 
-/// These limits, and the group of each of so many servers. The first soft failure marks.
-fn in_groups(alloc: Global, limits: &[u32], group_of: &[u32]) -> Result<Settings, NoMemory> {
+/// So many servers, these limits, and the group of each server. The first soft failure marks.
+fn in_groups(
+    alloc: Global,
+    servers: u32,
+    limits: &[u32],
+    group_of: &[u32],
+) -> Result<Settings, NoMemory> {
     Ok(Settings {
-        servers: group_of.len() as u32,
+        servers,
         failures: 1,
         limits: limits.to_vec(alloc)?,
         group_of: group_of.to_vec(alloc)?,
@@ -102,7 +107,7 @@ fn in_groups(alloc: Global, limits: &[u32], group_of: &[u32]) -> Result<Settings
 
 #[test]
 fn a_soft_mark_counts_in_its_group_alone(rt: HostRuntime) -> Result<(), Fail> {
-    let settings = in_groups(rt.alloc(), &[1, 0, 1], &[0, 1, 2, 0])?;
+    let settings = in_groups(rt.alloc(), 4, &[1, 0, 1], &[0, 1, 2, 0])?;
     let mut tracker = Plain::open(rt.alloc(), settings)?;
     for (thread, op, server, reply) in [
         (0, Op::SoftFailure, 0, Reply::TookSoft),
@@ -129,10 +134,10 @@ fn each_server_has_one_of_the_groups(rt: HostRuntime) -> Result<(), Fail> {
         (&[1; 256], &[255, 0], None),
         (&[1; 257], &[0, 0], Some(SettingsFault::Groups)),
     ] {
-        let settings = in_groups(rt.alloc(), limits, group_of)?;
+        let settings = in_groups(rt.alloc(), 2, limits, group_of)?;
         assert_eq!(rt; settings.check().err(), fault);
     }
-    let settings = in_groups(rt.alloc(), &[1], &[0, 0])?;
+    let settings = in_groups(rt.alloc(), 2, &[1], &[0, 0])?;
     assert_eq!(rt; settings.check_with_servers(3), Err(SettingsFault::Groups));
     assert_eq!(rt; settings.check_with_servers(1), Err(SettingsFault::Groups));
     Ok(())
