@@ -236,13 +236,14 @@ fn lost_mark_gives_slot_back(rt: HostRuntime) -> Result<(), Fail> {
 }
 
 #[test]
-fn settings_out_of_range_are_refused(rt: HostRuntime) {
+fn settings_out_of_range_are_refused(rt: HostRuntime) -> Result<(), Fail> {
     let settings = OneGroup {
         servers: 0,
         ..SETTINGS
     };
     let fault = Words::open(rt.alloc(), settings.settings(rt.alloc())?).err();
     assert!(rt; matches!(fault, Some(OpenFault::Settings(SettingsFault::Servers))));
+    Ok(())
 }
 
 #[test]

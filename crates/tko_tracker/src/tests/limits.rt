@@ -1,12 +1,12 @@
-//! A worn stamp, and no soft mark at all.
+//! A worn stamp, no soft mark at all, limits by group, and the most threads.
 ghost use Rattle.std.specs.Prelude.{◌<◌};
 
-use super::{is_at, reply};
+use super::{is_at, last_two, reply};
 use crate::{close, open, wake};
 use std::alloc::Global;
 use std::process::Abort;
 use std::test::Fail;
-use tko_model::{Mark, OneGroup, Op, OpenFault, Reply, SettingsFault};
+use tko_model::{Mark, OneGroup, Op, OpenFault, Reply, Settings, SettingsFault};
 
 const SETTINGS: OneGroup = OneGroup {
     servers: 1,
@@ -102,6 +102,31 @@ fn limit_zero_never_marks_soft(rt: HostRuntime) -> Result<(), Fail> {
         (Op::Release, Reply::Released(Mark::Hard(0))),
     ];
     play(&rt, rt.alloc(), settings, &calls, 2)
+}
+
+#[test]
+fn each_group_has_its_own_limit(rt: HostRuntime) -> Result<(), Fail> {
+    let alloc = rt.alloc();
+    let settings = Settings {
+        servers: 4,
+        threads: 2,
+        limits: Vec::from_slice(alloc, &[1, 0, 1])?,
+        group_of: Vec::from_slice(alloc, &[0, 1, 2, 0])?,
+        ..SETTINGS.settings(alloc)?
+    };
+    let (tracker, passes) = open(alloc, settings)?;
+    let (mut first, mut second) = last_two(&tracker, passes).expect(&rt, "two passes");
+    assert_eq!(rt; reply(&tracker, &mut first, Op::SoftFailure, 0), Reply::TookSoft);
+    assert_eq!(rt; reply(&tracker, &mut second, Op::SoftFailure, 3), Reply::Full);
+    assert_eq!(rt; reply(&tracker, &mut second, Op::SoftFailure, 1), Reply::Full);
+    assert_eq!(rt; reply(&tracker, &mut second, Op::SoftFailure, 2), Reply::TookSoft);
+    let (first, second) = (tracker.retire(first), tracker.retire(second));
+    let Ok(last) = close(tracker, vec![in alloc; first, second]?) else {
+        panic!(rt; "a pass is missing")
+    };
+    assert!(rt; last.groups() == 3);
+    assert_eq!(rt; [last.soft(0), last.soft(1), last.soft(2)], [(0, 0); 3]);
+    Ok(())
 }
 
 #[test]
