@@ -162,7 +162,7 @@ class Faults(ServerTest):
         for words, status, line in (
                 (["--listen", address, "--config", "{}"], 1,
                  b"config: there is no object of pools\nfault: config no-pools\n"),
-                (["--listen", address, "--config", good, "--threads", "65"], 1, b"fault: settings threads\n"),
+                (["--listen", address, "--config", good, "--threads", "1025"], 1, b"fault: settings threads\n"),
                 (["--listen", address, "--config", good, "--threads", "0"], 1, b"fault: settings threads\n"),
                 (["--listen", address, "--config", good, "--first-delay", "0"], 1, b"fault: delays\n"),
                 (["--listen", address, "--config", good, "--first-delay", "2", "--greatest-delay", "1"], 1,
