@@ -93,6 +93,7 @@ fn config_name(cause: &ConfigFault) -> &'static str
         ConfigFault::NoPools => "no-pools",
         ConfigFault::EmptyPool(_) => "empty-pool",
         ConfigFault::Address(_) => "address",
+        ConfigFault::SoftLimit(_) => "soft-limit",
         ConfigFault::Route => "route",
         ConfigFault::NoSuchPool(_) => "no-such-pool",
         ConfigFault::TooManyServers => "too-many-servers",

@@ -77,6 +77,9 @@ flaw_text root (fault.EmptyPool name) =
     codes "pool " ++ quoted (string_bytes name) ++ codes " has no list of one or more servers"
 flaw_text root (fault.Address text) =
     root_place_text root ++ address_text (string_bytes text)
+flaw_text root (fault.SoftLimit name) =
+    codes "pool " ++ quoted (string_bytes name)
+    ++ codes " has a soft_limit that is no whole number from 0 to 256"
 flaw_text root fault.Route = route_text (get (codes "route") root)
 flaw_text root (fault.NoSuchPool name) =
     codes "the route names pool " ++ quoted (string_bytes name) ++ codes ", which is not there"

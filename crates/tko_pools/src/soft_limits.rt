@@ -18,7 +18,7 @@ pub(crate) fn has_no_limit(pool: &Value) -> bool
 }
 
 /// The soft limit of the pool of a name, where it has one.
-pub(crate) fn soft_limit_named(pools: &Value, name: &str) -> Option<u32>
+pub fn soft_limit_named(pools: &Value, name: &str) -> Option<u32>
     ensures { result ≡ soft_limit_named (view pools.now) name.now }
 {
     soft_limit_of(pools.get(name)?.get("soft_limit")?)
