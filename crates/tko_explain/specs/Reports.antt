@@ -16,7 +16,7 @@ servers_text number (address ∷ others) =
     ++ servers_text (number + 1) others
 
 -- the soft limit of a pool, if it has one
-abbrev pub limit_text : List ℕ → Option ℕ → List ℕ
+unfoldable pub limit_text : List ℕ → Option ℕ → List ℕ
 limit_text name None = []
 limit_text name (Some limit) = named_line (codes "soft_limit ") name (limit ∷ [])
 

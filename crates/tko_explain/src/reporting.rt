@@ -127,12 +127,8 @@ fn append_children(
 }
 
 /// Appends the soft limit of the pool of a name, if it has one.
-fn append_limit(
-    alloc: Global,
-    out: &mut Vec<u8>,
-    pools: &Value,
-    name: &str,
-) -> Result<(), NoMemory>
+#[tactic(auto, unfolding(crate::specs::Reports::limit_text))]
+fn append_limit(alloc: Global, out: &mut Vec<u8>, pools: &Value, name: &str) -> Result<(), NoMemory>
     ensures { OnOk result (out.new.items ≡ out.old.items
         ++ limit_text name.now (soft_limit_named (view pools.now) name.now)) }
 {
