@@ -8,7 +8,7 @@ use Rattle.tko_model.specs.Settings.{Settings, with_servers}
 use Rattle.tko_model.specs.declared.settings.SettingsFault.{SettingsFault}
 use Rattle.tko_server.specs.declared.run_fault.RunFault.{RunFault}
 use Rattle.tko_server.specs.declared.run_fault.RunFault.TheVariants as run
-use Rattle.tko_server.specs.Runs.{fault_of_opening}
+use Rattle.tko_server.specs.Runs.{IsAfterOpening, fault_of_opening}
 
 -- the tracker was not opened
 pub not_opened : {T U : Type 0} (opened : Result T OpenFault) (ended : Result U RunFault)
@@ -92,3 +92,18 @@ of_servers ended settings one other same told =
     let P : ℕ → Type 0 = λ n. (fault : SettingsFault) → (ended ≡ Err (run.Settings fault))
     ↔ (first_fault (with_servers n settings) ≡ Some fault) in
     subst P same told
+
+-- the settings passed, and the run failed behind that
+pub failed_later : {T U : Type 0} (one : Result T RunFault) (other : Result U RunFault)
+    (first : Option SettingsFault) (value : T) (cause : RunFault) → one ≡ Ok value → other ≡ Err cause → IsAfterOpening cause
+    → ((fault : SettingsFault) → (one ≡ Err (run.Settings fault)) ↔ (first ≡ Some fault))
+    → (fault : SettingsFault) → (other ≡ Err (run.Settings fault)) ↔ (first ≡ Some fault)
+failed_later one other first value (run.Settings name) is ends after told = absurd after
+failed_later one other first value run.Memory is ends after told fault = (
+  λ e. cc,
+  λ h. let named : one ≡ Err (run.Settings fault) = (told fault).1 h in cc,
+)
+failed_later one other first value run.Accept is ends after told fault = (
+  λ e. cc,
+  λ h. let named : one ≡ Err (run.Settings fault) = (told fault).1 h in cc,
+)
