@@ -98,7 +98,7 @@ pub failed_later : {T U : Type 0} (one : Result T RunFault) (other : Result U Ru
     (first : Option SettingsFault) (value : T) (cause : RunFault) → one ≡ Ok value → other ≡ Err cause → IsAfterOpening cause
     → ((fault : SettingsFault) → (one ≡ Err (run.Settings fault)) ↔ (first ≡ Some fault))
     → (fault : SettingsFault) → (other ≡ Err (run.Settings fault)) ↔ (first ≡ Some fault)
-failed_later one other first value (run.Settings name) is ends after told = absurd after
+failed_later one other first value (run.Settings name) is ends after told fault = absurd after
 failed_later one other first value run.Memory is ends after told fault = (
   λ e. cc,
   λ h. let named : one ≡ Err (run.Settings fault) = (told fault).1 h in cc,
