@@ -4,11 +4,10 @@ use Rattle.std.specs.List.{list_all, position_from}
 use Rattle.std.specs.Str.{IsUtf8, bytes_eq}
 use Rattle.json.specs.Print.{quoted}
 use Rattle.serde_json.specs.Data.{Data, null, boolean, number, string, array, object}
-use Rattle.serde_json.specs.Find.{as_object, get}
+use Rattle.serde_json.specs.Find.{get}
 use Rattle.serde_json.specs.Read.{read}
 use Rattle.tko_pools.specs.Addresses.{is_address}
-use Rattle.tko_pools.specs.Configs.{IsRoot}
-use Rattle.tko_pools.specs.Json.{Pool, child_prefix, pool_list, pools_of, text_of}
+use Rattle.tko_pools.specs.Json.{Pool, child_prefix, pools_of, text_of}
 use Rattle.tko_pools.specs.declared.fault.ConfigFault.{ConfigFault}
 use Rattle.tko_pools.specs.declared.fault.ConfigFault.TheVariants as fault
 use Rattle.tko_explain.specs.Parts.{list_in, members_in}

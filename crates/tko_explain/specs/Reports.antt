@@ -1,5 +1,5 @@
 -- What is printed of a configuration that is one.
-use Rattle.std.specs.Prelude.{◌≡◌, ℕ, ◌+◌, List, [], ◌∷◌, ◌++◌, Option, Some, None, codes, decimal, unwrap_or, option_map}
+use Rattle.std.specs.Prelude.{◌≡◌, ℕ, ◌+◌, List, [], ◌∷◌, ◌++◌, Option, Some, None, codes, decimal}
 use Rattle.serde_json.specs.Data.{Data}
 use Rattle.tko_pools.specs.Configs.{Configuration, IsMeaning, IsRoot, child_of, targets_of}
 use Rattle.tko_pools.specs.Json.{pools_in}
