@@ -19,8 +19,8 @@ use tko_model::append_number;
 use tko_pools::{Config, ConfigFault, soft_limit_named};
 
 /// The servers by their numbers, the pools of the route with the numbers of their servers and with
-/// their soft limits, the greatest expiry after the first target, the targets of each of the keys, and a warning for
-/// whatever has no effect, a line each.
+/// their soft limits, the greatest expiry after the first target, the targets of each of the keys,
+/// and a warning for whatever has no effect, a line each.
 pub fn report(alloc: Global, json: &[u8], keys: &[String]) -> Result<Vec<u8>, ConfigFault>
     ensures ok { IfOk result (λ text. IsReport json.now (map string_bytes keys.now) text.items) }
     ensures err { IfErr result (λ fault. Refuses json.now fault) }
