@@ -18,7 +18,8 @@ pub(crate) fn config_of(alloc: Global, options: &DryOptions) -> Result<Config, F
     match &options.config {
         Some(json) => Ok(Config::read(alloc, json.as_bytes())?),
         None => {
-            options.settings(options.servers).settings(alloc)?.check()?;
+            let settings = options.settings(options.servers).settings(alloc)?;
+            settings.check()?;
             Ok(scripted_config(alloc, options.servers)?)
         }
     }

@@ -1,0 +1,13 @@
+use Rattle.std.proofs.Common.{refl, rules}
+use Rattle.std.proofs.lemmas.Result.{err_from_is_err_and}
+use Rattle.tko_cli.proofs.GroupedLemmas.{within_groups}
+use Rattle.tko_cli.proofs.grouped.settings_over.Goals as goal
+
+pub returns-in_err-check-clause-err : goal.returns-in_err-check-clause-err
+returns-in_err-check-clause-err c =
+    let p = err_from_is_err_and c.from_residual-in_err-check.result c.from_residual-in_err-check.ensures.1 in
+    let first = (c.in_err-check.ensures.err c.in_err-check.field-0.0).0 refl in
+    rw (p.1, p.2) (rw c.in_ok-settings.ensures at first)
+
+pub returns-clause-within : goal.returns-clause-within
+returns-clause-within c = c.zzz
