@@ -23,7 +23,7 @@ NUTCRACKER = """bench:
 """
 
 HAPROXY = """global
-  maxconn 1000
+  maxconn {connections}
 defaults
   mode tcp
   timeout connect 1s
@@ -57,10 +57,13 @@ class Target:
         self.process.wait()
 
 
-def memcached(threads=4):
+def memcached(connections, threads=4):
+    """So many from the load itself, and as many from each of three proxies, which keep theirs while another is measured.
+    memcached takes 1,024 unless it is told otherwise."""
     port = free_port()
     user = ["-u", "nobody"] if os.getuid() == 0 else []
-    return Target("memcached", ["memcached", "-l", HOST, "-p", str(port), "-U", "0", "-t", str(threads), *user], port)
+    return Target("memcached", ["memcached", "-l", HOST, "-p", str(port), "-U", "0", "-t", str(threads),
+                                "-c", str(max(1024, 4 * connections + 64)), *user], port)
 
 
 def tkoproxy(name, program, server, connections):
@@ -77,9 +80,10 @@ def nutcracker(server, folder):
     return Target("nutcracker", ["nutcracker", "-c", path, "-a", HOST, "-s", str(free_port())], port)
 
 
-def haproxy(server, folder):
+def haproxy(server, folder, connections):
     port = free_port()
-    path = written(folder, HAPROXY.format(listen=f"{HOST}:{port}", server=server))
+    text = HAPROXY.format(listen=f"{HOST}:{port}", server=server, connections=max(1000, connections + 100))
+    path = written(folder, text)
     return Target("haproxy", ["haproxy", "-db", "-f", path], port)
 
 

@@ -1,4 +1,5 @@
-"""Which server of which pool a key is sent to."""
+"""Which server of which pool a key is sent to, and how many servers of a pool are marked softly."""
+import json
 import types
 
 from parts import ServerTest, configuration
@@ -66,3 +67,17 @@ class Pools(ServerTest):
             self.assertEqual(client.ask(b"get %s\r\n" % key), b"END\r\n")
         marks = [proxy.marks()[server.address].split(":")[0] for server in garbage]
         self.assertEqual(sorted(marks), ["soft", "up", "up"])
+
+    def test_each_pool_has_its_own_limit_of_soft_marks(self):
+        near, far = [[self.fake(lambda _, request: b"what\r\n") for _ in range(count)] for count in (3, 2)]
+        config = json.loads(configuration(near=near, far=far, last=[self.memcached()]))
+        config["pools"]["near"]["soft_limit"] = 1
+        config["pools"]["far"]["soft_limit"] = 2
+        proxy = self.proxy(json.dumps(config), failures=1, limit=0)
+        client = self.client(proxy.port)
+        for key in KEYS[:40]:
+            self.assertEqual(client.ask(b"get %s\r\n" % key), b"END\r\n")
+        marks = proxy.marks()
+        # What near uses up is not far's.
+        for pool, expected in ((near, ["soft", "up", "up"]), (far, ["soft", "soft"])):
+            self.assertEqual(sorted(marks[server.address].split(":")[0] for server in pool), expected)

@@ -1,5 +1,6 @@
 """How many clients are served at once, and the process as a whole: its end, its totals, its faults, what it holds."""
 import re
+import resource
 import socket
 import subprocess
 
@@ -8,6 +9,8 @@ from ports import HOST, free_port, wait_until
 from talk import store, values
 
 VERSION = b"VERSION tkoproxy 1\r\n"
+# The most that there may be.
+THREADS = 1024
 KINDS = ["request", "attempt", "skip", "reply", "no-server", "probe"]
 
 
@@ -37,6 +40,30 @@ class Workers(ServerTest):
             client.send(store(b"a", b"%d" % number) + b"get a\r\nquit\r\n")
         for number, client in enumerate(clients):
             self.assertRegex(client.rest(), rb"^STORED\r\nVALUE a 0 \d+\r\n\d+\r\nEND\r\n$")
+
+    def test_a_thousand_clients_at_once(self):
+        self.allow_files(THREADS * (1 + 3) + 80)
+        proxy = self.proxy(configuration(only=[self.memcached("-c", "2048")]), threads=THREADS, log="off")
+        # Fewer where the system does not allow so many files.
+        workers = int(re.search(rb"allowed: (\d+) workers", proxy.error_text()).group(1))
+        clients = [self.client(proxy.port) for _ in range(min(1000, workers))]
+        for number, client in enumerate(clients):
+            client.send(store(b"key-%d" % number, b"%d" % number) + b"get key-%d\r\n" % number)
+        for number, client in enumerate(clients):
+            self.assertEqual(client.reply(), b"STORED\r\n")
+            self.assertEqual(client.reply(), values((b"key-%d" % number, b"%d" % number)))
+        # All are still connected, and each is answered.
+        for client in reversed(clients):
+            self.assertEqual(client.ask(b"version\r\n"), VERSION)
+
+    def allow_files(self, count):
+        """This process and those that it starts may have so many files open, if the system allows it."""
+        before = resource.getrlimit(resource.RLIMIT_NOFILE)
+        self.addCleanup(resource.setrlimit, resource.RLIMIT_NOFILE, before)
+        soft, hard = before
+        wanted = count if hard == resource.RLIM_INFINITY else min(count, hard)
+        if soft != resource.RLIM_INFINITY and soft < wanted:
+            resource.setrlimit(resource.RLIMIT_NOFILE, (wanted, hard))
 
     def test_workers_overlap(self):
         def wait_for_b(_, request):
@@ -162,7 +189,7 @@ class Faults(ServerTest):
         for words, status, line in (
                 (["--listen", address, "--config", "{}"], 1,
                  b"config: there is no object of pools\nfault: config no-pools\n"),
-                (["--listen", address, "--config", good, "--threads", "65"], 1, b"fault: settings threads\n"),
+                (["--listen", address, "--config", good, "--threads", "1025"], 1, b"fault: settings threads\n"),
                 (["--listen", address, "--config", good, "--threads", "0"], 1, b"fault: settings threads\n"),
                 (["--listen", address, "--config", good, "--first-delay", "0"], 1, b"fault: delays\n"),
                 (["--listen", address, "--config", good, "--first-delay", "2", "--greatest-delay", "1"], 1,

@@ -1,6 +1,6 @@
 -- Keys that are routed one after another, and the reply that they make.
 use Rattle.std.proofs.Common.{◌≡◌, ℕ, ◌+◌, ◌<◌, Bool, true, false, List, [], ◌∷◌, ◌++◌, All, length, take, Option, Some, None, refl, sym, ap, subst, ◌∙◌, append_assoc, append-nil, add-zero, arith, inl, inr}
-use Rattle.std.specs.Prelude.{◌⊎◌, ◌↔◌, MatchBool, sum_by, unwrap_or, IsSome, IsTrue}
+use Rattle.std.specs.Prelude.{◌⊎◌, MatchBool, sum_by, unwrap_or, IsSome}
 use Rattle.std.proofs.lemmas.Grind.{flat_map-append}
 use Rattle.std.proofs.lemmas.List.{map-append, take_at}
 use Rattle.std.proofs.lemmas.List.Sums.{sum_by-append}
@@ -17,8 +17,7 @@ use Rattle.tko_route.specs.declared.attempt.Attempt.{Attempt}
 use Rattle.tko_route.specs.Trail.{Attempts, answer_of, sends_in}
 use Rattle.tko_answer.specs.declared.parts.Parts.{Parts}
 use Rattle.tko_answer.specs.Answering.{AnsweredInto, Extends, IsNext, IsTried, retrieval}
-use Rattle.tko_answer.specs.Replies.{HasValues, IsReply, RoutedKey, all_values, end_line, first_other, joined, keys_in, reply_text, text_of_answer, trails_in, values_in, version_text, written, sends_to}
-use Rattle.tko_answer.specs.Status.{IsStatusAfter}
+use Rattle.tko_answer.specs.Replies.{HasValues, IsReply, RoutedKey, all_values, end_line, first_other, joined, keys_in, reply_text, text_of_answer, trails_in, values_in, written, sends_to}
 use Rattle.tko_answer.specs.TrailEvents.{TrailEvent, Tried}
 use Rattle.tko_answer.specs.Answers.{AnswersItself, IsKeyRouted, by_keys, itself, request_for, request_keys, way_of}
 

@@ -1,15 +1,13 @@
 -- Laws of requests at which memory ran out.
-use Rattle.std.proofs.Common.{◌≡◌, ℕ, Bool, Result, Ok, Err, List, [], ◌∷◌, refl, sym, subst, ◌∙◌, add-zero}
-use Rattle.std.specs.Prelude.{OnErr}
+use Rattle.std.proofs.Common.{◌≡◌, ℕ, Bool, List, [], ◌∷◌, refl, sym, subst, ◌∙◌, add-zero}
 use Rattle.std.proofs.lemmas.List.Elements.{All-nil}
 use Rattle.tko_model.specs.Records.{HealthItem}
 use Rattle.tko_model.proofs.RecordLemmas.{gains_none}
 use Rattle.tko_text.specs.declared.request.Request.{Request}
-use Rattle.tko_text.specs.declared.request.Request.TheVariants.{StatsTko}
 use Rattle.tko_links.specs.Links.{LinksItem}
 use Rattle.tko_answer.specs.declared.parts.Parts.{Parts}
 use Rattle.tko_answer.specs.Answering.{retrieval}
-use Rattle.tko_answer.specs.Cuts.{IsAnswerCut, IsKeyCut, LooksSome, at_first, at_keys, in_status, untried}
+use Rattle.tko_answer.specs.Cuts.{IsAnswerCut, IsKeyCut, at_first, at_keys, untried}
 use Rattle.tko_answer.specs.Replies.{HasValues}
 use Rattle.tko_answer.specs.TrailEvents.{TrailEvent}
 use Rattle.tko_answer.specs.Answers.{request_for, request_keys}

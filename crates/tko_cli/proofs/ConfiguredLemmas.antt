@@ -3,7 +3,9 @@ use Rattle.std.proofs.Common.{◌≡◌, ℕ, ◌+◌, ◌≤◌, List, [], ◌�
 use Rattle.std.specs.Prelude.{codes, decimal}
 use Rattle.std.proofs.lemmas.List.{length-map, map-append}
 use Rattle.std.proofs.lemmas.List.FromFn.{length-map-range_with_len, map-range_with_len_more}
-use Rattle.tko_model.specs.Ranges.{first_fault, max_servers}
+use Rattle.tko_model.specs.Limits.{max_servers}
+use Rattle.tko_model.specs.Ranges.{first_fault}
+use Rattle.tko_model.specs.Settings.{in_one_group}
 use Rattle.tko_model.specs.declared.settings.SettingsFault.{SettingsFault}
 use Rattle.tko_pools.specs.Configs.{Refuses}
 use Rattle.tko_pools.specs.declared.fault.ConfigFault.{ConfigFault}
@@ -29,6 +31,8 @@ config_refused options json (config_fault.EmptyPool name) given r =
     flawed options json (config_fault.EmptyPool name) given r refl
 config_refused options json (config_fault.Address text) given r =
     flawed options json (config_fault.Address text) given r refl
+config_refused options json (config_fault.SoftLimit name) given r =
+    flawed options json (config_fault.SoftLimit name) given r refl
 config_refused options json config_fault.Route given r = flawed options json config_fault.Route given r refl
 config_refused options json (config_fault.NoSuchPool name) given r =
     flawed options json (config_fault.NoSuchPool name) given r refl
@@ -54,5 +58,5 @@ names-few text names count e few =
 
 -- without a configuration the settings are judged first
 pub unset : (options : DryOptions) (name : SettingsFault) → options.config ≡ None
-    → first_fault (dry_settings options options.servers) ≡ Some name → NoConfig options (fault.Settings name)
+    → first_fault (in_one_group (dry_settings options options.servers)) ≡ Some name → NoConfig options (fault.Settings name)
 unset options name alone first = record { alone = rw alone refl; first = first }

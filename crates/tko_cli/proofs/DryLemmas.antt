@@ -3,6 +3,7 @@ use Rattle.std.proofs.Common.{◌≡◌, ◌<◌, ℕ, List, length, Some, Optio
 use Rattle.std.proofs.lemmas.List.{length-replicate}
 use Rattle.std.proofs.lemmas.List.FromFn.{length-map-range_with_len}
 use Rattle.tko_model.specs.Ranges.{first_fault}
+use Rattle.tko_model.specs.Settings.{in_one_group}
 use Rattle.tko_model.specs.Tracker.{Tracker, opened}
 use Rattle.tko_model.specs.declared.plain.OpenFault.{OpenFault}
 use Rattle.tko_model.specs.declared.plain.OpenFault.TheVariants as open_fault
@@ -24,7 +25,8 @@ use Rattle.tko_cli.specs.declared.fault.Fault.TheVariants as fault
 use Rattle.tko_options.specs.declared.dry_options.DryOptions.{DryOptions}
 use Rattle.tko_cli.specs.Configured.{ConfigOf, IsConfigured, IsUnset, NoConfig, scripted_names}
 use Rattle.tko_options.specs.Trackers.{dry_settings}
-use Rattle.tko_cli.specs.DryRuns.{AreFresh, Begins, DryFails, DryParts, IsDry, IsOutside, TrailsGo, dry_effects, words_in}
+use Rattle.tko_cli.specs.DryRuns.{AreFresh, Begins, DryFails, DryParts, IsDry, IsOutside, TrailsGo, dry_effects, dry_tracker, words_in}
+use Rattle.tko_cli.specs.Grouped.{NoSettings}
 use Rattle.tko_cli.specs.Faults.{fault_of_opening, fault_of_session}
 use Rattle.tko_cli.specs.Outcomes.{AllAsk}
 
@@ -35,7 +37,7 @@ outside_alone options name scripts asked unset =
     let names = scripted_names options.servers in
     let count : length names ≡ options.servers = length-map-range_with_len _ 0 options.servers in
     let P : Option (List ℕ) → Type 0 = λ json. ConfigOf json options.servers (in_order names) in
-    let Q : ℕ → Type 0 = λ n. first_fault (dry_settings options n) ≡ Some name in
+    let Q : ℕ → Type 0 = λ n. first_fault (in_one_group (dry_settings options n)) ≡ Some name in
     record {
       scripts = scripts;
       asked = asked;
@@ -47,13 +49,13 @@ outside_alone options name scripts asked unset =
 -- parts over the configuration that the options name
 pub begun : (options : DryOptions) (scripts : List Script) (config : Configuration) (tracker : Tracker) (parts : DryParts)
     → AllAsk (words_in options) scripts → IsConfigured options config
-    → tracker ≡ opened (dry_settings options (length config.addresses))
+    → tracker ≡ opened (dry_tracker options config)
     → AreFresh scripts config tracker parts
     → Begins options parts
 begun options scripts config tracker parts asked configured opens is =
     let P : Configuration → Type 0 = λ it. IsConfigured options it in
     let Q : Tracker → Type 0 = λ it. AreFresh scripts config it parts in
-    let R : Configuration → Type 0 = λ it. AreFresh scripts it (opened (dry_settings options (length it.addresses))) parts in
+    let R : Configuration → Type 0 = λ it. AreFresh scripts it (opened (dry_tracker options it)) parts in
     record {
       scripts = scripts;
       asked = asked;
@@ -135,19 +137,37 @@ module _ {I O : Type 0} (inlet : InletGhosts I) (outlet : OutletGhosts O) where
   not_configured options here scripts fault.Metrics asked none = absurd none
   not_configured options here scripts fault.Accept asked none = absurd none
 
-  -- the tracker could not be opened, so nothing was read or written
-  pub not_opened : (options : DryOptions) (here : I × O) (scripts : List Script) (config : Configuration) (cause : OpenFault)
+  -- there are no settings, so nothing was read or written
+  pub not_set : (options : DryOptions) (here : I × O) (scripts : List Script) (config : Configuration) (reason : Fault)
       → AllAsk (words_in options) scripts → IsConfigured options config
-      → ((name : SettingsFault) → cause ≡ open_fault.Settings name
-      → first_fault (dry_settings options (length config.addresses)) ≡ Some name)
-      → DryFails inlet outlet options here here (fault_of_opening cause)
-  not_opened options here scripts config (open_fault.Settings name) asked configured first =
+      → NoSettings (dry_settings options (length config.addresses)) reason
+      → DryFails inlet outlet options here here reason
+  not_set options here scripts config (fault.Settings name) asked configured first =
       let outside : IsOutside options name = record {
         scripts = scripts;
         asked = asked;
         config = config;
         configured = configured;
-        first = first name refl;
+        first = first;
       } in
       (outside, refl, refl)
-  not_opened options here scripts config open_fault.Memory asked configured first = tt
+  not_set options here scripts config fault.Memory asked configured none = tt
+  not_set options here scripts config fault.Read asked configured none = absurd none
+  not_set options here scripts config fault.Write asked configured none = absurd none
+  not_set options here scripts config fault.LineTooLong asked configured none = absurd none
+  not_set options here scripts config (fault.Config cause) asked configured none = absurd none
+  not_set options here scripts config fault.ConfigFile asked configured none = absurd none
+  not_set options here scripts config (fault.Outcomes number) asked configured none = absurd none
+  not_set options here scripts config (fault.Line number) asked configured none = absurd none
+  not_set options here scripts config fault.Check asked configured none = absurd none
+  not_set options here scripts config fault.Delays asked configured none = absurd none
+  not_set options here scripts config fault.Listen asked configured none = absurd none
+  not_set options here scripts config fault.Metrics asked configured none = absurd none
+  not_set options here scripts config fault.Accept asked configured none = absurd none
+
+  -- the tracker could not be opened, so nothing was read or written; its settings are in their ranges
+  pub not_opened : (options : DryOptions) (here : I × O) (cause : OpenFault)
+      → ((name : SettingsFault) → cause ≡ open_fault.Settings name → ⊥)
+      → DryFails inlet outlet options here here (fault_of_opening cause)
+  not_opened options here (open_fault.Settings name) never = absurd (never name refl)
+  not_opened options here open_fault.Memory never = tt

@@ -1,6 +1,7 @@
 pub mod ConfiguredLemmas
 pub mod DryLemmas
 pub mod FaultLineLemmas
+pub mod GroupedLemmas
 pub mod NoticeLemmas
 pub mod PlannedLemmas
 pub mod ReasonLemmas

@@ -4,13 +4,34 @@ use Rattle.std.specs.Prelude.{string_bytes}
 use Rattle.tko_model.specs.Ranges.{first_fault}
 use Rattle.tko_model.specs.declared.settings.SettingsFault.{SettingsFault}
 use Rattle.tko_pools.specs.Configs.{Configuration, Means}
+use Rattle.tko_cli.specs.declared.fault.Fault.{Fault}
 use Rattle.tko_cli.specs.declared.fault.Fault.TheVariants as fault
 use Rattle.tko_options.specs.declared.serve_options.ServeOptions.{ServeOptions}
-use Rattle.tko_cli.specs.Planned.{NoPlan}
+use Rattle.tko_cli.specs.Grouped.{NoSettings}
+use Rattle.tko_cli.specs.Planned.{NoPlan, plan_options}
 use Rattle.tko_options.specs.Trackers.{serve_settings}
 
 -- a setting is outside its range
-pub unset_plan : (options : ServeOptions) (name : SettingsFault) (config : Configuration)
+unset_plan : (options : ServeOptions) (name : SettingsFault) (config : Configuration)
     → Means (string_bytes options.config) config
-    → first_fault (serve_settings options (length config.addresses)) ≡ Some name → NoPlan options (fault.Settings name)
+    → first_fault (plan_options options config) ≡ Some name → NoPlan options (fault.Settings name)
 unset_plan options name config means first = record { config = config; means = means; first = first }
+
+-- there are no settings
+pub no_settings : (options : ServeOptions) (config : Configuration) (reason : Fault)
+    → Means (string_bytes options.config) config
+    → NoSettings (serve_settings options (length config.addresses)) reason → NoPlan options reason
+no_settings options config (fault.Settings name) means first = unset_plan options name config means first
+no_settings options config fault.Memory means none = tt
+no_settings options config fault.Read means none = absurd none
+no_settings options config fault.Write means none = absurd none
+no_settings options config fault.LineTooLong means none = absurd none
+no_settings options config (fault.Config cause) means none = absurd none
+no_settings options config fault.ConfigFile means none = absurd none
+no_settings options config (fault.Outcomes number) means none = absurd none
+no_settings options config (fault.Line number) means none = absurd none
+no_settings options config fault.Check means none = absurd none
+no_settings options config fault.Delays means none = absurd none
+no_settings options config fault.Listen means none = absurd none
+no_settings options config fault.Metrics means none = absurd none
+no_settings options config fault.Accept means none = absurd none

@@ -1,15 +1,14 @@
 -- What `serve` writes, and why it fails.
 use Rattle.std.proofs.Common.{◌≡◌, ℕ, List, Option, Some, None, inl, inr, refl, subst}
-use Rattle.std.proofs.lemmas.Bool.{le-leb}
-use Rattle.std.proofs.Math.Dec.{leb-zero}
 use Rattle.tko_counts.specs.declared.counts.Counts.{Counts}
 use Rattle.tko_model.specs.Ranges.{IsWithinRanges, first_fault}
-use Rattle.tko_model.specs.declared.settings.Settings.{Settings}
+use Rattle.tko_model.specs.Settings.{Settings}
 use Rattle.tko_model.specs.declared.settings.SettingsFault.{SettingsFault}
 use Rattle.tko_server.specs.Runs.{tracker_settings}
 use Rattle.tko_server.specs.declared.run_fault.RunFault.{RunFault as ServerFault}
 use Rattle.tko_server.specs.declared.run_fault.RunFault.TheVariants as server_fault
 use Rattle.tko_server.specs.declared.running.Options.{Options as Server}
+use Rattle.tko_cli.proofs.GroupedLemmas.{no_fault}
 use Rattle.tko_cli.specs.Faults.{fault_of_server}
 use Rattle.tko_cli.specs.Planned.{IsPlanned, IsServerOf}
 use Rattle.tko_cli.specs.Serving.{HasNoMetrics, HasServed, ServeFails, ready_text}
@@ -18,24 +17,6 @@ use Rattle.tko_cli.specs.declared.fault.Fault.{Fault}
 use Rattle.tko_cli.specs.declared.fault.Fault.TheVariants as fault
 use Rattle.tko_cli.specs.declared.planned.Plan.{Plan}
 use Rattle.tko_options.specs.declared.serve_options.ServeOptions.{ServeOptions}
-
--- settings in their ranges have no fault
-no_fault : (s : Settings) → IsWithinRanges s → first_fault s ≡ None
-no_fault s within =
-    rw (
-      le-leb 1 _ within.servers.0,
-      le-leb _ _ within.servers.1,
-      le-leb 1 _ within.threads.0,
-      le-leb _ _ within.threads.1,
-      le-leb 1 _ within.failures.0,
-      le-leb _ _ within.failures.1,
-      leb-zero s.limit,
-      le-leb _ _ within.limit,
-      le-leb 1 _ within.tries.0,
-      le-leb _ _ within.tries.1,
-      leb-zero s.opening_stamp,
-      le-leb _ _ within.stamp,
-    ) refl
 
 -- the tracker of a planned server has the plan's settings
 settings_of_plan : (options : ServeOptions) (plan : Plan) (open_files : Option ℕ) (server : Server)

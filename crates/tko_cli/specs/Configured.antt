@@ -1,6 +1,7 @@
 -- The configuration of a dry run, and why there is none.
 use Rattle.std.specs.Prelude.{◌≡◌, ℕ, List, ◌++◌, map, codes, decimal, Option, Some, None, option_map, string_bytes}
 use Rattle.tko_model.specs.Ranges.{first_fault}
+use Rattle.tko_model.specs.Settings.{in_one_group}
 use Rattle.tko_model.specs.declared.settings.SettingsFault.{SettingsFault}
 use Rattle.tko_pools.specs.Configs.{Configuration, Means, Refuses, in_order, numbers_below}
 use Rattle.tko_pools.specs.declared.fault.ConfigFault.{ConfigFault}
@@ -38,7 +39,7 @@ pub record IsFlawed (options : DryOptions) (cause : ConfigFault) : Type 0 where
 -- without a configuration, this setting is the first one outside its range
 pub record IsUnset (options : DryOptions) (name : SettingsFault) : Type 0 where
   pub alone : json_in options ≡ None
-  pub first : first_fault (dry_settings options options.servers) ≡ Some name
+  pub first : first_fault (in_one_group (dry_settings options options.servers)) ≡ Some name
 
 -- why the options name no configuration
 abbrev pub NoConfig : DryOptions → Fault → Type 0

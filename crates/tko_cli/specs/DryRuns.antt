@@ -1,6 +1,7 @@
 -- What a dry run starts with, what it reads and writes, and why it fails.
 use Rattle.std.specs.Prelude.{◌≡◌, ◌<◌, ℕ, Bool, true, false, Some, List, [], length, replicate, slice_index, string_bytes}
 use Rattle.tko_model.specs.Ranges.{first_fault}
+use Rattle.tko_model.specs.Settings.{Settings, in_one_group}
 use Rattle.tko_model.specs.Tracker.{Tracker, opened}
 use Rattle.tko_model.specs.declared.settings.SettingsFault.{SettingsFault}
 use Rattle.tko_route.specs.declared.attempt.Attempt.{Attempt}
@@ -23,6 +24,7 @@ use Rattle.tko_answer.specs.TrailEvents.{Keeps}
 use Rattle.tko_pools.specs.Configs.{Configuration}
 use Rattle.tko_pools.specs.declared.fault.ConfigFault.{ConfigFault}
 use Rattle.tko_cli.specs.Configured.{IsConfigured, IsFlawed}
+use Rattle.tko_cli.specs.Grouped.{grouped}
 use Rattle.tko_cli.specs.declared.fault.Fault.{Fault}
 use Rattle.tko_cli.specs.declared.fault.Fault.TheVariants as fault
 use Rattle.tko_options.specs.declared.dry_options.DryOptions.{DryOptions}
@@ -68,6 +70,10 @@ pub record AreFresh (scripts : List Script) (config : Configuration) (tracker : 
   pub by_default : AreDefaultDelays delays
   pub probers : parts.backend.probers ≡ no_probers delays (length config.addresses)
 
+-- the settings of the tracker of a configuration's servers
+abbrev pub dry_tracker : DryOptions → Configuration → Settings
+dry_tracker options config = grouped config (dry_settings options (length config.addresses))
+
 -- the parts that a dry run begins with: the configuration that the options name, a new tracker of
 -- its servers, and the scripts that the list of outcomes asks for
 pub record Begins (options : DryOptions) (parts : DryParts) : Type 0 where
@@ -75,7 +81,7 @@ pub record Begins (options : DryOptions) (parts : DryParts) : Type 0 where
   pub asked : AllAsk (words_in options) scripts
   pub config : IsConfigured options parts.config
   pub fresh : AreFresh scripts parts.config
-      (opened (dry_settings options (length parts.config.addresses))) parts
+      (opened (dry_tracker options parts.config)) parts
 
 -- every word of the list is good, the JSON is no configuration, and this is what is wrong with it
 pub record IsNoConfig (options : DryOptions) (cause : ConfigFault) : Type 0 where
@@ -90,7 +96,7 @@ pub record IsOutside (options : DryOptions) (name : SettingsFault) : Type 0 wher
   pub asked : AllAsk (words_in options) scripts
   pub config : Configuration
   pub configured : IsConfigured options config
-  pub first : first_fault (dry_settings options (length config.addresses)) ≡ Some name
+  pub first : first_fault (in_one_group (dry_settings options (length config.addresses))) ≡ Some name
 
 -- the number of sends to a server
 abbrev pub sends_of : ScriptedState → ℕ → ℕ

@@ -29,6 +29,7 @@ setting_name setting.Failures = codes "failures"
 setting_name setting.Limit = codes "limit"
 setting_name setting.Tries = codes "tries"
 setting_name setting.Stamp = codes "stamp"
+setting_name setting.Groups = codes "groups"
 
 -- the word that names why a text is no configuration
 abbrev pub config_name : ConfigFault → List ℕ
@@ -36,6 +37,7 @@ config_name config_fault.Json = codes "json"
 config_name config_fault.NoPools = codes "no-pools"
 config_name (config_fault.EmptyPool name) = codes "empty-pool"
 config_name (config_fault.Address text) = codes "address"
+config_name (config_fault.SoftLimit name) = codes "soft-limit"
 config_name config_fault.Route = codes "route"
 config_name (config_fault.NoSuchPool name) = codes "no-such-pool"
 config_name config_fault.TooManyServers = codes "too-many-servers"
@@ -69,6 +71,7 @@ fault_of_config config_fault.Json = fault.Config config_fault.Json
 fault_of_config config_fault.NoPools = fault.Config config_fault.NoPools
 fault_of_config (config_fault.EmptyPool name) = fault.Config (config_fault.EmptyPool name)
 fault_of_config (config_fault.Address text) = fault.Config (config_fault.Address text)
+fault_of_config (config_fault.SoftLimit name) = fault.Config (config_fault.SoftLimit name)
 fault_of_config config_fault.Route = fault.Config config_fault.Route
 fault_of_config (config_fault.NoSuchPool name) = fault.Config (config_fault.NoSuchPool name)
 fault_of_config config_fault.TooManyServers = fault.Config config_fault.TooManyServers

@@ -3,6 +3,7 @@ pub mod Configured
 pub mod DryRuns
 pub mod FaultLines
 pub mod Faults
+pub mod Grouped
 pub mod Notices
 pub mod Outcomes
 pub mod Planned

@@ -1,6 +1,7 @@
 -- What `serve` runs on, and why its options name none of it.
 use Rattle.std.specs.Prelude.{◌≡◌, ℕ, length, true, false, Option, Some, string_bytes}
 use Rattle.tko_model.specs.Ranges.{IsWithinRanges, first_fault}
+use Rattle.tko_model.specs.Settings.{Settings, in_one_group}
 use Rattle.tko_model.specs.declared.settings.SettingsFault.{SettingsFault}
 use Rattle.tko_pools.specs.Addresses.{is_address}
 use Rattle.tko_pools.specs.Configs.{Configuration, Means, Refuses}
@@ -10,6 +11,7 @@ use Rattle.tko_server.specs.declared.patience.Patience.{Patience}
 use Rattle.tko_server.specs.declared.running.Options.{Options as Server}
 use Rattle.tko_options.specs.Trackers.{serve_settings}
 use Rattle.tko_cli.specs.Faults.{fault_of_config}
+use Rattle.tko_cli.specs.Grouped.{grouped}
 use Rattle.tko_cli.specs.declared.fault.Fault.{Fault}
 use Rattle.tko_cli.specs.declared.fault.Fault.TheVariants as fault
 use Rattle.tko_cli.specs.declared.planned.Plan.{Plan}
@@ -22,11 +24,19 @@ serve_patience options = record {
   idle_timeout = options.idle_timeout;
 }
 
+-- what the options say of a tracker of a configuration's servers, as if these were in one group
+abbrev pub plan_options : ServeOptions → Configuration → Settings
+plan_options options config = in_one_group (serve_settings options (length config.addresses))
+
+-- the settings of the tracker of a configuration's servers
+abbrev pub plan_settings : ServeOptions → Configuration → Settings
+plan_settings options config = grouped config (serve_settings options (length config.addresses))
+
 -- the configuration of the JSON, settings in their ranges, and delays in theirs; what it listens on
 -- is an address
 pub record IsPlanned (options : ServeOptions) (plan : Plan) : Type 0 where
   pub config : Means (string_bytes options.config) plan.config
-  pub settings : plan.settings ≡ serve_settings options (length plan.config.addresses)
+  pub settings : plan.settings ≡ plan_settings options plan.config
   pub within : IsWithinRanges plan.settings
   pub first : plan.delays.first ≡ options.first_delay
   pub greatest : plan.delays.greatest ≡ options.greatest_delay
@@ -49,17 +59,18 @@ pub record IsFlawedPlan (options : ServeOptions) (cause : ConfigFault) : Type 0 
   pub refuses : Refuses (string_bytes options.config) cause
   pub reason : fault_of_config cause ≡ fault.Config cause
 
--- the JSON is a configuration, and this setting is the first one outside its range
+-- the JSON is a configuration, and this setting is the first one outside its range, whether the limit
+-- is one that a group has or not
 pub record IsUnsetPlan (options : ServeOptions) (name : SettingsFault) : Type 0 where
   pub config : Configuration
   pub means : Means (string_bytes options.config) config
-  pub first : first_fault (serve_settings options (length config.addresses)) ≡ Some name
+  pub first : first_fault (plan_options options config) ≡ Some name
 
--- the JSON is a configuration, and the settings are in their ranges
+-- the JSON is a configuration, and the options are in their ranges
 pub record IsSet (options : ServeOptions) : Type 0 where
   pub config : Configuration
   pub means : Means (string_bytes options.config) config
-  pub within : IsWithinRanges (serve_settings options (length config.addresses))
+  pub within : IsWithinRanges (plan_options options config)
 
 -- the delays are out of their range, where all before them is good
 pub record HasBadDelays (options : ServeOptions) : Type 0 where

@@ -1,6 +1,6 @@
 //! The configuration that the options name.
 ghost use Rattle.std.specs.Prelude.{◌≡◌, ◌≤◌, IfOk, IfErr, map, string_bytes};
-ghost use Rattle.tko_model.specs.Ranges.{max_servers};
+ghost use Rattle.tko_model.specs.Limits.{max_servers};
 ghost use Rattle.tko_pools.specs.Configs.{in_order};
 ghost use Rattle.tko_cli.specs.Configured.{IsConfigured, NoConfig, scripted_names};
 
@@ -18,7 +18,8 @@ pub(crate) fn config_of(alloc: Global, options: &DryOptions) -> Result<Config, F
     match &options.config {
         Some(json) => Ok(Config::read(alloc, json.as_bytes())?),
         None => {
-            options.settings(options.servers).check()?;
+            let settings = options.settings(options.servers).settings(alloc)?;
+            settings.check()?;
             Ok(scripted_config(alloc, options.servers)?)
         }
     }

@@ -4,6 +4,7 @@ ghost use Rattle.tko_cli.specs.DryRuns.{AreDefaultDelays, AreFresh, DryFails, Is
 
 use crate::Fault;
 use crate::configured::config_of;
+use crate::grouped::settings_over;
 use crate::outcomes::scripts_of;
 use crate::trail_lines::trail_lines;
 use crate::writing::write_text;
@@ -43,7 +44,8 @@ pub(crate) fn dry<R: IoRuntime, I: Inlet, O: Outlet>(
 {
     let scripts = scripts_of(alloc, options.outcomes.as_str())?;
     let config = config_of(alloc, options)?;
-    let tracker = Plain::open(alloc, options.settings(config.servers()))?;
+    let settings = settings_over(alloc, &config, options.settings(config.servers()))?;
+    let tracker = Plain::open(alloc, settings)?;
     let mut parts = parts_of(alloc, config, tracker, scripts)?;
     serve(rt, alloc, input, output, &mut parts)?;
     if !options.trail {

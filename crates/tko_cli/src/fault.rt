@@ -80,6 +80,7 @@ fn setting_name(setting: SettingsFault) -> &'static str
         SettingsFault::Limit => "limit",
         SettingsFault::Tries => "tries",
         SettingsFault::Stamp => "stamp",
+        SettingsFault::Groups => "groups",
     }
 }
 
@@ -92,6 +93,7 @@ fn config_name(cause: &ConfigFault) -> &'static str
         ConfigFault::NoPools => "no-pools",
         ConfigFault::EmptyPool(_) => "empty-pool",
         ConfigFault::Address(_) => "address",
+        ConfigFault::SoftLimit(_) => "soft-limit",
         ConfigFault::Route => "route",
         ConfigFault::NoSuchPool(_) => "no-such-pool",
         ConfigFault::TooManyServers => "too-many-servers",

@@ -11,6 +11,7 @@ mod checking;
 mod configured;
 mod dry;
 mod fault;
+mod grouped;
 mod loading;
 mod notice;
 mod open_files;

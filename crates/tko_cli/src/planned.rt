@@ -3,6 +3,7 @@ ghost use Rattle.std.specs.Prelude.{◌≡◌, IfOk, IfErr};
 ghost use Rattle.tko_cli.specs.Planned.{IsPlanned, IsServerOf, NoPlan, serve_patience};
 
 use crate::Fault;
+use crate::grouped::settings_over;
 use std::alloc::Global;
 use tko_model::Settings;
 use tko_options::ServeOptions;
@@ -51,8 +52,7 @@ pub(crate) fn plan_of(alloc: Global, options: &ServeOptions) -> Result<Plan, Fau
     ensures err { IfErr result (NoPlan options.now) }
 {
     let config = Config::read(alloc, options.config.as_bytes())?;
-    let settings = options.settings(config.servers());
-    settings.check()?;
+    let settings = settings_over(alloc, &config, options.settings(config.servers()))?;
     let Some(delays) = Delays::new(options.first_delay, options.greatest_delay) else {
         return Err(Fault::Delays);
     };

@@ -1,5 +1,5 @@
 -- Parts of a configuration's JSON.
-use Rattle.std.specs.Prelude.{ℕ, List, [], ◌∷◌, codes, map, Option, Some, None, option_map, option_and_then, unwrap_or}
+use Rattle.std.specs.Prelude.{ℕ, List, [], ◌∷◌, codes, map, option_map, option_and_then, unwrap_or}
 use Rattle.serde_json.specs.Data.{Data, null, boolean, number, string, array, object, Members, no_members}
 use Rattle.serde_json.specs.Find.{get, as_array, as_object}
 use Rattle.tko_pools.specs.Json.{child_name, texts_of}

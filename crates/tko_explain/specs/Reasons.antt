@@ -4,11 +4,10 @@ use Rattle.std.specs.List.{list_all, position_from}
 use Rattle.std.specs.Str.{IsUtf8, bytes_eq}
 use Rattle.json.specs.Print.{quoted}
 use Rattle.serde_json.specs.Data.{Data, null, boolean, number, string, array, object}
-use Rattle.serde_json.specs.Find.{as_object, get}
+use Rattle.serde_json.specs.Find.{get}
 use Rattle.serde_json.specs.Read.{read}
 use Rattle.tko_pools.specs.Addresses.{is_address}
-use Rattle.tko_pools.specs.Configs.{IsRoot}
-use Rattle.tko_pools.specs.Json.{Pool, child_prefix, pool_list, pools_of, text_of}
+use Rattle.tko_pools.specs.Json.{Pool, child_prefix, pools_of, text_of}
 use Rattle.tko_pools.specs.declared.fault.ConfigFault.{ConfigFault}
 use Rattle.tko_pools.specs.declared.fault.ConfigFault.TheVariants as fault
 use Rattle.tko_explain.specs.Parts.{list_in, members_in}
@@ -77,6 +76,9 @@ flaw_text root (fault.EmptyPool name) =
     codes "pool " ++ quoted (string_bytes name) ++ codes " has no list of one or more servers"
 flaw_text root (fault.Address text) =
     root_place_text root ++ address_text (string_bytes text)
+flaw_text root (fault.SoftLimit name) =
+    codes "pool " ++ quoted (string_bytes name)
+    ++ codes " has a soft_limit that is no whole number from 0 to 256"
 flaw_text root fault.Route = route_text (get (codes "route") root)
 flaw_text root (fault.NoSuchPool name) =
     codes "the route names pool " ++ quoted (string_bytes name) ++ codes ", which is not there"

@@ -1,8 +1,9 @@
 -- What is printed of a configuration that is one.
-use Rattle.std.specs.Prelude.{◌≡◌, ℕ, ◌+◌, List, [], ◌∷◌, ◌++◌, Some, codes, decimal, unwrap_or, option_map}
+use Rattle.std.specs.Prelude.{◌≡◌, ℕ, ◌+◌, List, [], ◌∷◌, ◌++◌, Option, Some, None, codes, decimal}
 use Rattle.serde_json.specs.Data.{Data}
 use Rattle.tko_pools.specs.Configs.{Configuration, IsMeaning, IsRoot, child_of, targets_of}
 use Rattle.tko_pools.specs.Json.{pools_in}
+use Rattle.tko_pools.specs.SoftLimits.{soft_limit_named}
 use Rattle.tko_explain.specs.Parts.{names_in}
 use Rattle.tko_explain.specs.Printing.{named_line}
 use Rattle.tko_explain.specs.Warnings.{warnings_text}
@@ -14,11 +15,17 @@ servers_text number (address ∷ others) =
     codes "server " ++ decimal number ++ codes " " ++ address ++ codes "\n"
     ++ servers_text (number + 1) others
 
--- each pool that the route names, with the numbers of its servers
+-- the soft limit of a pool, if it has one
+unfoldable pub limit_text : List ℕ → Option ℕ → List ℕ
+limit_text name None = []
+limit_text name (Some limit) = named_line (codes "soft_limit ") name (limit ∷ [])
+
+-- each pool that the route names, with the numbers of its servers, and with its soft limit
 abbrev pub children_text : List (List ℕ) → Data → List (List ℕ) → List ℕ
 children_text addresses pools [] = []
 children_text addresses pools (name ∷ others) =
     named_line (codes "pool ") name (child_of addresses pools name)
+    ++ limit_text name (soft_limit_named pools name)
     ++ children_text addresses pools others
 
 abbrev pub expiry_text : ℕ → List ℕ

@@ -12,7 +12,7 @@ abbrev pub root_keys : List (List ℕ)
 root_keys = codes "pools" ∷ codes "route" ∷ []
 
 abbrev pub pool_keys : List (List ℕ)
-pool_keys = codes "servers" ∷ []
+pool_keys = codes "servers" ∷ codes "soft_limit" ∷ []
 
 abbrev pub route_keys : List (List ℕ)
 route_keys = codes "type" ∷ codes "children" ∷ codes "failover_exptime" ∷ []

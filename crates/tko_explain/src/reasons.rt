@@ -60,6 +60,10 @@ fn flaw_words(alloc: Global, root: &Value, fault: &ConfigFault) -> Result<Vec<u8
             append_root_place(alloc, &mut out, root)?;
             append_address(alloc, &mut out, text.as_str())?;
         }
+        ConfigFault::SoftLimit(name) => {
+            let end = b" has a soft_limit that is no whole number from 0 to 256";
+            append_around(alloc, &mut out, b"pool ", name.as_str(), b"", end)?;
+        }
         ConfigFault::Route => out.extend_from_slice(route_text(root.get("route")).as_bytes())?,
         ConfigFault::NoSuchPool(name) => {
             let (before, end) = (b"the route names pool ", b", which is not there");

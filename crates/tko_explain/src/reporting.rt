@@ -3,10 +3,11 @@ ghost use Rattle.std.specs.Prelude.{◌≡◌, ◌++◌, IfOk, IfErr, OnOk, map,
 ghost use Rattle.std.specs.List.{position};
 ghost use Rattle.std.specs.Str.{bytes_eq};
 ghost use Rattle.serde_json.specs.View.{items_view, view};
-ghost use Rattle.tko_explain.specs.Reports.{IsReport, children_text, config_text, expiry_text, keys_text, report_text, servers_text, targets_text};
+ghost use Rattle.tko_explain.specs.Reports.{IsReport, children_text, config_text, expiry_text, keys_text, limit_text, report_text, servers_text, targets_text};
 ghost use Rattle.tko_pools.specs.Configs.{Refuses, child_of};
 ghost use Rattle.tko_pools.specs.Json.{texts_of};
 ghost use Rattle.tko_pools.specs.Numbering.{number_in};
+ghost use Rattle.tko_pools.specs.SoftLimits.{soft_limit_named};
 
 use crate::parts::{list_in, names_in, pools_in, text_of};
 use crate::printing::append_named;
@@ -15,11 +16,11 @@ use serde_json::Value;
 use std::alloc::Global;
 use tko_bytes::NoMemory;
 use tko_model::append_number;
-use tko_pools::{Config, ConfigFault};
+use tko_pools::{Config, ConfigFault, soft_limit_named};
 
-/// The servers by their numbers, the pools of the route with the numbers of their servers, the
-/// greatest expiry after the first target, the targets of each of the keys, and a warning for
-/// whatever has no effect, a line each.
+/// The servers by their numbers, the pools of the route with the numbers of their servers and with
+/// their soft limits, the greatest expiry after the first target, the targets of each of the keys,
+/// and a warning for whatever has no effect, a line each.
 pub fn report(alloc: Global, json: &[u8], keys: &[String]) -> Result<Vec<u8>, ConfigFault>
     ensures ok { IfOk result (λ text. IsReport json.now (map string_bytes keys.now) text.items) }
     ensures err { IfErr result (λ fault. Refuses json.now fault) }
@@ -120,8 +121,21 @@ fn append_children(
     for name in names {
         let numbers = numbers_of(alloc, addresses, pools, name)?;
         append_named(alloc, out, "pool ", name, &numbers)?;
+        append_limit(alloc, out, pools, name)?;
     }
     Ok(())
+}
+
+/// Appends the soft limit of the pool of a name, if it has one.
+#[tactic(auto, unfolding(crate::specs::Reports::limit_text))]
+fn append_limit(alloc: Global, out: &mut Vec<u8>, pools: &Value, name: &str) -> Result<(), NoMemory>
+    ensures { OnOk result (out.new.items ≡ out.old.items
+        ++ limit_text name.now (soft_limit_named (view pools.now) name.now)) }
+{
+    match soft_limit_named(pools, name) {
+        Some(limit) => append_named(alloc, out, "soft_limit ", name, &[limit as usize]),
+        None => Ok(()),
+    }
 }
 
 /// The numbers of the servers of the pool of a name.

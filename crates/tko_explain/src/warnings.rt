@@ -13,7 +13,7 @@ use tko_bytes::NoMemory;
 
 const ROOT_KEYS: [&str; 2] = ["pools", "route"];
 
-const POOL_KEYS: [&str; 1] = ["servers"];
+const POOL_KEYS: [&str; 2] = ["servers", "soft_limit"];
 
 const ROUTE_KEYS: [&str; 3] = ["type", "children", "failover_exptime"];
 

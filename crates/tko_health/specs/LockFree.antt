@@ -1,7 +1,7 @@
 -- The record of a health object over a tracker without a lock. The object is a pass of the tracker:
 -- what its thread knows.
 use Rattle.std.specs.Prelude.{◌≡◌, ℕ, ◌+◌, ◌≤◌, true, false, List, [], ◌∷◌}
-use Rattle.tko_model.specs.declared.settings.Settings.{Settings}
+use Rattle.tko_model.specs.Settings.{Settings}
 use Rattle.tko_model.specs.Records.{HealthItem, Called, NoDuty}
 use Rattle.tko_steps.specs.Cost.{most_steps}
 use Rattle.tko_table.specs.Passes.{owns}

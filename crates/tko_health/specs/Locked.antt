@@ -7,7 +7,7 @@ use Rattle.tko_model.specs.Records.{HealthItem, Called, NoDuty}
 use Rattle.tko_model.specs.Tracker.{IsTracker, Tracker, after, server_at}
 use Rattle.tko_model.specs.declared.mark.Mark.{Mark}
 use Rattle.tko_model.specs.declared.mark.Mark.TheVariants.{Up, Soft, Hard}
-use Rattle.tko_model.specs.declared.settings.Settings.{Settings}
+use Rattle.tko_model.specs.Settings.{Settings}
 use Rattle.tko_health.specs.Health.{HasReply}
 
 -- a thread's place at a tracker in a lock: its number, and for each server whether the thread's

@@ -67,7 +67,7 @@ impl<S: TrackerSettings> LockedSeating<S> {
             Ok(plain) => plain,
             Err(fault) => return Err(fault),
         };
-        match idle_seats(alloc, plain, settings) {
+        match idle_seats(alloc, plain) {
             Ok(seats) => Ok((LockedSeating { of: PhantomData }, seats)),
             Err(NoMemory) => Err(OpenFault::Memory),
         }
@@ -78,16 +78,15 @@ impl<S: TrackerSettings> LockedSeating<S> {
 fn idle_seats<S: TrackerSettings>(
     alloc: Global,
     plain: Plain,
-    settings: Settings,
 ) -> Result<Vec<LockedIdle<S>>, NoMemory>
-    requires opened { plain.settings ≡ S.settings }
-    requires settings { settings ≡ S.settings }
-    ensures { IfOk result (λ seats. seats.items ≡ range_with_len 0 settings.threads) }
+    requires { plain.settings ≡ S.settings }
+    ensures { IfOk result (λ seats. seats.items ≡ range_with_len 0 S.settings.threads) }
 {
+    let threads = plain.settings().threads;
+    let servers = plain.settings().servers as usize;
     let tracker = Arc::new(alloc, Mutex::new(LockedTracker::new(plain)))?;
-    let servers = settings.servers as usize;
-    let mut seats = Vec::with_capacity(alloc, settings.threads as usize)?;
-    for thread in 0..settings.threads {
+    let mut seats = Vec::with_capacity(alloc, threads as usize)?;
+    for thread in 0..threads {
         seats.push(idle_seat(alloc, &tracker, servers, thread)?)?;
     }
     Ok(seats)

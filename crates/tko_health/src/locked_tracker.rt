@@ -13,17 +13,20 @@ use tko_model::{Duty, Look, Mark, Op, Plain, Reply};
 /// Names the settings of a tracker in a lock, which all its threads rely on. The program picks them
 /// at a call that passes `Brand`.
 pub trait TrackerSettings {
-    ghost use Rattle.tko_model.specs.declared.settings.Settings.{Settings};
+    ghost use Rattle.tko_model.specs.Settings.{Settings};
 
     ghost settings: { Settings };
 }
 
 impl TrackerSettings for Brand {
+    ghost use Rattle.std.specs.Prelude.{[], ◌∷◌};
+
     ghost settings = { record {
       servers = 1;
       threads = 1;
       failures = 1;
-      limit = 0;
+      limits = 0 ∷ [];
+      group_of = 0 ∷ [];
       tries = 1;
       opening_stamp = 0;
     } };

@@ -7,10 +7,10 @@ use std::marker::Brand;
 use std::sync::Wait;
 use std::test::Fail;
 use std::thread::{Threads, join};
-use tko_model::{Look, Mark, Reply, Settings};
+use tko_model::{Look, Mark, OneGroup, Reply};
 use tko_tracker::{IdlePass, Named, Tracker, open};
 
-const SETTINGS: Settings = Settings {
+const SETTINGS: OneGroup = OneGroup {
     servers: 2,
     threads: 2,
     failures: 1,
@@ -23,11 +23,14 @@ const SETTINGS: Settings = Settings {
 struct Two;
 
 impl TrackerSettings for Two {
+    ghost use Rattle.std.specs.Prelude.{[], ◌∷◌};
+
     ghost settings = { record {
       servers = 2;
       threads = 2;
       failures = 1;
-      limit = 1;
+      limits = 1 ∷ [];
+      group_of = 0 ∷ 0 ∷ [];
       tries = 3;
       opening_stamp = 0;
     } };
@@ -190,7 +193,7 @@ fn play_shared<R: Threads + Wait + Sync, N: Named + Send + Sync>(
 
 #[test]
 fn two_workers_in_a_lock(rt: HostRuntime) -> Result<(), Fail> {
-    let (seating, seats) = LockedSeating::<Two>::open(rt.alloc(), SETTINGS)?;
+    let (seating, seats) = LockedSeating::<Two>::open(rt.alloc(), SETTINGS.settings(rt.alloc())?)?;
     let (first, second) = locked_seats(seats).expect(&rt, "two seats");
     assert_eq!(rt; play(&rt, &seating, first, second), SEEN);
     Ok(())
@@ -198,7 +201,7 @@ fn two_workers_in_a_lock(rt: HostRuntime) -> Result<(), Fail> {
 
 #[test]
 fn two_workers_without_a_lock(rt: HostRuntime) -> Result<(), Fail> {
-    let (tracker, passes) = open(rt.alloc(), SETTINGS)?;
+    let (tracker, passes) = open(rt.alloc(), SETTINGS.settings(rt.alloc())?)?;
     let seen = play_shared::<_, Brand>(&rt, &tracker, passes);
     assert_eq!(rt; seen, Some(SEEN));
     Ok(())

@@ -1,8 +1,9 @@
 -- The groups of settings that are in range, and the soft marks of a group.
 use Rattle.std.proofs.Common.{◌≡◌, ℕ, zero, suc, ◌+◌, ◌<◌, ◌≤◌, cond, List, [], ◌∷◌, length, get_or, set, drop, replicate, refl, ap, subst, arith}
+use Rattle.std.specs.List.{All}
 use Rattle.std.proofs.lemmas.List.{drop_more}
 use Rattle.tko_model.specs.declared.mark.Mark.TheVariants.{Up}
-use Rattle.tko_model.specs.declared.settings.Settings.{Settings}
+use Rattle.tko_model.specs.Settings.{Settings}
 use Rattle.tko_model.specs.declared.state.ServerState.{ServerState}
 use Rattle.tko_model.specs.Groups.{group_of, groups, limit_of}
 use Rattle.tko_model.specs.Ranges.{IsWithinRanges}
@@ -10,17 +11,25 @@ use Rattle.tko_model.specs.Tracker.{is_soft_in, softs_from, softs_in}
 
 -- ---- what the groups of settings in range are
 
+-- what holds of 0 and of each number of a list holds of what is read there
+at_or_zero : (P : ℕ → Type 0) (ns : List ℕ) (i : ℕ) → P 0 → All P ns → P (get_or ns i 0)
+at_or_zero P [] i z all = z
+at_or_zero P (n ∷ ns) zero z all = all 0 0 (omega arith)
+at_or_zero P (n ∷ ns) (suc i) z all =
+    at_or_zero P ns i z (λ k d inside. all (suc k) d (omega (arith, inside)))
+
 pub group_of-lt : (s : Settings) (server : ℕ) → IsWithinRanges s → group_of s server < groups s
 unfolding group_of groups
-group_of-lt s server ranges = omega arith
+group_of-lt s server ranges =
+    at_or_zero (λ group. group < length s.limits) s.group_of server ranges.groups.0 ranges.in_groups
 
 pub groups-le : (s : Settings) → IsWithinRanges s → groups s ≤ 256
 unfolding groups
-groups-le s ranges = omega arith
+groups-le s ranges = ranges.groups.1
 
 pub limit_of-le : (s : Settings) (group : ℕ) → IsWithinRanges s → limit_of s group ≤ 256
 unfolding limit_of
-limit_of-le s group ranges = omega (arith, ranges.limit)
+limit_of-le s group ranges = at_or_zero (λ limit. limit ≤ 256) s.limits group (omega arith) ranges.limits
 
 -- ---- the soft marks of a group
 

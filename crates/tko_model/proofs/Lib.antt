@@ -1,2 +1,3 @@
 pub mod GroupLemmas
 pub mod RecordLemmas
+pub mod RangeLemmas

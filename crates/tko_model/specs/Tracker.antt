@@ -8,11 +8,12 @@ use Rattle.tko_model.specs.declared.mark.Op.TheVariants.{LookUp, SoftFailure, Ha
 use Rattle.tko_model.specs.declared.mark.Reply.{Reply}
 use Rattle.tko_model.specs.declared.mark.Reply.TheVariants as reply
 use Rattle.tko_model.specs.declared.state.ServerState.{ServerState}
-use Rattle.tko_model.specs.declared.settings.Settings.{Settings}
+use Rattle.tko_model.specs.Settings.{Settings}
 use Rattle.tko_model.specs.declared.transition.Transition.{Transition}
 use Rattle.tko_model.specs.Groups.{group_of, is_in, limit_at}
 use Rattle.tko_model.specs.Looks.{look_reply}
-use Rattle.tko_model.specs.Ranges.{IsWithinRanges, worn}
+use Rattle.tko_model.specs.Limits.{worn}
+use Rattle.tko_model.specs.Ranges.{IsWithinRanges}
 
 -- a reply that changes nothing
 abbrev pub stays : Reply → Transition

@@ -1,6 +1,8 @@
 //! The words that every other crate uses, and the sequential tracker.
 //!
-//! - `Settings`: how many servers and threads there are, and when a server is marked.
+//! - `Settings`: how many servers and threads there are, when a server is marked, and in what groups
+//!   soft marks are limited. `OneGroup`: settings without groups. `Layout`: how high the numbers of
+//!   threads and failures may be.
 //! - `Mark`: what is known of a server's health, and which thread marked it.
 //! - `Op` and `Reply`: the operations of a tracker, and its replies.
 //! - `Transition`: what an operation answers and changes, decided for one server.
@@ -11,8 +13,10 @@
 #![tactic(auto)]
 
 mod duty;
+mod layout;
 mod look;
 mod mark;
+mod one_group;
 mod plain;
 mod settings;
 mod state;
@@ -20,12 +24,13 @@ mod text;
 mod transition;
 
 pub use duty::Duty;
+pub use layout::Layout;
 pub use look::{Clear, Look};
 pub use mark::{Mark, Op, Reply};
+pub use one_group::OneGroup;
 pub use plain::{OpenFault, Plain};
 pub use settings::{
-    MAX_FAILURES, MAX_LIMIT, MAX_SERVERS, MAX_THREADS, MAX_TRIES, Settings, SettingsFault,
-    WORN_STAMP,
+    MAX_GROUPS, MAX_LIMIT, MAX_SERVERS, MAX_TRIES, Settings, SettingsFault, WORN_STAMP,
 };
 pub use state::{ServerState, count_softs, has_room, opened_servers};
 pub use text::{append_mark, append_number, append_reply, op_word};

@@ -1,6 +1,6 @@
 -- The settings of the tracker that the options name.
 use Rattle.std.specs.Prelude.{ℕ}
-use Rattle.tko_model.specs.declared.settings.Settings.{Settings}
+use Rattle.tko_model.specs.declared.one_group.OneGroup.{OneGroup}
 use Rattle.tko_options.specs.declared.dry_options.DryOptions.{DryOptions}
 use Rattle.tko_options.specs.declared.serve_options.ServeOptions.{ServeOptions}
 
@@ -9,7 +9,7 @@ abbrev pub dry_threads : ℕ
 dry_threads = 4
 
 -- of a tracker of `servers` servers, in a dry run
-abbrev pub dry_settings : DryOptions → ℕ → Settings
+abbrev pub dry_settings : DryOptions → ℕ → OneGroup
 dry_settings options servers = record {
   servers = servers;
   threads = dry_threads;
@@ -20,7 +20,7 @@ dry_settings options servers = record {
 }
 
 -- of a tracker of `servers` servers, in a server
-abbrev pub serve_settings : ServeOptions → ℕ → Settings
+abbrev pub serve_settings : ServeOptions → ℕ → OneGroup
 serve_settings options servers = record {
   servers = servers;
   threads = options.threads;

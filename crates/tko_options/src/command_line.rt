@@ -77,8 +77,8 @@ pub(crate) fn with_tracker<'a>(
 ) -> Result<Command<'a>, AllocError>
     ensures { (app : App) → ReadsAs app command.entry → IfOk result (ReadsAs (with_tracker app)) }
 {
-    let failures = "How many soft failures in a row mark a server, 1 to 1000";
-    let limit = "How many servers may have a soft mark at once, 0 to 256";
+    let failures = "How many soft failures in a row mark a server, 1 to 4096";
+    let limit = "How many servers of a pool without a soft_limit may have a soft mark, 0 to 256";
     let tries = "How many tries a call may lose to other threads, 1 to 1000";
     command
         .arg(number(alloc, "failures", DEFAULT_FAILURES, failures))?

@@ -7,7 +7,7 @@ ghost use Rattle.tko_options.specs.Trackers.{dry_settings};
 use crate::found::{number_of, optional_text, switch_of, text_of};
 use clap::ArgMatches;
 use std::alloc::{AllocError, Global};
-use tko_model::Settings;
+use tko_model::OneGroup;
 
 /// How many threads the tracker has; `dry` uses thread 0.
 const THREADS: u32 = 4;
@@ -43,11 +43,12 @@ impl DryOptions {
         })
     }
 
-    /// The settings of a tracker of `servers` servers.
-    pub fn settings(&self, servers: u32) -> Settings
+    /// The settings of a tracker of `servers` servers without groups, with the limit of all that
+    /// have none of their own.
+    pub fn settings(&self, servers: u32) -> OneGroup
         ensures { result ≡ dry_settings self.now servers }
     {
-        Settings {
+        OneGroup {
             servers,
             threads: THREADS,
             failures: self.failures,

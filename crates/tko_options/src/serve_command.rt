@@ -67,7 +67,7 @@ fn with_ends<'a>(alloc: Global, command: Command<'a>) -> Result<Command<'a>, All
 fn with_clients<'a>(alloc: Global, command: Command<'a>) -> Result<Command<'a>, AllocError>
     ensures { (app : App) → ReadsAs app command.entry → IfOk result (ReadsAs (with_clients app)) }
 {
-    let threads = "How many workers there are, each for one client at a time, 1 to 64";
+    let threads = "How many workers there are, each for one client at a time, 1 to 1024";
     command
         .arg(number(alloc, "threads", DEFAULT_THREADS, threads))?
         .arg(connections(alloc))

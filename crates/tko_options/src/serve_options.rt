@@ -7,7 +7,7 @@ ghost use Rattle.tko_options.specs.Trackers.{serve_settings};
 use crate::found::{number_of, optional_text, text_of};
 use clap::ArgMatches;
 use std::alloc::{AllocError, Global};
-use tko_model::Settings;
+use tko_model::OneGroup;
 
 /// The options of `serve`.
 #[derive(Debug, Drop)]
@@ -78,11 +78,12 @@ impl ServeOptions {
         self.has_log() || self.log.as_str() == "off"
     }
 
-    /// The settings of a tracker of `servers` servers.
-    pub fn settings(&self, servers: u32) -> Settings
+    /// The settings of a tracker of `servers` servers without groups, with the limit of all that
+    /// have none of their own.
+    pub fn settings(&self, servers: u32) -> OneGroup
         ensures { result ≡ serve_settings self.now servers }
     {
-        Settings {
+        OneGroup {
             servers,
             threads: self.threads,
             failures: self.failures,

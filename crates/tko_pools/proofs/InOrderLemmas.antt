@@ -1,15 +1,16 @@
 -- The configuration without pools.
 use Rattle.std.proofs.Common.{◌≡◌, ◌<◌, ◌≤◌, ℕ, zero, suc, ◌+◌, List, [], ◌∷◌, ◌++◌, length, map, refl, ap, sym, subst, ◌∙◌, arith}
 use Rattle.std.specs.List.{All, range_with_len}
-use Rattle.std.specs.Prelude.{◌%◌, slice_index}
+use Rattle.std.specs.Prelude.{◌%◌, Option, None, replicate, slice_index}
 use Rattle.std.proofs.Math.Nat.{mod-one}
-use Rattle.std.proofs.lemmas.List.{length-map, map-append}
+use Rattle.std.proofs.lemmas.List.{length-map, length-replicate, map-append}
 use Rattle.std.proofs.lemmas.List.Elements.{All-nil, All-cons}
 use Rattle.std.proofs.lemmas.List.FromFn.{map-range_with_len_more}
 use Rattle.tko_pools.specs.Configs.{Configuration, IsSound, chosen_by, in_order, numbers_below, targets_of}
 use Rattle.tko_pools.specs.Hash.{fnv1a_of}
 use Rattle.tko_pools.specs.Reasons.{max_servers}
 use Rattle.tko_pools.specs.Routes.{default_exptime}
+use Rattle.tko_pools.proofs.LimitLemmas.{IsSmall}
 
 -- a child with one server
 abbrev alone : ℕ → List ℕ
@@ -24,11 +25,18 @@ children-more items count children all child before last e =
     rw (e, map-append items children (child ∷ []), before, last) (sym more)
 
 -- the configuration is the one of these addresses
-pub in_order-made : {X : Type 0} (text : X → List ℕ) (texts : List X) (addresses children : List (List ℕ)) (count : ℕ)
-    → addresses ≡ map text texts → children ≡ map alone (numbers_below count) → count ≡ length texts
-    → record { addresses = addresses; children = children; failover_exptime = default_exptime } ≡ in_order (map text texts)
-in_order-made text texts addresses children count named numbered counted =
-    rw (named, numbered, counted, length-map texts text) refl
+pub in_order-made : {X : Type 0} (text : X → List ℕ) (texts : List X) (addresses children : List (List ℕ)) (groups : List ℕ) (limits : List (Option ℕ)) (count : ℕ)
+    → addresses ≡ map text texts → children ≡ map alone (numbers_below count)
+    → groups ≡ replicate (length texts) 0 → limits ≡ None ∷ [] → count ≡ length texts
+    → record {
+      addresses = addresses;
+      children = children;
+      failover_exptime = default_exptime;
+      groups = groups;
+      soft_limits = limits;
+    } ≡ in_order (map text texts)
+in_order-made text texts addresses children groups limits count named numbered grouped limited counted =
+    rw (named, numbered, grouped, limited, counted, length-map texts text) refl
 
 -- the server of a child with one server
 chosen-alone : (hash : ℕ) (numbers : List ℕ) → chosen_by hash (map alone numbers) ≡ numbers
@@ -58,11 +66,22 @@ filled [] = All-nil (λ child. 0 < length child)
 filled (number ∷ numbers) =
     All-cons (λ child. 0 < length child) (alone number) (map alone numbers) (omega arith) (filled numbers)
 
+one-group : (count : ℕ) → All (λ group. group < 1) (replicate count 0)
+one-group zero = All-nil (λ group. group < 1)
+one-group (suc count) = All-cons (λ group. group < 1) 0 (replicate count 0) (omega arith) (one-group count)
+
 in_order-sound : (addresses : List (List ℕ)) → length addresses ≤ max_servers → IsSound (in_order addresses)
 in_order-sound addresses few = record {
   children = filled (numbers_below (length addresses));
   numbers = below 0 (length addresses) (length addresses) (omega arith);
   servers = few;
+  groups = record {
+    some = omega arith;
+    few = omega arith;
+    one_each = length-replicate (length addresses) 0;
+    within = one-group (length addresses);
+    small = All-cons IsSmall None [] tt (All-nil IsSmall);
+  };
 }
 
 pub made-sound : {X : Type 0} (text : X → List ℕ) (texts : List X) (config : Configuration)

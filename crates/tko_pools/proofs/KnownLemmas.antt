@@ -38,7 +38,7 @@ known-push p (first ∷ addresses) other known =
     ]
 
 -- the last address is known
-last-known : (p : List ℕ → Bool) (addresses : List (List ℕ)) (text : List ℕ) → p text ≡ true
+pub last-known : (p : List ℕ → Bool) (addresses : List (List ℕ)) (text : List ℕ) → p text ≡ true
     → position_or_len p (addresses ++ text ∷ []) < length (addresses ++ text ∷ [])
 last-known p [] text same = rw same (zero-lt-suc 0)
 last-known p (first ∷ addresses) text same =
@@ -59,14 +59,14 @@ is_known addresses text found =
           cc
     ]
 
-added-known : (addresses : List (List ℕ)) (text : List ℕ) → IsKnown (with_address addresses text) text
+pub added-known : (addresses : List (List ℕ)) (text : List ℕ) → IsKnown (with_address addresses text) text
 added-known addresses text =
     elim (cases_Bool (is_some (position (bytes_eq text) addresses))) [
       | inl found ↦ rw found (is_known addresses text found)
       | inr none ↦ rw none (last-known (bytes_eq text) addresses text ((bytes_eq-Decides text text).1 refl))
     ]
 
-stays-known : (addresses : List (List ℕ)) (other text : List ℕ) → IsKnown addresses text
+pub stays-known : (addresses : List (List ℕ)) (other text : List ℕ) → IsKnown addresses text
     → IsKnown (with_address addresses other) text
 stays-known addresses other text known =
     elim (cases_Bool (is_some (position (bytes_eq other) addresses))) [

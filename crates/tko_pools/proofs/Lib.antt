@@ -1,6 +1,11 @@
+mod GroupLemmas
+mod HeldLemmas
 mod InOrderLemmas
 mod JsonLemmas
 mod KnownLemmas
+mod LimitLemmas
 mod NumberingLemmas
+mod OwnerLemmas
 mod ReasonLemmas
+mod RouteLemmas
 mod SoundLemmas

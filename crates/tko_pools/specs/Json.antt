@@ -3,6 +3,7 @@ use Rattle.std.specs.Prelude.{ℕ, if◌then◌else◌, List, [], ◌∷◌, len
 use Rattle.std.specs.Str.{bytes_eq}
 use Rattle.serde_json.specs.Data.{Data, Items, no_items, item, Members, no_members, member}
 use Rattle.serde_json.specs.Find.{get, as_array, as_object, as_str}
+use Rattle.tko_pools.specs.SoftLimits.{limit_value}
 
 -- the text of a value; anything else has the empty one
 abbrev pub text_of : Data → List ℕ
@@ -13,20 +14,27 @@ abbrev pub texts_of : Items → List (List ℕ)
 texts_of no_items = []
 texts_of (item value items) = text_of value ∷ texts_of items
 
--- a pool: its name, and the texts of its list of servers, none where it has no such list
+-- a pool: its name, the texts of its list of servers, none where it has no such list, and what it
+-- has as its soft limit
 pub record Pool : Type 0 where
   pub name : List ℕ
   pub servers : List (List ℕ)
+  pub soft_limit : Option Data
 
 abbrev pub servers_of : Data → List (List ℕ)
 servers_of value =
     unwrap_or (option_map texts_of (option_and_then as_array (get (codes "servers") value))) []
 
+-- the pool that a value is under this name
+abbrev pub pool_of : List ℕ → Data → Pool
+pool_of name value =
+    record { name = name; servers = servers_of value; soft_limit = limit_value value }
+
 -- the pools, in the byte order of their names
 abbrev pub pools_of : Members → List Pool
 pools_of no_members = []
 pools_of (member name value members) =
-    record { name = name; servers = servers_of value } ∷ pools_of members
+    pool_of name value ∷ pools_of members
 
 -- a value, where it is an object
 abbrev pub if_object : Data → Option Data

@@ -1,7 +1,9 @@
 pub mod Addresses
 pub mod Configs
+pub mod Groups
 pub mod Hash
 pub mod Json
 pub mod Numbering
 pub mod Reasons
 pub mod Routes
+pub mod SoftLimits

@@ -10,6 +10,7 @@ use Rattle.tko_pools.specs.Addresses.{is_address}
 use Rattle.tko_pools.specs.Json.{Pool, pool_list, pools_in, servers_named}
 use Rattle.tko_pools.specs.Numbering.{numbered}
 use Rattle.tko_pools.specs.Routes.{RouteRead, route_in}
+use Rattle.tko_pools.specs.SoftLimits.{is_no_limit}
 
 pub data Reason : Type 0 where
   -- there is no object of pools
@@ -18,6 +19,8 @@ pub data Reason : Type 0 where
   EmptyPool : List ℕ → Reason
   -- the item of a pool's list is no address; one that is no text stands as the empty text
   BadAddress : List ℕ → Reason
+  -- the pool of this name has a soft limit that is no whole number in its range
+  BadSoftLimit : List ℕ → Reason
   -- there is no route, or it has another form
   BadRoute : Reason
   -- a child of the route names this pool, which is not there
@@ -31,12 +34,16 @@ max_servers = 256
 abbrev pub bad_address : List (List ℕ) → Option (List ℕ)
 bad_address servers = find (λ text. not (is_address text)) servers
 
+-- what is wrong with the soft limit of a pool
+abbrev pub limit_reason : Pool → Option Reason
+limit_reason pool = if is_no_limit pool.soft_limit then Some (BadSoftLimit pool.name) else None
+
 -- what is wrong with a pool
 abbrev pub pool_reason : Pool → Option Reason
 pool_reason pool =
     if length pool.servers == 0
     then Some (EmptyPool pool.name)
-    else option_map BadAddress (bad_address pool.servers)
+    else option_or (option_map BadAddress (bad_address pool.servers)) (limit_reason pool)
 
 -- what is wrong with the first pool that is wrong
 abbrev pub pools_reason : List Pool → Option Reason
@@ -77,6 +84,7 @@ Reports found fault.Json = ⊥
 Reports found fault.NoPools = found ≡ Some NoPools
 Reports found (fault.EmptyPool name) = found ≡ Some (EmptyPool (string_bytes name))
 Reports found (fault.Address text) = found ≡ Some (BadAddress (string_bytes text))
+Reports found (fault.SoftLimit name) = found ≡ Some (BadSoftLimit (string_bytes name))
 Reports found fault.Route = found ≡ Some BadRoute
 Reports found (fault.NoSuchPool name) = found ≡ Some (NoSuchPool (string_bytes name))
 Reports found fault.TooManyServers = found ≡ Some TooManyServers

@@ -1,5 +1,5 @@
 //! A configuration and how it is read.
-ghost use Rattle.std.specs.Prelude.{◌≡◌, ◌<◌, [], None, All, IfOk, IfErr, OnOk, OnErr, length, map, string_bytes};
+ghost use Rattle.std.specs.Prelude.{◌≡◌, ◌<◌, [], None, All, IfOk, IfErr, OnOk, OnErr, length, map, string_bytes, unwrap_or};
 ghost use Rattle.serde_json.specs.View.{view};
 ghost use Rattle.tko_pools.specs.Configs.{IsMeaning, IsRoot, Means, Refuses, addresses_of, child_of, chosen_by, configuration};
 ghost use Rattle.tko_pools.specs.Json.{pool_list};
@@ -9,6 +9,7 @@ mod copying;
 mod in_order;
 
 use crate::flaws::{check_pools, unknown_child};
+use crate::groups::Grouping;
 use crate::json::{pools_in, servers_named};
 use crate::numbering::Addresses;
 use crate::route::Route;
@@ -21,13 +22,17 @@ use tko_bytes::NoMemory;
 /// The most different addresses of all children together.
 const MAX_SERVERS: usize = 256;
 
-/// A configuration: the addresses of the servers by their numbers, and the servers of each child of
-/// the route. In contracts it is a `Configuration`.
+/// A configuration: the addresses of the servers by their numbers, the servers of each child of the
+/// route, and the groups of the servers. In contracts it is a `Configuration`.
 #[derive(Drop)]
 pub struct Config {
     addresses: Addresses,
     children: Vec<Vec<usize>>,
     failover_exptime: u32,
+    /// Of each server: the number of its group.
+    groups: Vec<u32>,
+    /// Of each group: the soft limit of its pool, if the pool has one.
+    soft_limits: Vec<Option<u32>>,
 }
 
 impl Model for Config {
@@ -40,12 +45,16 @@ impl Model for Config {
       addresses = c.addresses;
       children = map (λ child. child.items) c.children.items;
       failover_exptime = c.failover_exptime;
+      groups = c.groups.items;
+      soft_limits = c.soft_limits.items;
     } };
 
     ghost invariant = { λ c. IsSound (record {
       addresses = c.addresses;
       children = map (λ child. child.items) c.children.items;
       failover_exptime = c.failover_exptime;
+      groups = c.groups.items;
+      soft_limits = c.soft_limits.items;
     }) };
 }
 
@@ -76,7 +85,8 @@ impl Config {
 
     /// The configuration of a route over pools without a flaw.
     fn over(alloc: Global, pools: &Value, route: &Route<'_>) -> Result<Config, ConfigFault>
-        requires { pools_reason (pool_list (view pools.now)) ≡ None }
+        requires sound { pools_reason (pool_list (view pools.now)) ≡ None }
+        requires some { 0 < length route.now.children }
         ensures ok { IfOk result (λ config. config ≡ configuration (view pools.now) route.now) }
         ensures sound { IfOk result (λ config.
             children_reason (view pools.now) route.now.children ≡ None) }
@@ -91,16 +101,20 @@ impl Config {
         if addresses.len() > MAX_SERVERS {
             return Err(ConfigFault::TooManyServers);
         }
+        let children = children_of(alloc, &addresses, pools, names)?;
+        let grouping = Grouping::of(alloc, pools, names, &children, addresses.len())?;
         Ok(Config {
-            children: children_of(alloc, &addresses, pools, names)?,
             addresses,
+            children,
             failover_exptime: route.failover_exptime(),
+            groups: grouping.groups,
+            soft_limits: grouping.soft_limits,
         })
     }
 }
 
 impl Config {
-    ghost use Rattle.tko_pools.specs.Configs.{AreServers, targets_of};
+    ghost use Rattle.tko_pools.specs.Configs.{AreGroups, AreServers, limits_of, targets_of};
 
     /// The targets of a key, in the order of the children.
     pub fn targets(&self, alloc: Global, key: &[u8]) -> Result<Vec<usize>, NoMemory>
@@ -140,6 +154,21 @@ impl Config {
         self.addresses.len() as u32
     }
 
+    /// The group of each server. A server is in the group of the first child that holds it.
+    pub fn groups(&self) -> &[u32]
+        ensures value { result.now ≡ self.now.groups }
+        ensures sound { AreGroups self.now }
+    {
+        self.groups.as_slice()
+    }
+
+    /// The soft limit of each group: that of its pool, or `default` if the pool has none.
+    pub fn limits(&self, alloc: Global, default: u32) -> Result<Vec<u32>, NoMemory>
+        ensures { IfOk result (λ limits. limits.items ≡ limits_of self.now default) }
+    {
+        limits_or(alloc, &self.soft_limits, default)
+    }
+
     /// The greatest expiry that a storage command keeps after its first target, in seconds; 0
     /// stands for any.
     pub fn failover_exptime(&self) -> u32
@@ -147,6 +176,18 @@ impl Config {
     {
         self.failover_exptime
     }
+}
+
+/// The limits, and this one where there is none.
+fn limits_or(alloc: Global, limits: &[Option<u32>], default: u32) -> Result<Vec<u32>, NoMemory>
+    ensures { IfOk result (λ numbers. numbers.items
+        ≡ map (λ limit. unwrap_or limit default) limits.now) }
+{
+    let mut numbers = Vec::with_capacity(alloc, limits.len())?;
+    for limit in limits {
+        numbers.push(limit.unwrap_or(default))?;
+    }
+    Ok(numbers)
 }
 
 /// Puts the server of each child for this hash into an empty list.

@@ -19,6 +19,9 @@ pub enum ConfigFault {
     /// This item of a pool's list is no address; one that is no text stands as the empty text.
     #[error("address")]
     Address(String),
+    /// The pool of this name has a soft limit that is no whole number from 0 to 256.
+    #[error("soft-limit")]
+    SoftLimit(String),
     /// `route` is missing or has another form.
     #[error("route")]
     Route,

@@ -1,12 +1,13 @@
 //! What is wrong with a configuration.
 ghost use Rattle.std.specs.Prelude.{◌≡◌, None, IfErr, IfOk, map, option_map};
 ghost use Rattle.serde_json.specs.View.{items_view, members_view, view};
-ghost use Rattle.tko_pools.specs.Json.{pool_list, pools_of, servers_of, texts_of};
+ghost use Rattle.tko_pools.specs.Json.{pool_list, pool_of, pools_of, texts_of};
 ghost use Rattle.tko_pools.specs.Reasons.{Reports, bad_address, pool_reason, pools_reason, unknown_child};
 
 use crate::ConfigFault;
 use crate::address::is_address;
 use crate::json::{servers_of, text_of};
+use crate::soft_limits::has_no_limit;
 use serde_json::{Map, Value};
 use std::alloc::Global;
 
@@ -36,10 +37,9 @@ fn check_members(alloc: Global, pools: &Map<String, Value>) -> Result<(), Config
 
 /// Fails with what is wrong with a pool.
 fn check_pool(alloc: Global, name: &str, value: &Value) -> Result<(), ConfigFault>
-    ensures ok { IfOk result (λ _.
-        pool_reason (record { name = name.now; servers = servers_of (view value.now) }) ≡ None) }
-    ensures err { IfErr result (λ fault. Reports (pool_reason
-        (record { name = name.now; servers = servers_of (view value.now) })) fault) }
+    ensures ok { IfOk result (λ _. pool_reason (pool_of name.now (view value.now)) ≡ None) }
+    ensures err { IfErr result (λ fault.
+        Reports (pool_reason (pool_of name.now (view value.now))) fault) }
 {
     let servers = servers_of(value);
     if servers.is_empty() {
@@ -47,6 +47,9 @@ fn check_pool(alloc: Global, name: &str, value: &Value) -> Result<(), ConfigFaul
     }
     if let Some(text) = bad_address(servers) {
         return Err(ConfigFault::Address(String::from_str(alloc, text)?));
+    }
+    if has_no_limit(value) {
+        return Err(ConfigFault::SoftLimit(String::from_str(alloc, name)?));
     }
     Ok(())
 }

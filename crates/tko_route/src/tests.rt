@@ -8,17 +8,17 @@ use std::sync::Wait;
 use std::test::Fail;
 use std::time::Clock;
 use tko_links::{Script, Scripted};
-use tko_model::{Plain, Settings};
+use tko_model::{OneGroup, Plain};
 use tko_text::{Key, Keys, Request, Response};
 
 /// Servers, bytes of the key and bytes of the value.
 const SIZES: [(u32, usize, usize); 2] = [(1, 1, 0), (256, 250, 1_048_576)];
 
-fn settings(servers: u32) -> Settings
+fn settings(servers: u32) -> OneGroup
     ensures servers { result.servers ≡ servers }
     ensures threads { result.threads ≡ 1 }
 {
-    Settings {
+    OneGroup {
         servers,
         threads: 1,
         failures: 1,
@@ -47,7 +47,7 @@ fn are_below(targets: &[usize], servers: usize) -> bool
 fn health_of(alloc: Global, servers: u32) -> Result<PlainHealth, Fail>
     ensures { IfOk result (λ health. length health.tracker.servers ≡ servers) }
 {
-    Ok(PlainHealth::new(Plain::open(alloc, settings(servers))?, 0))
+    Ok(PlainHealth::new(Plain::open(alloc, settings(servers).settings(alloc)?)?, 0))
 }
 
 /// Asks these servers in order.

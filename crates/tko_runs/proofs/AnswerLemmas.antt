@@ -1,17 +1,14 @@
 -- Run lines: the steps of a thread until it has no call.
-use Rattle.std.proofs.Common.{◌≡◌, ℕ, zero, suc, ◌+◌, ◌-◌, ◌*◌, ◌<◌, ◌≤◌, Bool, true, false, cond, eqb, leb, ltb, length, replicate, ◌⊎◌, inl, inr, refl, sym, ap, ◌∙◌, subst, arith}
+use Rattle.std.proofs.Common.{◌≡◌, ℕ, zero, suc, ◌+◌, ◌-◌, ◌*◌, ◌<◌, ◌≤◌, Bool, true, false, cond, eqb, length, replicate, ◌⊎◌, inl, inr, refl, sym, ap, ◌∙◌, subst, arith}
 use Rattle.std.proofs.lemmas.Bool.{cases_Bool, cases_lt, cond_both, lt-ltb}
 use Rattle.std.proofs.lemmas.List.{get_or-set_same, get_or_past}
-use Rattle.tko_model.specs.declared.mark.Mark.{Mark}
-use Rattle.tko_model.specs.declared.mark.Mark.TheVariants.{Up, Soft, Hard}
-use Rattle.tko_model.specs.declared.mark.Op.{Op}
-use Rattle.tko_model.specs.declared.mark.Op.TheVariants.{LookUp, SoftFailure, HardFailure, Success, Release}
+use Rattle.tko_model.specs.declared.mark.Mark.TheVariants.{Soft}
 use Rattle.tko_model.specs.declared.mark.Reply.{Reply}
 use Rattle.tko_model.specs.declared.mark.Reply.TheVariants as reply
 use Rattle.tko_model.specs.declared.mark.Reply.TheVariants.{Contended}
-use Rattle.tko_model.specs.declared.settings.Settings.{Settings}
+use Rattle.tko_model.specs.Settings.{Settings}
 use Rattle.tko_model.specs.declared.state.ServerState.{ServerState}
-use Rattle.tko_model.specs.Ranges.{IsWithinRanges, worn}
+use Rattle.tko_model.specs.Ranges.{IsWithinRanges}
 use Rattle.tko_model.specs.Tracker.{server_at}
 use Rattle.tko_runs.specs.declared.schedule.command.Command.TheVariants as command
 use Rattle.tko_runs.specs.Limits.{max_steps}

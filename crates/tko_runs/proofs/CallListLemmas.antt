@@ -5,7 +5,7 @@ use Rattle.std.proofs.lemmas.List.{reverse-append, reverse-reverse, length-rever
 use Rattle.std.proofs.Math.Seq.{get_or-append_seam, set-append_seam}
 use Rattle.tko_model.specs.declared.mark.Op.{Op}
 use Rattle.tko_model.specs.declared.mark.Reply.{Reply}
-use Rattle.tko_model.specs.declared.settings.Settings.{Settings}
+use Rattle.tko_model.specs.Settings.{Settings}
 use Rattle.tko_runs.specs.declared.checking.point.CheckedCall.{CheckedCall}
 use Rattle.tko_runs.specs.declared.run.state.ThreadEntry.{ThreadEntry}
 use Rattle.tko_runs.specs.declared.run.state.ThreadEntry.TheVariants.{NotEnrolled, Idle, InCall}
@@ -205,4 +205,4 @@ pub IsLatest-answered : (answer : Option Reply) (state : ThreadEntry) (found : O
 IsLatest-answered None state found place is = is
 IsLatest-answered (Some reply) NotEnrolled found place is = is
 IsLatest-answered (Some reply) (Idle number) found place is = tt
-IsLatest-answered (Some reply) (InCall number) found place is = tt
+IsLatest-answered (Some reply) (InCall number server) found place is = tt

@@ -3,7 +3,7 @@ use Rattle.std.proofs.Common.{◌≡◌, ℕ, suc, ◌+◌, ◌<◌, ◌≤◌, 
 use Rattle.std.proofs.lemmas.List.{drop_all, reverse-reverse}
 use Rattle.std.proofs.Math.Seq.{drop-cons}
 use Rattle.tko_model.specs.declared.mark.Op.TheVariants.{LookUp}
-use Rattle.tko_model.specs.declared.settings.Settings.{Settings}
+use Rattle.tko_model.specs.Settings.{Settings}
 use Rattle.tko_runs.specs.declared.checking.RunFault.{RunFault}
 use Rattle.tko_runs.specs.declared.checking.RunFault.TheVariants as fault
 use Rattle.tko_runs.specs.declared.checking.state.CheckState.{CheckState}

@@ -3,7 +3,7 @@ use Rattle.std.proofs.Common.{◌≡◌, ℕ, ◌+◌, ◌<◌, Bool, true, fals
 use Rattle.std.proofs.lemmas.List.Elements.{All-set}
 use Rattle.tko_model.specs.declared.mark.Op.{Op}
 use Rattle.tko_model.specs.declared.mark.Reply.{Reply}
-use Rattle.tko_model.specs.declared.settings.Settings.{Settings}
+use Rattle.tko_model.specs.Settings.{Settings}
 use Rattle.tko_model.specs.declared.state.ServerState.{ServerState}
 use Rattle.tko_model.specs.Tracker.{server_at}
 use Rattle.tko_runs.specs.declared.checking.calls.Calls.{Calls}
@@ -117,7 +117,7 @@ enters_enrolled old event run thread kind.Enrol at found left answer is enrols c
     rw (now, is)
     (record {
       settings = refl;
-      follows = rw (can.1.at_enrolment, can.1.finds, can.1.leaves) (record { finds = refl; can = (refl, refl) });
+      follows = rw (can.1.at_enrolment, can.1.finds, can.1.leaves) (record { own = tt; finds = refl; can = (refl, refl) });
       run = refl;
       stands = λ past stands. record {
         settings = stands.settings;

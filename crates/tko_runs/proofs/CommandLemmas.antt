@@ -6,7 +6,7 @@ use Rattle.std.proofs.lemmas.Bool.{cond-true, cond-false, lt-ltb, le-ltb}
 use Rattle.tko_bytes.specs.Lines.{lines_of}
 use Rattle.tko_runs.specs.declared.schedule.command.Command.{Command}
 use Rattle.tko_runs.specs.declared.schedule.fault.ScheduleFault.TheVariants as fault
-use Rattle.tko_runs.specs.Limits.{header_lines, max_commands}
+use Rattle.tko_runs.specs.Limits.{max_commands}
 use Rattle.tko_runs.specs.Schedules.{bad_place, command_line, commands_of}
 
 pub lines_of-empty : (text : List ℕ) → length text ≡ 0 → lines_of text ≡ []
@@ -50,26 +50,28 @@ has_read-more all commands command line rest so_far few is =
       values = so_far.values ∙ rw is (sym (append_assoc commands (command ∷ []) (filter_map command_line rest)));
     }
 
-pub has_read-all : (all : List (List ℕ)) (commands : List Command) → HasRead all commands [] → commands_of all ≡ Ok commands
+pub has_read-all : (before : ℕ) (all : List (List ℕ)) (commands : List Command) → HasRead all commands []
+    → commands_of before all ≡ Ok commands
 unfolding commands_of place_of
-has_read-all all commands so_far =
+has_read-all before all commands so_far =
     let end : bad_place all ≡ length commands = omega (arith, so_far.place, so_far.few) in
     let past : nat_lt (bad_place all) (length all) ≡ false = le-ltb (bad_place all) (length all) (omega (arith, so_far.count)) in
     cond-false _ _ _ past ∙ ap Ok (so_far.values ∙ append-nil commands)
 
 -- the line at this place is bad
-bad_at : (all : List (List ℕ)) (place : ℕ) → bad_place all ≡ place → place < length all → commands_of all ≡ Err (fault.Line (place + header_lines + 1))
+bad_at : (before : ℕ) (all : List (List ℕ)) (place : ℕ) → bad_place all ≡ place → place < length all
+    → commands_of before all ≡ Err (fault.Line (place + before + 1))
 unfolding commands_of
-bad_at all place here inside =
+bad_at before all place here inside =
     let past : nat_lt (bad_place all) (length all) ≡ true = lt-ltb (bad_place all) (length all) (omega arith) in
-    cond-true _ _ _ past ∙ ap (λ n. Err (fault.Line (n + header_lines + 1))) here
+    cond-true _ _ _ past ∙ ap (λ n. Err (fault.Line (n + before + 1))) here
 
-pub has_read-bad : (all : List (List ℕ)) (commands : List Command) (line : List ℕ) (rest : List (List ℕ))
+pub has_read-bad : (before : ℕ) (all : List (List ℕ)) (commands : List Command) (line : List ℕ) (rest : List (List ℕ))
     → HasRead all commands (line ∷ rest) → (max_commands ≤ length commands) ⊎ (command_line line ≡ None)
-    → commands_of all ≡ Err (fault.Line (length commands + header_lines + 1))
+    → commands_of before all ≡ Err (fault.Line (length commands + before + 1))
 unfolding place_of
-has_read-bad all commands line rest so_far bad =
-    bad_at all (length commands)
+has_read-bad before all commands line rest so_far bad =
+    bad_at before all (length commands)
     (⊎_elim
     (λ many. omega (arith, so_far.place, so_far.few))
     (λ other. omega (arith, so_far.place, so_far.few, place_of-other line rest other))

@@ -1,6 +1,6 @@
 -- Events that are claimed, one more at the end.
 use Rattle.std.proofs.Common.{◌≡◌, ◌+◌, ◌≤◌, Bool, true, false, cond, List, [], ◌∷◌, ◌++◌, length, refl, arith}
-use Rattle.tko_model.specs.declared.settings.Settings.{Settings}
+use Rattle.tko_model.specs.Settings.{Settings}
 use Rattle.tko_runs.specs.declared.run.event.Event.{Event}
 use Rattle.tko_runs.specs.declared.run.event.Event.TheVariants.{Begin, Step}
 use Rattle.tko_runs.specs.States.{Claimed, claimed, claimed_after, claimed_after_all, opened_claim, opened_state}

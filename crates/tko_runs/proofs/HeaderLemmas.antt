@@ -1,145 +1,223 @@
--- The header: numbers that are too large for their fields, and the seven lines one after another.
-use Rattle.std.proofs.Common.{◌≡◌, ℕ, ◌<◌, ◌≤◌, min, drop, List, [], ◌∷◌, Ok, Err, refl, ap, ◌∙◌, arith, length}
-use Rattle.std.specs.Prelude.{codes}
-use Rattle.std.proofs.lemmas.Bool.Decides.{nat_tests}
-use Rattle.tko_model.specs.declared.settings.Settings.{Settings}
-use Rattle.tko_model.specs.declared.settings.SettingsFault.TheVariants as range
-use Rattle.tko_model.specs.Ranges.{first_broken, first_fault, is_within, worn}
+-- The lines of a header, one after another: what a text says once some of its lines were read, and once one is bad.
+use Rattle.std.proofs.Common.{◌≡◌, ℕ, ◌-◌, drop, List, Ok, Err, refl, ap, sym, ◌∙◌, length}
+use Rattle.std.specs.Prelude.{Result, codes}
+use Rattle.std.proofs.lemmas.List.{drop-drop}
+use Rattle.tko_model.specs.Settings.{Settings, in_one_group}
 use Rattle.tko_runs.specs.declared.schedule.fault.ScheduleFault.{ScheduleFault}
 use Rattle.tko_runs.specs.declared.schedule.fault.ScheduleFault.TheVariants as fault
-use Rattle.tko_runs.specs.Headers.{HasHeaderLine, HasTitle, LacksHeaderLine, LacksTitle}
+use Rattle.tko_runs.specs.declared.schedule.header.Counts.{Counts}
+use Rattle.tko_runs.specs.declared.version.Version.{Version}
+use Rattle.tko_runs.specs.declared.version.Version.TheVariants.{One, Two, Three}
+use Rattle.tko_runs.specs.Headers.{HasLine, LacksLine}
 use Rattle.tko_bytes.specs.Lines.{lines_of}
-use Rattle.tko_runs.specs.Schedules.{header}
+use Rattle.tko_runs.specs.Schedules.{IsFault, counts_in, groups_in, header, header_number, header_numbers, in_field, one_group_in, settings_in, version_in, with_groups}
+use Rattle.tko_runs.specs.Versions.{header_lines}
 use Rattle.tko_bytes.specs.Fields.{fields_in}
 use Rattle.tko_runs.proofs.CommandLemmas.{lines_of-empty}
 
--- what is above a range stays so, where it is narrowed to something above
-is_within-min : (low high n : ℕ) → low ≤ high → high < 4294967295 → is_within low high (min n 4294967295) ≡ is_within low high n
-is_within-min low high n order small = grind (arith, nat_tests)
+-- Faults.
 
--- the settings whose 32-bit fields are narrowed
-pub record IsNarrowed (narrow wide : Settings) : Type 0 where
-  pub servers : narrow.servers ≡ min wide.servers 4294967295
-  pub threads : narrow.threads ≡ min wide.threads 4294967295
-  pub failures : narrow.failures ≡ min wide.failures 4294967295
-  pub limit : narrow.limit ≡ min wide.limit 4294967295
-  pub tries : narrow.tries ≡ min wide.tries 4294967295
-  pub stamp : narrow.opening_stamp ≡ wide.opening_stamp
+pub is_fault : {A : Type 0} (read : Result A ScheduleFault) (told : ScheduleFault) → read ≡ Err told → IsFault read told
+is_fault read (fault.Line number) e = e
+is_fault read (fault.Settings outside) e = e
+is_fault read fault.Memory e = tt
 
-within : (low high n m : ℕ) → low ≤ high → high < 4294967295 → n ≡ min m 4294967295 → is_within low high n ≡ is_within low high m
-within low high n m order small e = ap (is_within low high) e ∙ is_within-min low high m order small
+pub is_memory : {A : Type 0} (read : Result A ScheduleFault) (told : ScheduleFault) → told ≡ fault.Memory → IsFault read told
+is_memory read told e = rw e tt
 
-pub first_fault-narrowed : (narrow wide : Settings) → IsNarrowed narrow wide → first_fault narrow ≡ first_fault wide
-first_fault-narrowed narrow wide same =
-    let servers = within 1 256 narrow.servers wide.servers (omega arith) (omega arith) same.servers in
-    let threads = within 1 64 narrow.threads wide.threads (omega arith) (omega arith) same.threads in
-    let failures = within 1 1000 narrow.failures wide.failures (omega arith) (omega arith) same.failures in
-    let limit = within 0 256 narrow.limit wide.limit (omega arith) (omega arith) same.limit in
-    let tries = within 1 1000 narrow.tries wide.tries (omega arith) (omega arith) same.tries in
-    λ i. first_broken (
-    (servers i, range.Servers)
-    ∷ (threads i, range.Threads)
-    ∷ (failures i, range.Failures)
-    ∷ (limit i, range.Limit)
-    ∷ (tries i, range.Tries)
-    ∷ (is_within 0 worn (same.stamp i), range.Stamp)
-    ∷ []
-    )
+-- what a part could not read, the whole could not
+pub passes : {A B : Type 0} (part : Result A ScheduleFault) (read : Result B ScheduleFault) (told : ScheduleFault)
+    → (part ≡ Err told → read ≡ Err told) → IsFault part told → IsFault read told
+passes part read (fault.Line number) goes e = goes e
+passes part read (fault.Settings outside) goes e = goes e
+passes part read fault.Memory goes e = tt
 
 -- A text that has ended lacks each line.
 
-pub lacks_title-empty : (text : List ℕ) → length text ≡ 0 → LacksTitle text (fault.Line 1)
-lacks_title-empty text e = record { bad = refl; form = rw (lines_of-empty text e) refl }
+pub lacks_title-empty : (text : List ℕ) → length text ≡ 0 → LacksLine 1 version_in text (fault.Line 1)
+lacks_title-empty text e = record { bad = refl; is = rw (lines_of-empty text e) refl }
 
-pub lacks_header_line-empty : (line : ℕ) (name text : List ℕ) → length text ≡ 0 → LacksHeaderLine line name text (fault.Line line)
+pub lacks_number-empty : (line : ℕ) (name text : List ℕ) → length text ≡ 0
+    → LacksLine line (header_number name) text (fault.Line line)
 unfolding fields_in
-lacks_header_line-empty line name text e = record { bad = refl; form = rw (lines_of-empty text e) refl }
+lacks_number-empty line name text e = record { bad = refl; is = rw (lines_of-empty text e) refl }
 
--- The first line that is bad or missing.
+pub lacks_list-empty : (line : ℕ) (name text : List ℕ) → length text ≡ 0
+    → LacksLine line (header_numbers name) text (fault.Line line)
+unfolding fields_in
+lacks_list-empty line name text e = record { bad = refl; is = rw (lines_of-empty text e) refl }
 
-pub lacks_first : (text : List ℕ) (told : ScheduleFault) → LacksTitle text told → header (lines_of text) ≡ Err told
+-- The lines of each version.
+
+pub counts_in-lacks1 : (text : List ℕ) (told : ScheduleFault)
+    → LacksLine 2 (header_number (codes "servers")) text told
+    → counts_in (lines_of text) ≡ Err told
+unfolding counts_in
+counts_in-lacks1 text told bad =
+    rw (bad.is, bad.bad) refl
+
+pub counts_in-lacks2 : (text r1 : List ℕ) (servers : ℕ) (told : ScheduleFault)
+    → HasLine (header_number (codes "servers")) text servers r1
+    → LacksLine 3 (header_number (codes "threads")) r1 told
+    → counts_in (lines_of text) ≡ Err told
+unfolding counts_in
+counts_in-lacks2 text r1 servers told one bad =
+    rw (one.lines, one.is, bad.is, bad.bad) refl
+
+pub counts_in-lacks3 : (text r1 r2 : List ℕ) (servers threads : ℕ) (told : ScheduleFault)
+    → HasLine (header_number (codes "servers")) text servers r1
+    → HasLine (header_number (codes "threads")) r1 threads r2
+    → LacksLine 4 (header_number (codes "failures")) r2 told
+    → counts_in (lines_of text) ≡ Err told
+unfolding counts_in
+counts_in-lacks3 text r1 r2 servers threads told one two bad =
+    rw (one.lines, one.is, two.lines, two.is, bad.is, bad.bad) refl
+
+pub counts_in-has : (text r1 r2 r3 : List ℕ) (servers threads failures : ℕ)
+    → HasLine (header_number (codes "servers")) text servers r1
+    → HasLine (header_number (codes "threads")) r1 threads r2
+    → HasLine (header_number (codes "failures")) r2 failures r3
+    → counts_in (lines_of text) ≡ Ok (record { servers = in_field servers; threads = in_field threads; failures = in_field failures })
+unfolding counts_in
+counts_in-has text r1 r2 r3 servers threads failures one two three =
+    rw (one.lines, one.is, two.lines, two.is, three.lines, three.is) refl
+
+pub counts_in-rest : (text r1 r2 r3 : List ℕ) (servers threads failures : ℕ)
+    → HasLine (header_number (codes "servers")) text servers r1
+    → HasLine (header_number (codes "threads")) r1 threads r2
+    → HasLine (header_number (codes "failures")) r2 failures r3
+    → lines_of r3 ≡ drop 3 (lines_of text)
+counts_in-rest text r1 r2 r3 servers threads failures one two three =
+    rw (one.lines, two.lines, three.lines) refl
+
+-- Those of the first version.
+
+pub one_group_in-lacks1 : (counts : Counts) (text : List ℕ) (told : ScheduleFault)
+    → LacksLine 5 (header_number (codes "limit")) text told
+    → one_group_in counts (lines_of text) ≡ Err told
+unfolding one_group_in
+one_group_in-lacks1 counts text told bad =
+    rw (bad.is, bad.bad) refl
+
+pub one_group_in-lacks2 : (counts : Counts) (text r1 : List ℕ) (limit : ℕ) (told : ScheduleFault)
+    → HasLine (header_number (codes "limit")) text limit r1
+    → LacksLine 6 (header_number (codes "tries")) r1 told
+    → one_group_in counts (lines_of text) ≡ Err told
+unfolding one_group_in
+one_group_in-lacks2 counts text r1 limit told one bad =
+    rw (one.lines, one.is, bad.is, bad.bad) refl
+
+pub one_group_in-lacks3 : (counts : Counts) (text r1 r2 : List ℕ) (limit tries : ℕ) (told : ScheduleFault)
+    → HasLine (header_number (codes "limit")) text limit r1
+    → HasLine (header_number (codes "tries")) r1 tries r2
+    → LacksLine 7 (header_number (codes "stamp")) r2 told
+    → one_group_in counts (lines_of text) ≡ Err told
+unfolding one_group_in
+one_group_in-lacks3 counts text r1 r2 limit tries told one two bad =
+    rw (one.lines, one.is, two.lines, two.is, bad.is, bad.bad) refl
+
+pub one_group_in-has : (counts : Counts) (text r1 r2 r3 : List ℕ) (limit tries stamp : ℕ)
+    → HasLine (header_number (codes "limit")) text limit r1
+    → HasLine (header_number (codes "tries")) r1 tries r2
+    → HasLine (header_number (codes "stamp")) r2 stamp r3
+    → one_group_in counts (lines_of text) ≡ Ok (in_one_group (record { servers = counts.servers; threads = counts.threads; failures = counts.failures; limit = in_field limit; tries = in_field tries; opening_stamp = stamp }))
+unfolding one_group_in
+one_group_in-has counts text r1 r2 r3 limit tries stamp one two three =
+    rw (one.lines, one.is, two.lines, two.is, three.lines, three.is) refl
+
+pub one_group_in-rest : (text r1 r2 r3 : List ℕ) (limit tries stamp : ℕ)
+    → HasLine (header_number (codes "limit")) text limit r1
+    → HasLine (header_number (codes "tries")) r1 tries r2
+    → HasLine (header_number (codes "stamp")) r2 stamp r3
+    → lines_of r3 ≡ drop 3 (lines_of text)
+one_group_in-rest text r1 r2 r3 limit tries stamp one two three =
+    rw (one.lines, two.lines, three.lines) refl
+
+-- Those of the others.
+
+pub groups_in-lacks1 : (counts : Counts) (text : List ℕ) (told : ScheduleFault)
+    → LacksLine 5 (header_numbers (codes "limits")) text told
+    → groups_in counts (lines_of text) ≡ Err told
+unfolding groups_in
+groups_in-lacks1 counts text told bad =
+    rw (bad.is, bad.bad) refl
+
+pub groups_in-lacks2 : (counts : Counts) (text r1 : List ℕ) (limits : List ℕ) (told : ScheduleFault)
+    → HasLine (header_numbers (codes "limits")) text limits r1
+    → LacksLine 6 (header_numbers (codes "groups")) r1 told
+    → groups_in counts (lines_of text) ≡ Err told
+unfolding groups_in
+groups_in-lacks2 counts text r1 limits told one bad =
+    rw (one.lines, one.is, bad.is, bad.bad) refl
+
+pub groups_in-lacks3 : (counts : Counts) (text r1 r2 : List ℕ) (limits groups : List ℕ) (told : ScheduleFault)
+    → HasLine (header_numbers (codes "limits")) text limits r1
+    → HasLine (header_numbers (codes "groups")) r1 groups r2
+    → LacksLine 7 (header_number (codes "tries")) r2 told
+    → groups_in counts (lines_of text) ≡ Err told
+unfolding groups_in
+groups_in-lacks3 counts text r1 r2 limits groups told one two bad =
+    rw (one.lines, one.is, two.lines, two.is, bad.is, bad.bad) refl
+
+pub groups_in-lacks4 : (counts : Counts) (text r1 r2 r3 : List ℕ) (tries : ℕ) (limits groups : List ℕ) (told : ScheduleFault)
+    → HasLine (header_numbers (codes "limits")) text limits r1
+    → HasLine (header_numbers (codes "groups")) r1 groups r2
+    → HasLine (header_number (codes "tries")) r2 tries r3
+    → LacksLine 8 (header_number (codes "stamp")) r3 told
+    → groups_in counts (lines_of text) ≡ Err told
+unfolding groups_in
+groups_in-lacks4 counts text r1 r2 r3 tries limits groups told one two three bad =
+    rw (one.lines, one.is, two.lines, two.is, three.lines, three.is, bad.is, bad.bad) refl
+
+pub groups_in-has : (counts : Counts) (text r1 r2 r3 r4 : List ℕ) (tries stamp : ℕ) (limits groups : List ℕ)
+    → HasLine (header_numbers (codes "limits")) text limits r1
+    → HasLine (header_numbers (codes "groups")) r1 groups r2
+    → HasLine (header_number (codes "tries")) r2 tries r3
+    → HasLine (header_number (codes "stamp")) r3 stamp r4
+    → groups_in counts (lines_of text) ≡ Ok (with_groups counts limits groups (in_field tries) stamp)
+unfolding groups_in
+groups_in-has counts text r1 r2 r3 r4 tries stamp limits groups one two three four =
+    rw (one.lines, one.is, two.lines, two.is, three.lines, three.is, four.lines, four.is) refl
+
+pub groups_in-rest : (text r1 r2 r3 r4 : List ℕ) (tries stamp : ℕ) (limits groups : List ℕ)
+    → HasLine (header_numbers (codes "limits")) text limits r1
+    → HasLine (header_numbers (codes "groups")) r1 groups r2
+    → HasLine (header_number (codes "tries")) r2 tries r3
+    → HasLine (header_number (codes "stamp")) r3 stamp r4
+    → lines_of r4 ≡ drop 4 (lines_of text)
+groups_in-rest text r1 r2 r3 r4 tries stamp limits groups one two three four =
+    rw (one.lines, two.lines, three.lines, four.lines) refl
+
+-- The whole header.
+
+pub header-lacks_title : (text : List ℕ) (told : ScheduleFault) → LacksLine 1 version_in text told → header (lines_of text) ≡ Err told
 unfolding header
-lacks_first text told bad = rw (bad.form, bad.bad) refl
+header-lacks_title text told bad = rw (bad.is, bad.bad) refl
 
-pub lacks_second : (text r1 : List ℕ) (told : ScheduleFault)
-    → HasTitle text r1
-    → LacksHeaderLine 2 (codes "servers") r1 told
-    → header (lines_of text) ≡ Err told
+pub header-lacks_counts : (text r1 : List ℕ) (version : Version) (told : ScheduleFault) → HasLine version_in text version r1
+    → counts_in (lines_of r1) ≡ Err told → header (lines_of text) ≡ Err told
 unfolding header
-lacks_second text r1 told one bad =
-    rw (one.lines, one.form, bad.form, bad.bad) refl
+header-lacks_counts text r1 version told one bad = rw (one.lines, one.is, bad) refl
 
-pub lacks_third : (text r1 r2 : List ℕ) (servers : ℕ) (told : ScheduleFault)
-    → HasTitle text r1
-    → HasHeaderLine (codes "servers") r1 servers r2
-    → LacksHeaderLine 3 (codes "threads") r2 told
-    → header (lines_of text) ≡ Err told
+pub header-lacks_settings : (text r1 r2 : List ℕ) (version : Version) (counts : Counts) (told : ScheduleFault)
+    → HasLine version_in text version r1 → counts_in (lines_of r1) ≡ Ok counts → lines_of r2 ≡ drop 3 (lines_of r1)
+    → settings_in version counts (lines_of r2) ≡ Err told → header (lines_of text) ≡ Err told
 unfolding header
-lacks_third text r1 r2 servers told one two bad =
-    rw (one.lines, one.form, two.lines, two.form, bad.form, bad.bad) refl
+header-lacks_settings text r1 r2 version counts told one two rest bad =
+    rw (one.lines, one.is, two, sym rest, bad) refl
 
-pub lacks_fourth : (text r1 r2 r3 : List ℕ) (servers threads : ℕ) (told : ScheduleFault)
-    → HasTitle text r1
-    → HasHeaderLine (codes "servers") r1 servers r2
-    → HasHeaderLine (codes "threads") r2 threads r3
-    → LacksHeaderLine 4 (codes "failures") r3 told
-    → header (lines_of text) ≡ Err told
+pub header-has : (text r1 r2 : List ℕ) (version : Version) (counts : Counts) (settings : Settings)
+    → HasLine version_in text version r1 → counts_in (lines_of r1) ≡ Ok counts → lines_of r2 ≡ drop 3 (lines_of r1)
+    → settings_in version counts (lines_of r2) ≡ Ok settings
+    → header (lines_of text) ≡ Ok (record { version = version; settings = settings })
 unfolding header
-lacks_fourth text r1 r2 r3 servers threads told one two three bad =
-    rw (one.lines, one.form, two.lines, two.form, three.lines, three.form, bad.form, bad.bad) refl
+header-has text r1 r2 version counts settings one two rest good =
+    rw (one.lines, one.is, two, sym rest, good) refl
 
-pub lacks_fifth : (text r1 r2 r3 r4 : List ℕ) (servers threads failures : ℕ) (told : ScheduleFault)
-    → HasTitle text r1
-    → HasHeaderLine (codes "servers") r1 servers r2
-    → HasHeaderLine (codes "threads") r2 threads r3
-    → HasHeaderLine (codes "failures") r3 failures r4
-    → LacksHeaderLine 5 (codes "limit") r4 told
-    → header (lines_of text) ≡ Err told
-unfolding header
-lacks_fifth text r1 r2 r3 r4 servers threads failures told one two three four bad =
-    rw (one.lines, one.form, two.lines, two.form, three.lines, three.form, four.lines, four.form, bad.form, bad.bad) refl
-
-pub lacks_sixth : (text r1 r2 r3 r4 r5 : List ℕ) (servers threads failures limit : ℕ) (told : ScheduleFault)
-    → HasTitle text r1
-    → HasHeaderLine (codes "servers") r1 servers r2
-    → HasHeaderLine (codes "threads") r2 threads r3
-    → HasHeaderLine (codes "failures") r3 failures r4
-    → HasHeaderLine (codes "limit") r4 limit r5
-    → LacksHeaderLine 6 (codes "tries") r5 told
-    → header (lines_of text) ≡ Err told
-unfolding header
-lacks_sixth text r1 r2 r3 r4 r5 servers threads failures limit told one two three four five bad =
-    rw (one.lines, one.form, two.lines, two.form, three.lines, three.form, four.lines, four.form, five.lines, five.form, bad.form, bad.bad) refl
-
-pub lacks_seventh : (text r1 r2 r3 r4 r5 r6 : List ℕ) (servers threads failures limit tries : ℕ) (told : ScheduleFault)
-    → HasTitle text r1
-    → HasHeaderLine (codes "servers") r1 servers r2
-    → HasHeaderLine (codes "threads") r2 threads r3
-    → HasHeaderLine (codes "failures") r3 failures r4
-    → HasHeaderLine (codes "limit") r4 limit r5
-    → HasHeaderLine (codes "tries") r5 tries r6
-    → LacksHeaderLine 7 (codes "stamp") r6 told
-    → header (lines_of text) ≡ Err told
-unfolding header
-lacks_seventh text r1 r2 r3 r4 r5 r6 servers threads failures limit tries told one two three four five six bad =
-    rw (one.lines, one.form, two.lines, two.form, three.lines, three.form, four.lines, four.form, five.lines, five.form, six.lines, six.form, bad.form, bad.bad) refl
-
--- the text begins with a whole header, and the last text stands behind it
-pub record HasHeader (text rest : List ℕ) (settings : Settings) : Type 0 where
-  pub settings_are : header (lines_of text) ≡ Ok settings
-  pub rest_is : lines_of rest ≡ drop 7 (lines_of text)
-
-pub has_header : (text r1 r2 r3 r4 r5 r6 r7 : List ℕ) (servers threads failures limit tries stamp : ℕ)
-    → HasTitle text r1
-    → HasHeaderLine (codes "servers") r1 servers r2
-    → HasHeaderLine (codes "threads") r2 threads r3
-    → HasHeaderLine (codes "failures") r3 failures r4
-    → HasHeaderLine (codes "limit") r4 limit r5
-    → HasHeaderLine (codes "tries") r5 tries r6
-    → HasHeaderLine (codes "stamp") r6 stamp r7
-    → HasHeader text r7 (record { servers = servers; threads = threads; failures = failures; limit = limit; tries = tries; opening_stamp = stamp })
-unfolding header
-has_header text r1 r2 r3 r4 r5 r6 r7 servers threads failures limit tries stamp one two three four five six seven = record {
-  settings_are = rw (one.lines, one.form, two.lines, two.form, three.lines, three.form, four.lines, four.form, five.lines, five.form, six.lines, six.form, seven.lines, seven.form) refl;
-  rest_is = rw (one.lines, two.lines, three.lines, four.lines, five.lines, six.lines, seven.lines) refl;
-}
+-- the lines after the whole header
+pub header-rest : (version : Version) (text r1 r2 r3 : List ℕ) → HasLine version_in text version r1
+    → lines_of r2 ≡ drop 3 (lines_of r1) → lines_of r3 ≡ drop (header_lines version - 4) (lines_of r2)
+    → lines_of r3 ≡ drop (header_lines version) (lines_of text)
+header-rest One text r1 r2 r3 one two three = three ∙ ap (drop 3) two ∙ drop-drop 3 3 (lines_of r1) ∙ rw one.lines refl
+header-rest Two text r1 r2 r3 one two three = three ∙ ap (drop 4) two ∙ drop-drop 4 3 (lines_of r1) ∙ rw one.lines refl
+header-rest Three text r1 r2 r3 one two three = three ∙ ap (drop 4) two ∙ drop-drop 4 3 (lines_of r1) ∙ rw one.lines refl

@@ -4,7 +4,7 @@ use Rattle.std.proofs.lemmas.List.{reverse-append, take_more}
 use Rattle.std.proofs.lemmas.List.Elements.{All-weaker}
 use Rattle.tko_model.specs.declared.mark.Reply.{Reply}
 use Rattle.tko_model.specs.declared.mark.Reply.TheVariants.{Contended}
-use Rattle.tko_model.specs.declared.settings.Settings.{Settings}
+use Rattle.tko_model.specs.Settings.{Settings}
 use Rattle.tko_runs.specs.declared.checking.point.PointSoFar.{PointSoFar}
 use Rattle.tko_runs.specs.declared.checking.point.PointSoFar.TheVariants.{Quiet, Changed}
 use Rattle.tko_runs.specs.declared.checking.effect.Effect.{Effect}

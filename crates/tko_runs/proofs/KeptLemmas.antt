@@ -4,7 +4,7 @@ use Rattle.std.proofs.lemmas.List.{reverse-append, length-reverse}
 use Rattle.std.proofs.lemmas.List.Elements.{All-append, All-cons, All-nil, All-set}
 use Rattle.tko_model.specs.declared.mark.Op.{Op}
 use Rattle.tko_model.specs.declared.mark.Reply.{Reply}
-use Rattle.tko_model.specs.declared.settings.Settings.{Settings}
+use Rattle.tko_model.specs.Settings.{Settings}
 use Rattle.tko_model.specs.declared.state.ServerState.{ServerState}
 use Rattle.tko_model.specs.declared.transition.Transition.{Transition}
 use Rattle.tko_model.specs.Tracker.{changed, transition_on}
@@ -95,29 +95,30 @@ IsKept-begun s thread number op server call numbered asks on_server open_yet no_
       steps = rw no_step tt;
     }
 
-is_idle_latest : (entry : ThreadEntry) (place : ℕ) → IsIdle entry → IsLatest (in_call entry) (Some place) place
-is_idle_latest NotEnrolled place idle = absurd idle
-is_idle_latest (Idle number) place idle = refl
-is_idle_latest (InCall number) place idle = absurd idle
+is_idle_latest : (entry : ThreadEntry) (server place : ℕ) → IsIdle entry
+    → IsLatest (in_call entry server) (Some place) place
+is_idle_latest NotEnrolled server place idle = absurd idle
+is_idle_latest (Idle number) server place idle = refl
+is_idle_latest (InCall number on) server place idle = absurd idle
 
 has_call_latest : (state : ThreadEntry) (found : Option ℕ) (place : ℕ) → HasCall state → IsLatest state found place
     → found ≡ Some place
 has_call_latest NotEnrolled found place has is = absurd has
 has_call_latest (Idle number) found place has is = absurd has
-has_call_latest (InCall number) found place has is = is
+has_call_latest (InCall number server) found place has is = is
 
 pub AreCalls-begun : (s : Settings) (state : RunState) (past : List Moment) (old new : Calls) (thread number : ℕ) (op : Op) (server : ℕ)
     → AreCalls s state past old → HasBegun old thread number op server new → thread < length state.threads
     → server < length state.words.servers → IsIdle (entry_at state thread)
-    → AreCalls s (with_begin state thread) (Began thread number op server ∷ past) new
+    → AreCalls s (with_begin state thread server) (Began thread number op server ∷ past) new
 AreCalls-begun s state past old new thread number op server are begun inside is_server idle =
     let P : CheckedCall → Type 0 = λ call. call.server < length state.words.servers in
     let calls = calls_of past in
     let long : length calls ≡ length old.all.items =
     length-AreKept s calls (reverse old.all.items) are.kept ∙ length-reverse old.all.items in
-    let entry = in_call (entry_at state thread) in
+    let entry = in_call (entry_at state thread) server in
     let latest = AllLatest-begun state.threads thread number op server entry calls old.latest.items
-    inside (omega (arith, are.threads)) (is_idle_latest (entry_at state thread) (length calls) idle) are.latest in
+    inside (omega (arith, are.threads)) (is_idle_latest (entry_at state thread) server (length calls) idle) are.latest in
     record {
       kept = rw (begun.calls, reverse-append old.all.items (begun.call ∷ []))
           (IsKept-begun s thread number op server begun.call begun.numbered begun.asks begun.on_server begun.open_yet begun.no_step, are.kept);

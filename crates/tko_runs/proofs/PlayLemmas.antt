@@ -3,9 +3,10 @@ use Rattle.std.proofs.Common.{◌≡◌, ℕ, ◌+◌, ◌<◌, List, [], ◌∷
 use Rattle.std.proofs.Math.Seq.{take-suc}
 use Rattle.std.proofs.lemmas.List.{get_or-reverse, length-reverse}
 use Rattle.tko_model.specs.declared.mark.Op.{Op}
-use Rattle.tko_model.specs.declared.settings.Settings.{Settings}
+use Rattle.tko_model.specs.Settings.{Settings}
 use Rattle.tko_runs.specs.declared.schedule.command.Command.{Command}
 use Rattle.tko_runs.specs.declared.run.event.Event.{Event}
+use Rattle.tko_runs.specs.declared.version.Version.{Version}
 use Rattle.tko_model.specs.Ranges.{IsWithinRanges}
 use Rattle.tko_runs.specs.States.{AllCome, Claimed, IsRunData, calls_in, claimed, opened_state}
 use Rattle.tko_runs.specs.Orders.{AllFollow, IsLegalRun}
@@ -86,8 +87,9 @@ IsRun-played s commands =
 
 -- What is played is a legal run.
 
-pub IsRunData-run : (s : Settings) (p : Played) → IsWithinRanges s → IsRun s p → IsRunData (run_data_of s p)
-IsRunData-run s p ranges is =
+pub IsRunData-run : (version : Version) (s : Settings) (p : Played) → IsWithinRanges s → IsRun s p
+    → IsRunData (run_data_of version s p)
+IsRunData-run version s p ranges is =
     let P : List Event → Type 0 = λ events. AllCome (opened_state s) events in
     record { settings = ranges; events = subst P (sym is.events) (Linked-run s ranges is.turns).come }
 
@@ -101,9 +103,10 @@ calls_in-run : (s : Settings) → IsWithinRanges s → (turns : List Turn)
 unfolding calls_in claimed
 calls_in-run s ranges turns = ap (λ (it : Claimed). reverse (calls_of it.past)) (Linked-run s ranges turns).same
 
-pub IsLegalRun-run : (s : Settings) (p : Played) → IsWithinRanges s
-    → ((turns : List Turn) → All (IsLegal s) (calls_of (run s turns).past)) → IsRun s p → IsLegalRun (run_data_of s p)
-IsLegalRun-run s p ranges legal is =
+pub IsLegalRun-run : (version : Version) (s : Settings) (p : Played) → IsWithinRanges s
+    → ((turns : List Turn) → All (IsLegal s) (calls_of (run s turns).past)) → IsRun s p
+    → IsLegalRun (run_data_of version s p)
+IsLegalRun-run version s p ranges legal is =
     let P : List Event → Type 0 = λ events. AllFollow s (opened_state s) events in
     let Q : List Call → Type 0 = λ calls. All (IsLegal s) calls in
     let same : calls_in s p.events ≡ reverse (calls_of (run s is.turns).past) =
@@ -139,16 +142,18 @@ followed-all plan items p k same high is =
     is ∙ ap (after_commands (enrolled plan.settings)) (take_all k plan.commands (omega (arith, high, ap length same)))
 
 -- the run that the plan names
-pub run_data_of-played : (plan : Plan) (settings : Settings) (p : Played) → settings ≡ plan.settings → p ≡ played plan
-    → run_data_of settings p ≡ named_by plan
+pub run_data_of-played : (plan : Plan) (version : Version) (settings : Settings) (p : Played) → version ≡ plan.version
+    → settings ≡ plan.settings → p ≡ played plan → run_data_of version settings p ≡ named_by plan
 unfolding named_by
-run_data_of-played plan settings p same is =
-    ap (λ s. run_data_of s p) same ∙ ap (run_data_of plan.settings) is
+run_data_of-played plan version settings p form same is =
+    ap (λ v. run_data_of v settings p) form
+    ∙ ap (λ s. run_data_of plan.version s p) same
+    ∙ ap (run_data_of plan.version plan.settings) is
 
 pub IsRunData-named_by : (plan : Plan) → IsWithinRanges plan.settings → IsRunData (named_by plan)
 unfolding named_by
 IsRunData-named_by plan ranges =
-    IsRunData-run plan.settings (played plan) ranges (IsRun-played plan.settings plan.commands)
+    IsRunData-run plan.version plan.settings (played plan) ranges (IsRun-played plan.settings plan.commands)
 
 pub turns-named_by : (plan : Plan)
     → (turns : List Turn) × ((named_by plan).events ≡ events_of (run (named_by plan).settings turns).past)
@@ -159,4 +164,4 @@ pub IsLegalRun-named_by : (plan : Plan) → IsWithinRanges plan.settings
     → ((turns : List Turn) → All (IsLegal plan.settings) (calls_of (run plan.settings turns).past)) → IsLegalRun (named_by plan)
 unfolding named_by
 IsLegalRun-named_by plan ranges legal =
-    IsLegalRun-run plan.settings (played plan) ranges legal (IsRun-played plan.settings plan.commands)
+    IsLegalRun-run plan.version plan.settings (played plan) ranges legal (IsRun-played plan.settings plan.commands)

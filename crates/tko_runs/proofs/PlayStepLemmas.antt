@@ -3,12 +3,16 @@ use Rattle.std.proofs.Common.{◌≡◌, ℕ, zero, suc, ◌+◌, ◌<◌, Bool,
 use Rattle.std.proofs.lemmas.Bool.{le-leb}
 use Rattle.std.proofs.lemmas.List.{append-nil}
 use Rattle.tko_model.specs.declared.mark.Op.{Op}
-use Rattle.tko_model.specs.declared.settings.Settings.{Settings}
+use Rattle.tko_model.specs.Settings.{Settings}
 use Rattle.tko_runs.specs.declared.run.event.Event.{Event}
 use Rattle.tko_runs.specs.declared.run.event.Event.TheVariants as event
 use Rattle.tko_runs.specs.declared.run.event.SkippedTurn.{SkippedTurn}
 use Rattle.tko_runs.specs.declared.run.event.SkippedTurn.TheVariants as skipped
-use Rattle.tko_model.specs.Ranges.{IsWithinRanges, first_fault, is_within, worn}
+use Rattle.tko_model.specs.declared.layout.Layout.{Layout}
+use Rattle.tko_model.specs.declared.layout.Layout.TheVariants as layout
+use Rattle.tko_model.specs.Limits.{max_failures, max_limit, max_servers, max_threads, max_tries, worn}
+use Rattle.tko_model.specs.Ranges.{IsWithin, IsWithinRanges, first_fault_in, is_within}
+use Rattle.tko_model.proofs.RangeLemmas.{are_within-all, has_groups-all}
 use Rattle.tko_runs.specs.Plays.{Played, after_all, after_command, after_commands, after_turn, enrolled, enrolments, named_by, opened_play, played, turns_of, with_begin, with_event, with_skip, with_skips}
 use Rattle.tko_runs.specs.Plays as plays
 use Rattle.tko_runs.specs.Runs.{Skip, one_by_one}
@@ -156,16 +160,34 @@ is_within-true : (low high n : ℕ) → low ≤ n → n ≤ high → is_within l
 is_within-true low high n above below = rw (le-leb low n above, le-leb n high below) refl
 
 -- settings in their ranges have no fault
-pub first_fault-within : (s : Settings) → IsWithinRanges s → first_fault s ≡ None
-first_fault-within s is =
+pub first_fault-within : (layout : Layout) (s : Settings) → IsWithin layout s → first_fault_in layout s ≡ None
+unfolding first_fault_in
+first_fault-within layout s is =
     rw (
-      is_within-true 1 256 s.servers is.servers.0 is.servers.1,
-      is_within-true 1 64 s.threads is.threads.0 is.threads.1,
-      is_within-true 1 1000 s.failures is.failures.0 is.failures.1,
-      is_within-true 0 256 s.limit (omega arith) is.limit,
-      is_within-true 1 1000 s.tries is.tries.0 is.tries.1,
+      is_within-true 1 max_servers s.servers is.servers.0 is.servers.1,
+      is_within-true 1 (max_threads layout) s.threads is.threads.0 is.threads.1,
+      is_within-true 1 (max_failures layout) s.failures is.failures.0 is.failures.1,
+      are_within-all max_limit s.limits is.limits,
+      is_within-true 1 max_tries s.tries is.tries.0 is.tries.1,
       is_within-true 0 worn s.opening_stamp (omega arith) is.stamp,
+      has_groups-all layout s is,
     ) refl
+
+-- the ranges of the first layout lie in those of the second
+pub within_two : (layout : Layout) (s : Settings) → IsWithin layout s → IsWithinRanges s
+within_two layout.One s is =
+    record {
+      servers = is.servers;
+      threads = (is.threads.0, omega (arith, is.threads.1));
+      failures = (is.failures.0, omega (arith, is.failures.1));
+      limits = is.limits;
+      tries = is.tries;
+      stamp = is.stamp;
+      groups = is.groups;
+      grouped = is.grouped;
+      in_groups = is.in_groups;
+    }
+within_two layout.Two s is = is
 
 after_all-push : (p : Played) (turns : List Turn) (turn : Turn)
     → after_all p (turns ++ turn ∷ []) ≡ after_turn (after_all p turns) turn

@@ -1,7 +1,7 @@
 -- How the steps of a call stand to its answer, step by step.
 use Rattle.std.proofs.Common.{◌≡◌, ℕ, List, [], ◌∷◌, ◌++◌, All, Option, Some, None, refl, ap}
 use Rattle.std.proofs.lemmas.List.Elements.{All-nil, All-cons, All-head, All-tail}
-use Rattle.tko_model.specs.declared.settings.Settings.{Settings}
+use Rattle.tko_model.specs.Settings.{Settings}
 use Rattle.tko_runs.specs.declared.checking.point.PointSoFar.TheVariants.{Quiet, Changed}
 use Rattle.tko_runs.specs.Points.{IsChangedNowhere, IsEffective, IsSoFar}
 use Rattle.tko_steps.specs.Legal.{IsQuiet}

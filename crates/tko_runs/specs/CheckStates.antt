@@ -3,7 +3,7 @@ use Rattle.std.specs.Prelude.{◌≡◌, ◌↔◌, ℕ, ◌+◌, ◌<◌, ◌==
 use Rattle.tko_model.specs.declared.mark.Mark.{Mark}
 use Rattle.tko_model.specs.declared.mark.Op.{Op}
 use Rattle.tko_model.specs.declared.mark.Reply.{Reply}
-use Rattle.tko_model.specs.declared.settings.Settings.{Settings}
+use Rattle.tko_model.specs.Settings.{Settings}
 use Rattle.tko_model.specs.declared.state.ServerState.{ServerState}
 use Rattle.tko_model.specs.declared.transition.Transition.{Transition}
 use Rattle.tko_model.specs.Ranges.{IsWithinRanges}
@@ -90,7 +90,7 @@ latest_place thread (call ∷ calls) =
 abbrev pub IsLatest : ThreadEntry → Option ℕ → ℕ → Type 0
 IsLatest NotEnrolled found place = found ≡ None
 IsLatest (Idle number) found place = Unit {0}
-IsLatest (InCall number) found place = found ≡ Some place
+IsLatest (InCall number server) found place = found ≡ Some place
 
 -- these are the calls of this past, after which the threads are these
 pub record AreCalls (s : Settings) (state : RunState) (past : List Moment) (own : Calls) : Type 0
@@ -168,7 +168,7 @@ pub record HasFollowed
     (found left : Word)
     (answer : Option Reply)
     (new : CheckState) : Type 0 where
-  pub follows : FollowsAt old.settings old.run kind at found left
+  pub follows : FollowsAt old.settings old.run thread kind at found left
   pub effect : Effect
   pub numbered : effect.at ≡ old.steps + 1
   pub grows : HasStepped old.calls thread effect answer new.calls
@@ -183,11 +183,11 @@ pub record HasFollowed
   pub steps : new.steps ≡ old.steps + 1
 
 -- why it refused the step
-abbrev pub IsStrayFault : CheckState → Kind → Place → Word → Word → RunFault → Type 0
-IsStrayFault old kind at found left (fault.Step number) =
-    (number ≡ old.steps + 1) × (FollowsAt old.settings old.run kind at found left → ⊥)
-IsStrayFault old kind at found left (fault.Call number) = ⊥
-IsStrayFault old kind at found left fault.Memory = Unit {0}
+abbrev pub IsStrayFault : CheckState → ℕ → Kind → Place → Word → Word → RunFault → Type 0
+IsStrayFault old thread kind at found left (fault.Step number) =
+    (number ≡ old.steps + 1) × (FollowsAt old.settings old.run thread kind at found left → ⊥)
+IsStrayFault old thread kind at found left (fault.Call number) = ⊥
+IsStrayFault old thread kind at found left fault.Memory = Unit {0}
 
 -- the state took the event, which follows
 pub record HasEntered (old : CheckState) (event : Event) (new : CheckState) : Type 0 where

@@ -1,7 +1,7 @@
 -- What the check of a run keeps of the steps of a call.
 use Rattle.std.specs.Prelude.{◌≡◌, ◌↔◌, List, [], ◌∷◌, reverse, true, Option, Some, None}
 use Rattle.tko_model.specs.declared.mark.Reply.{Reply}
-use Rattle.tko_model.specs.declared.settings.Settings.{Settings}
+use Rattle.tko_model.specs.Settings.{Settings}
 use Rattle.tko_runs.specs.declared.checking.point.CheckedCall.{CheckedCall}
 use Rattle.tko_runs.specs.declared.checking.effect.Effect.{Effect}
 use Rattle.tko_runs.specs.declared.checking.order.Point.{Point}

@@ -1,28 +1,21 @@
 -- One line of a header at the front of a text.
-use Rattle.std.specs.Prelude.{◌≡◌, ℕ, List, ◌∷◌, Some, None}
+use Rattle.std.specs.Prelude.{◌≡◌, ℕ, List, ◌∷◌, Option, Some, None}
 use Rattle.tko_runs.specs.declared.schedule.fault.ScheduleFault.{ScheduleFault}
 use Rattle.tko_runs.specs.declared.schedule.fault.ScheduleFault.TheVariants as fault
 use Rattle.tko_bytes.specs.Lines.{lines_of}
-use Rattle.tko_runs.specs.Schedules.{header_number, line_at, title_of}
+use Rattle.tko_runs.specs.Schedules.{line_at}
 
--- the text begins with the title, and this is the rest
-pub record HasTitle (text rest : List ℕ) : Type 0 where
-  pub line : List ℕ
-  pub lines : lines_of text ≡ line ∷ lines_of rest
-  pub form : title_of line ≡ Some tt
+-- the text begins with a line of this form and value, and this is the rest
+pub record HasLine
+    {A : Type 0} (form : List ℕ → Option A) (text : List ℕ) (value : A) (rest : List ℕ) : Type 0
+  where
+    pub line : List ℕ
+    pub lines : lines_of text ≡ line ∷ lines_of rest
+    pub is : form line ≡ Some value
 
--- it doesn't, and that is the fault
-pub record LacksTitle (text : List ℕ) (told : ScheduleFault) : Type 0 where
-  pub bad : told ≡ fault.Line 1
-  pub form : title_of (line_at (lines_of text) 0) ≡ None
-
--- the text begins with a header line of this name and number, and this is the rest
-pub record HasHeaderLine (name text : List ℕ) (number : ℕ) (rest : List ℕ) : Type 0 where
-  pub line : List ℕ
-  pub lines : lines_of text ≡ line ∷ lines_of rest
-  pub form : header_number name line ≡ Some number
-
--- it doesn't, and the line of this number is the fault
-pub record LacksHeaderLine (line : ℕ) (name text : List ℕ) (told : ScheduleFault) : Type 0 where
-  pub bad : told ≡ fault.Line line
-  pub form : header_number name (line_at (lines_of text) 0) ≡ None
+-- it does not, and the line of this number is the fault
+pub record LacksLine
+    {A : Type 0} (number : ℕ) (form : List ℕ → Option A) (text : List ℕ) (told : ScheduleFault)
+    : Type 0 where
+  pub bad : told ≡ fault.Line number
+  pub is : form (line_at (lines_of text) 0) ≡ None

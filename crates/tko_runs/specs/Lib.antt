@@ -10,4 +10,5 @@ pub mod Repeats
 pub mod Runs
 pub mod Schedules
 pub mod States
+pub mod Versions
 pub mod Words

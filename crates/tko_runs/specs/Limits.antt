@@ -5,10 +5,6 @@ use Rattle.std.specs.Prelude.{ℕ}
 abbrev pub max_bytes : ℕ
 max_bytes = 1048576
 
--- the number of header lines
-abbrev pub header_lines : ℕ
-header_lines = 7
-
 -- the most lines after the header
 abbrev pub max_commands : ℕ
 max_commands = 1000

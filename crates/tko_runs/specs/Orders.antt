@@ -2,15 +2,15 @@
 use Rattle.std.specs.Prelude.{◌≡◌, ◌≢◌, ℕ, zero, suc, slice_get, ◌+◌, List, [], ◌∷◌, ◌++◌, length, All, Option, Some, None}
 use Rattle.tko_model.specs.declared.mark.Reply.{Reply}
 use Rattle.tko_model.specs.declared.mark.Reply.TheVariants.{Contended}
-use Rattle.tko_model.specs.declared.settings.Settings.{Settings}
+use Rattle.tko_model.specs.Settings.{Settings}
 use Rattle.tko_runs.specs.declared.run.event.Event.{Event}
 use Rattle.tko_runs.specs.declared.run.event.Event.TheVariants.{Begin, Step}
 use Rattle.tko_runs.specs.declared.checking.order.Point.{Point}
 use Rattle.tko_runs.specs.declared.checking.order.Point.TheVariants as point
 use Rattle.tko_runs.specs.declared.checking.RunFault.{RunFault}
 use Rattle.tko_runs.specs.declared.checking.RunFault.TheVariants as fault
-use Rattle.tko_runs.specs.States.{RunState, calls_in, claimed, opened_state, state_after}
-use Rattle.tko_runs.specs.Words.{CanLeave, room_at}
+use Rattle.tko_runs.specs.States.{RunState, calls_in, claimed, entry_at, opened_state, server_of, state_after}
+use Rattle.tko_runs.specs.Words.{CanLeave, IsOwnGroup, room_at}
 use Rattle.tko_runs.specs.Runs.{RunData}
 use Rattle.tko_steps.specs.declared.step.Kind.{Kind}
 use Rattle.tko_steps.specs.declared.step.Place.{Place}
@@ -21,15 +21,23 @@ use Rattle.tko_steps.specs.Runs.{Call, OwnStep, steps_in}
 
 -- Steps, by the words that they find and leave.
 
--- a step finds the word at its place, and leaves what its kind can leave
+-- a step of a thread is on a word that its call may step on, finds that word, and leaves what its
+-- kind can leave
 pub record FollowsAt
-    (s : Settings) (state : RunState) (kind : Kind) (at : Place) (found left : Word) : Type 0 where
+    (s : Settings)
+    (state : RunState)
+    (thread : ℕ)
+    (kind : Kind)
+    (at : Place)
+    (found left : Word) : Type 0 where
+  pub own : IsOwnGroup s (server_of (entry_at state thread)) at
   pub finds : found ≡ word_at state.words at
   pub can : CanLeave s (room_at s state.words.slots at) kind found left
 
 abbrev pub Follows : Settings → RunState → Event → Type 0
 Follows s state (Begin thread op server) = Unit {0}
-Follows s state (Step thread kind at found left answer) = FollowsAt s state kind at found left
+Follows s state (Step thread kind at found left answer) =
+    FollowsAt s state thread kind at found left
 
 -- so does each
 abbrev pub AllFollow : Settings → RunState → List Event → Type 0

@@ -1,13 +1,14 @@
 -- Playing a schedule: all threads enrol, in the order of their places, and then do each command.
 use Rattle.std.specs.Prelude.{◌≡◌, ℕ, zero, suc, false, if◌then◌else◌, List, [], ◌∷◌, ◌++◌, length, replicate, Option, Some, None}
 use Rattle.tko_model.specs.declared.mark.Op.{Op}
-use Rattle.tko_model.specs.declared.settings.Settings.{Settings}
+use Rattle.tko_model.specs.Settings.{Settings}
 use Rattle.tko_runs.specs.declared.schedule.command.Command.{Command}
 use Rattle.tko_runs.specs.declared.schedule.command.Command.TheVariants as command
 use Rattle.tko_runs.specs.declared.run.event.Event.{Event}
 use Rattle.tko_runs.specs.declared.run.event.Event.TheVariants as event
 use Rattle.tko_runs.specs.declared.run.event.SkippedTurn.{SkippedTurn}
 use Rattle.tko_runs.specs.declared.run.event.SkippedTurn.TheVariants as skipped
+use Rattle.tko_runs.specs.declared.version.Version.{Version}
 use Rattle.tko_runs.specs.Limits.{max_steps}
 use Rattle.tko_runs.specs.Schedules.{Plan}
 use Rattle.tko_runs.specs.Runs.{Skip, RunData}
@@ -107,9 +108,10 @@ RunsToAnswers plan =
     has_call (thread_at run.core thread) ≡ false
 
 -- the run of what was played
-abbrev pub run_data_of : Settings → Played → RunData
-run_data_of s p = record { settings = s; events = p.events; skips = p.skips }
+abbrev pub run_data_of : Version → Settings → Played → RunData
+run_data_of version s p =
+    record { version = version; settings = s; events = p.events; skips = p.skips }
 
 -- the run that a schedule names
 unfoldable pub named_by : Plan → RunData
-named_by plan = run_data_of plan.settings (played plan)
+named_by plan = run_data_of plan.version plan.settings (played plan)

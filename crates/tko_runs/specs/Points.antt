@@ -1,7 +1,7 @@
 -- Where a call can take effect, among its steps so far.
 use Rattle.std.specs.Prelude.{◌≡◌, ℕ, List, ◌∷◌, ◌++◌, All, Option, Some, None}
 use Rattle.tko_model.specs.declared.mark.Reply.{Reply}
-use Rattle.tko_model.specs.declared.settings.Settings.{Settings}
+use Rattle.tko_model.specs.Settings.{Settings}
 use Rattle.tko_runs.specs.declared.checking.point.PointSoFar.{PointSoFar}
 use Rattle.tko_runs.specs.declared.checking.point.PointSoFar.TheVariants.{Quiet, Changed}
 use Rattle.tko_runs.specs.declared.checking.order.Point.{Point}

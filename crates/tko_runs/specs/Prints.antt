@@ -1,5 +1,5 @@
--- The text of a run: a line for each event and skipped turn, then one for each call and each
--- server, the soft word, and `ok`.
+-- The text of a run, in the form of a version: a line for each event and skipped turn, then one for
+-- each call, each server and each soft word, and `ok`.
 use Rattle.std.specs.Prelude.{ℕ, ◌+◌, ◌-◌, List, [], ◌∷◌, ◌++◌, take, drop, codes, decimal, if◌then◌else◌, Option, Some, None}
 use Rattle.tko_model.specs.declared.mark.Op.{Op}
 use Rattle.tko_model.specs.declared.mark.Reply.{Reply}
@@ -10,6 +10,8 @@ use Rattle.tko_runs.specs.declared.run.event.SkippedTurn.{SkippedTurn}
 use Rattle.tko_runs.specs.declared.run.event.SkippedTurn.TheVariants as skipped
 use Rattle.tko_runs.specs.declared.checking.order.Point.{Point}
 use Rattle.tko_runs.specs.declared.checking.order.Point.TheVariants as point
+use Rattle.tko_runs.specs.declared.version.Version.{Version}
+use Rattle.tko_runs.specs.declared.version.Version.TheVariants as version
 use Rattle.tko_runs.specs.States.{opened_state, same_word, state_after_all}
 use Rattle.tko_runs.specs.Runs.{Skip, RunData}
 use Rattle.tko_model.specs.Texts.{mark_text, op_text, reply_text}
@@ -22,7 +24,7 @@ use Rattle.tko_steps.specs.declared.step.Place.TheVariants as place
 use Rattle.tko_steps.specs.declared.phase.Slots.{Slots}
 use Rattle.tko_steps.specs.declared.step.Word.{Word}
 use Rattle.tko_steps.specs.declared.step.Word.TheVariants as word
-use Rattle.tko_steps.specs.Core.{is_call_step, slots_at}
+use Rattle.tko_steps.specs.Core.{is_call_step}
 use Rattle.tko_steps.specs.Runs.{count_of}
 
 abbrev pub line : List ℕ → List ℕ
@@ -33,10 +35,16 @@ begin_text thread op server =
     codes "begin "
     ++ (decimal thread ++ (codes " " ++ (op_text op ++ (codes " " ++ decimal server))))
 
-abbrev pub place_text : Place → List ℕ
-place_text (place.Server server) = codes "server:" ++ decimal server
-place_text (place.Soft group) = codes "soft"
-place_text place.Enrolment = codes "enrolment"
+-- the soft word of a group, which the first version does not name
+abbrev pub group_text : Version → ℕ → List ℕ
+group_text version.One group = codes "soft"
+group_text version.Two group = codes "soft:" ++ decimal group
+group_text version.Three group = codes "soft:" ++ decimal group
+
+abbrev pub place_text : Version → Place → List ℕ
+place_text form (place.Server server) = codes "server:" ++ decimal server
+place_text form (place.Soft group) = group_text form group
+place_text form place.Enrolment = codes "enrolment"
 
 abbrev pub kind_text : Kind → List ℕ
 kind_text kind.Look = codes " look "
@@ -81,17 +89,17 @@ answer_text thread (Some reply) =
     line (codes "answer " ++ (decimal thread ++ (codes " " ++ reply_text reply)))
 
 -- the front of a step's line: its number, thread, kind and place
-abbrev pub step_text : ℕ → ℕ → Kind → Place → List ℕ
-step_text number thread kind at =
+abbrev pub step_text : Version → ℕ → ℕ → Kind → Place → List ℕ
+step_text form number thread kind at =
     decimal number
-    ++ (codes " " ++ (decimal thread ++ (kind_text kind ++ (place_text at ++ codes " "))))
+    ++ (codes " " ++ (decimal thread ++ (kind_text kind ++ (place_text form at ++ codes " "))))
 
 -- an event, which has that number if it is a step of a call; enrolments aren't printed
-abbrev pub event_text : ℕ → Event → List ℕ
-event_text number (event.Begin thread op server) = line (begin_text thread op server)
-event_text number (event.Step thread kind at found left answer) =
+abbrev pub event_text : Version → ℕ → Event → List ℕ
+event_text form number (event.Begin thread op server) = line (begin_text thread op server)
+event_text form number (event.Step thread kind at found left answer) =
     if is_call_step kind
-    then step_text number thread kind at
+    then step_text form number thread kind at
     ++ (line (outcome_text kind found left) ++ answer_text thread answer)
     else []
 
@@ -106,10 +114,10 @@ number_behind number [] = number
 number_behind number (event ∷ events) = number_behind (number + steps_of event) events
 
 -- the events, from that number on
-abbrev pub events_text : ℕ → List Event → List ℕ
-events_text number [] = []
-events_text number (event ∷ events) =
-    event_text number event ++ events_text (number + steps_of event) events
+abbrev pub events_text : Version → ℕ → List Event → List ℕ
+events_text form number [] = []
+events_text form number (event ∷ events) =
+    event_text form number event ++ events_text form (number + steps_of event) events
 
 abbrev pub refusal_text : BeginFault → List ℕ
 refusal_text fault.NoThread = codes " refused no-thread"
@@ -123,13 +131,18 @@ skipped_text (skipped.Idle thread) = line (codes "- " ++ (decimal thread ++ code
 skipped_text (skipped.NoThread thread) = line (codes "- " ++ (decimal thread ++ codes " no-thread"))
 
 -- the events after the first `place`, numbered from `number` on, with the skips between them
-abbrev pub lines_text : ℕ → ℕ → List Event → List Skip → List ℕ
-lines_text number place events [] = events_text number events
-lines_text number place events (skip ∷ skips) =
+abbrev pub lines_text : Version → ℕ → ℕ → List Event → List Skip → List ℕ
+lines_text form number place events [] = events_text form number events
+lines_text form number place events (skip ∷ skips) =
     let first = take (skip.after - place) events in
-    events_text number first
+    events_text form number first
     ++ (skipped_text skip.turn
-    ++ lines_text (number_behind number first) skip.after (drop (skip.after - place) events) skips)
+    ++ lines_text
+    form
+    (number_behind number first)
+    skip.after
+    (drop (skip.after - place) events)
+    skips)
 
 abbrev pub point_text : Point → List ℕ
 point_text (point.At number) = codes " at " ++ decimal number
@@ -149,10 +162,17 @@ servers_text number (server ∷ others) =
     line (codes "server " ++ (decimal number ++ (codes " " ++ state_text server)))
     ++ servers_text (number + 1) others
 
+-- the soft words of the groups from that number on
+abbrev pub soft_words_text : Version → ℕ → List Slots → List ℕ
+soft_words_text form group [] = []
+soft_words_text form group (slots ∷ others) =
+    line (group_text form group ++ (codes " " ++ slots_text slots))
+    ++ soft_words_text form (group + 1) others
+
 unfoldable pub run_text : RunData → List Point → List ℕ
 run_text run order =
     let words = (state_after_all (opened_state run.settings) run.events).words in
-    lines_text 1 0 run.events run.skips
+    lines_text run.version 1 0 run.events run.skips
     ++ (order_text 1 order
     ++ (servers_text 0 words.servers
-    ++ (line (codes "soft " ++ slots_text (slots_at words.slots 0)) ++ line (codes "ok"))))
+    ++ (soft_words_text run.version 0 words.slots ++ line (codes "ok"))))

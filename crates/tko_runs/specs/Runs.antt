@@ -1,11 +1,12 @@
 -- Runs: the settings that a core was opened with, the events of its run in order, and the turns
 -- that were asked for and did nothing.
 use Rattle.std.specs.Prelude.{ℕ, List, [], ◌∷◌, ◌++◌, map, replicate, reverse}
-use Rattle.tko_model.specs.declared.settings.Settings.{Settings}
+use Rattle.tko_model.specs.Settings.{Settings}
 use Rattle.tko_runs.specs.declared.run.event.Event.{Event}
 use Rattle.tko_runs.specs.declared.run.event.Event.TheVariants as event
 use Rattle.tko_runs.specs.declared.run.event.SkippedTurn.{SkippedTurn}
 use Rattle.tko_runs.specs.declared.run.SkippedTurns.{SkippedTurns}
+use Rattle.tko_runs.specs.declared.version.Version.{Version}
 use Rattle.tko_steps.specs.Runs.{Began, Moment, Took}
 
 -- a turn that was skipped, and the number of events before it
@@ -14,6 +15,8 @@ pub record Skip : Type 0 where
   pub turn : SkippedTurn
 
 pub record RunData : Type 0 where
+  -- in whose form it is printed
+  pub version : Version
   pub settings : Settings
   pub events : List Event
   pub skips : List Skip

@@ -2,7 +2,7 @@
 -- event can come next.
 use Rattle.std.specs.Prelude.{◌≡◌, ℕ, ◌+◌, ◌<◌, ◌==◌, Bool, true, false, if◌then◌else◌, List, [], ◌∷◌, ◌++◌, length, slice_index_or, slice_set, reverse, replicate, Option, Some, None}
 use Rattle.tko_model.specs.declared.mark.Reply.{Reply}
-use Rattle.tko_model.specs.declared.settings.Settings.{Settings}
+use Rattle.tko_model.specs.Settings.{Settings}
 use Rattle.tko_model.specs.declared.state.ServerState.{ServerState}
 use Rattle.tko_model.specs.Ranges.{IsWithinRanges, first_fault}
 use Rattle.tko_runs.specs.declared.run.claim.ClaimFault.{ClaimFault}
@@ -41,17 +41,25 @@ entry_at state thread = slice_index_or state.threads thread NotEnrolled
 abbrev pub number_of : ThreadEntry → ℕ
 number_of NotEnrolled = 0
 number_of (Idle number) = number
-number_of (InCall number) = number
+number_of (InCall number server) = number
 
--- an idle thread begins a call
-abbrev pub in_call : ThreadEntry → ThreadEntry
-in_call NotEnrolled = NotEnrolled
-in_call (Idle number) = InCall number
-in_call (InCall number) = InCall number
+-- the server of a thread's call; without a call, 0
+abbrev pub server_of : ThreadEntry → ℕ
+server_of NotEnrolled = 0
+server_of (Idle number) = 0
+server_of (InCall number server) = server
 
-abbrev pub with_begin : RunState → ℕ → RunState
-with_begin state thread =
-    record state { threads = slice_set state.threads thread (in_call (entry_at state thread)) }
+-- an idle thread begins a call on a server
+abbrev pub in_call : ThreadEntry → ℕ → ThreadEntry
+in_call NotEnrolled server = NotEnrolled
+in_call (Idle number) server = InCall number server
+in_call (InCall number on) server = InCall number on
+
+abbrev pub with_begin : RunState → ℕ → ℕ → RunState
+with_begin state thread server =
+    record state {
+      threads = slice_set state.threads thread (in_call (entry_at state thread) server);
+    }
 
 -- a thread draws the number of those enrolled before it
 abbrev pub with_enrolment : RunState → ℕ → RunState
@@ -85,7 +93,7 @@ abbrev pub answered : Option Reply → ThreadEntry → ThreadEntry
 answered None entry = entry
 answered (Some reply) NotEnrolled = NotEnrolled
 answered (Some reply) (Idle number) = Idle number
-answered (Some reply) (InCall number) = Idle number
+answered (Some reply) (InCall number server) = Idle number
 
 abbrev pub with_answer : RunState → ℕ → Option Reply → RunState
 with_answer state thread answer =
@@ -100,7 +108,7 @@ with_step true state thread at left answer =
 with_step false state thread at left answer = with_enrolment state thread
 
 abbrev pub state_after : RunState → Event → RunState
-state_after state (Begin thread op server) = with_begin state thread
+state_after state (Begin thread op server) = with_begin state thread server
 state_after state (Step thread kind at found left answer) =
     with_step (is_call_step kind) state thread at left answer
 
@@ -113,12 +121,12 @@ state_after_all state (event ∷ events) = state_after_all (state_after state ev
 abbrev pub IsIdle : ThreadEntry → Type 0
 IsIdle NotEnrolled = ⊥
 IsIdle (Idle number) = Unit {0}
-IsIdle (InCall number) = ⊥
+IsIdle (InCall number server) = ⊥
 
 abbrev pub HasCall : ThreadEntry → Type 0
 HasCall NotEnrolled = ⊥
 HasCall (Idle number) = ⊥
-HasCall (InCall number) = Unit {0}
+HasCall (InCall number server) = Unit {0}
 
 -- the server of this place is there, if it is a server's
 abbrev pub HasServer : List ServerState → Place → Type 0

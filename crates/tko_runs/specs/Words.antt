@@ -4,7 +4,7 @@
 use Rattle.std.specs.Prelude.{◌≡◌, ℕ, ◌+◌, ◌<◌, ◌⊎◌, List}
 use Rattle.tko_model.specs.declared.mark.Mark.{Mark}
 use Rattle.tko_model.specs.declared.mark.Mark.TheVariants.{Up, Soft, Hard}
-use Rattle.tko_model.specs.declared.settings.Settings.{Settings}
+use Rattle.tko_model.specs.Settings.{Settings}
 use Rattle.tko_model.specs.declared.state.ServerState.{ServerState}
 use Rattle.tko_word.specs.Words.{IsMarkOf, stamp_end}
 use Rattle.tko_steps.specs.declared.step.Place.{Place}
@@ -88,6 +88,13 @@ abbrev pub group_at : Settings → Place → ℕ
 group_at s (place.Server server) = group_of s server
 group_at s (place.Soft group) = group
 group_at s place.Enrolment = 0
+
+-- a call on this server may step on the word of a place: a soft word has to be that of the server's
+-- group
+abbrev pub IsOwnGroup : Settings → ℕ → Place → Type 0
+IsOwnGroup s server (place.Server other) = Unit {0}
+IsOwnGroup s server (place.Soft group) = group ≡ group_of s server
+IsOwnGroup s server place.Enrolment = Unit {0}
 
 -- how many slots of a group are held, and how many marks and slots it may have
 pub record Room : Type 0 where

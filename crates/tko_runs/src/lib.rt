@@ -2,7 +2,8 @@
 //!
 //! - `schedule`: a text is read as settings and commands. `Command`: one line: a thread begins a
 //!   call, takes steps, or runs until its call is answered. `ScheduleFault`: why a text is no
-//!   schedule.
+//!   schedule. `Version`: which header a text has, what ranges its settings have, and how its run
+//!   is printed.
 //! - `run`: a `Run` is the list of its events, and of the turns that were skipped. An `Event` is a
 //!   begin of a call or one atomic step, as the core of tko_steps reports it. `Run::of` makes any
 //!   claimed run. What events do to the words and threads is one fold, which claiming, checking
@@ -19,6 +20,7 @@ mod playing;
 mod printing;
 mod run;
 mod schedule;
+mod version;
 
 pub use checking::order::{Order, Point};
 pub use checking::{RunFault, check};
@@ -29,3 +31,4 @@ pub use run::event::{Event, SkippedTurn};
 pub use schedule::Schedule;
 pub use schedule::command::Command;
 pub use schedule::fault::ScheduleFault;
+pub use version::Version;

@@ -27,13 +27,14 @@ pub fn play(alloc: Global, schedule: &Schedule) -> Result<Run, NoMemory>
     let player = all_followed(alloc, schedule)?;
     // This runs no code. Its contract, the law of every call, shows that this is a legal run.
     every_run();
-    Ok(player.finish(*schedule.settings()))
+    let settings = schedule.settings().try_clone(alloc)?;
+    Ok(player.finish(schedule.version(), settings))
 }
 
 fn all_followed(alloc: Global, schedule: &Schedule) -> Result<Player, NoMemory>
     ensures { IfOk result (λ player. player ≡ played schedule.now) }
 {
-    let mut player = Player::open(alloc, *schedule.settings())?;
+    let mut player = Player::open(alloc, schedule.settings())?;
     for command in schedule.commands() {
         player.follow(command)?;
     }

@@ -10,27 +10,27 @@ mod summary;
 mod words;
 
 use crate::printing::lines::{append_event, append_skipped_turn};
-use crate::printing::summary::{append_order, append_servers, append_soft_word};
+use crate::printing::summary::{append_order, append_servers, append_soft_words};
 use crate::run::SkippedTurns;
 use crate::run::state::State;
-use crate::{Event, Order, Run, SkippedTurn};
+use crate::{Event, Order, Run, SkippedTurn, Version};
 use std::alloc::Global;
 use tko_bytes::NoMemory;
 use tko_model::Settings;
 
 impl Run {
     /// The text of the run: a line for each event and each skipped turn, then where each call takes
-    /// effect by this order, the servers and the soft word as the run leaves them, and `ok`.
+    /// effect by this order, the servers and the soft words as the run leaves them, and `ok`.
     pub fn print(&self, alloc: Global, order: &Order) -> Result<Vec<u8>, NoMemory>
         ensures { IfOk result (λ text. text.items ≡ run_text self.now order.now) }
     {
         let events = self.events();
         let mut out = Vec::new(alloc);
-        append_lines(&mut out, events, self.skips())?;
+        append_lines(&mut out, self.version(), events, self.skips())?;
         append_order(&mut out, order.points())?;
         let state = state_left(alloc, self.settings(), events)?;
         append_servers(&mut out, state.servers())?;
-        append_soft_word(&mut out, state.slots(0))?;
+        append_soft_words(&mut out, self.version(), state.soft_words())?;
         out.extend_from_slice(b"ok\n")?;
         Ok(out)
     }
@@ -38,9 +38,14 @@ impl Run {
 
 /// The events and the skipped turns between them. A count may be zero; the events before it are
 /// then printed with those before the next skipped turn.
-fn append_lines(out: &mut Vec<u8>, events: &[Event], skips: &[SkippedTurns]) -> Result<(), NoMemory>
+fn append_lines(
+    out: &mut Vec<u8>,
+    version: Version,
+    events: &[Event],
+    skips: &[SkippedTurns],
+) -> Result<(), NoMemory>
     ensures { OnOk result (out.new.items ≡
-        out.old.items ++ lines_text 1 0 events.now (one_by_one skips.now)) }
+        out.old.items ++ lines_text version 1 0 events.now (one_by_one skips.now)) }
 {
     let mut number = 1;
     let mut place = 0;
@@ -50,22 +55,27 @@ fn append_lines(out: &mut Vec<u8>, events: &[Event], skips: &[SkippedTurns]) -> 
             continue;
         }
         let (first, behind) = rest.split_at(skip.after.saturating_sub(place).min(rest.len()));
-        append_events(out, &mut number, first)?;
+        append_events(out, version, &mut number, first)?;
         append_skipped(out, skip.turn, skip.times)?;
         place = skip.after;
         rest = behind;
     }
-    append_events(out, &mut number, rest)
+    append_events(out, version, &mut number, rest)
 }
 
-fn append_events(out: &mut Vec<u8>, number: &mut u64, events: &[Event]) -> Result<(), NoMemory>
+fn append_events(
+    out: &mut Vec<u8>,
+    version: Version,
+    number: &mut u64,
+    events: &[Event],
+) -> Result<(), NoMemory>
     requires { number.old + length events.now < 2 ^ 64 }
     ensures text { OnOk result (out.new.items ≡
-        out.old.items ++ events_text number.old events.now) }
+        out.old.items ++ events_text version number.old events.now) }
     ensures number { OnOk result (number.new ≡ number_behind number.old events.now) }
 {
     for event in events {
-        append_event(out, *number, event)?;
+        append_event(out, version, *number, event)?;
         *number += steps_of(event);
     }
     Ok(())

@@ -7,7 +7,7 @@ pub(crate) mod claim;
 pub(crate) mod event;
 pub(crate) mod state;
 
-use crate::{Event, SkippedTurn};
+use crate::{Event, SkippedTurn, Version};
 use std::marker::Model;
 use tko_model::Settings;
 
@@ -18,6 +18,7 @@ mod tests;
 /// a `RunData`.
 #[derive(Debug, Drop)]
 pub struct Run {
+    version: Version,
     settings: Settings,
     events: Vec<Event>,
     skips: Vec<SkippedTurns>,
@@ -38,12 +39,14 @@ impl Model for Run {
     ghost Value = { RunData };
 
     ghost view = { λ r. record {
+      version = r.version;
       settings = r.settings;
       events = r.events.items;
       skips = one_by_one r.skips.items;
     } };
 
     ghost invariant = { λ r. IsRunData (record {
+      version = r.version;
       settings = r.settings;
       events = r.events.items;
       skips = one_by_one r.skips.items;
@@ -51,23 +54,38 @@ impl Model for Run {
 }
 
 impl Run {
-    pub(crate) fn new(settings: Settings, events: Vec<Event>, skips: Vec<SkippedTurns>) -> Run
+    pub(crate) fn new(
+        version: Version,
+        settings: Settings,
+        events: Vec<Event>,
+        skips: Vec<SkippedTurns>,
+    ) -> Run
         requires { IsRunData (record {
+          version = version;
           settings = settings;
           events = events.items;
           skips = one_by_one skips.items;
         }) }
         ensures { result ≡ record {
+          version = version;
           settings = settings;
           events = events.items;
           skips = one_by_one skips.items;
         } }
     {
         Run {
+            version,
             settings,
             events,
             skips,
         }
+    }
+
+    /// The version of schedules in whose form it is printed.
+    pub fn version(&self) -> Version
+        ensures { result ≡ self.now.version }
+    {
+        self.version
     }
 
     /// The settings that its core was opened with.

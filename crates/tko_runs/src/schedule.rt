@@ -8,8 +8,8 @@ pub(crate) mod fault;
 mod header;
 
 use crate::schedule::commands::read_commands;
-use crate::schedule::header::Header;
-use crate::{Command, ScheduleFault};
+use crate::schedule::header::read_header;
+use crate::{Command, ScheduleFault, Version};
 use std::alloc::Global;
 use std::marker::Model;
 use tko_model::Settings;
@@ -17,10 +17,11 @@ use tko_model::Settings;
 /// The most bytes of a schedule.
 const MAX_BYTES: usize = 1_048_576;
 
-/// The settings of a tracker, and then what its threads do. Contracts see the settings, which are
-/// in their ranges, and the list of the commands.
+/// The settings of a tracker, and then what its threads do. Contracts see a `Plan`: the version,
+/// the settings, which are in the ranges of its layout, and the list of the commands.
 #[derive(Debug, Drop)]
 pub struct Schedule {
+    version: Version,
     settings: Settings,
     commands: Vec<Command>,
 }
@@ -30,9 +31,14 @@ impl Model for Schedule {
 
     ghost Value = { Plan };
 
-    ghost view = { λ s. record { settings = s.settings; commands = s.commands.items } };
+    ghost view = { λ s. record {
+      version = s.version;
+      settings = s.settings;
+      commands = s.commands.items;
+    } };
 
     ghost invariant = { λ s. IsPlan (record {
+      version = s.version;
       settings = s.settings;
       commands = s.commands.items;
     }) };
@@ -49,13 +55,23 @@ impl Schedule {
         if bytes.len() > MAX_BYTES {
             return Err(ScheduleFault::Line(0));
         }
-        let (header, rest) = Header::read(bytes)?;
-        let commands = read_commands(alloc, rest)?;
-        let settings = match header.settings() {
-            Ok(settings) => settings,
-            Err(fault) => return Err(ScheduleFault::Settings(fault)),
-        };
-        Ok(Schedule { settings, commands })
+        let (version, settings, rest) = read_header(alloc, bytes)?;
+        let commands = read_commands(alloc, version.header_lines(), rest)?;
+        if let Err(outside) = settings.check_in(version.layout()) {
+            return Err(ScheduleFault::Settings(outside));
+        }
+        Ok(Schedule {
+            version,
+            settings,
+            commands,
+        })
+    }
+
+    /// The version of its text, in whose form its run is printed.
+    pub fn version(&self) -> Version
+        ensures { result ≡ self.now.version }
+    {
+        self.version
     }
 
     /// The settings that the tracker is opened with.

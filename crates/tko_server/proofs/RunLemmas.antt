@@ -4,11 +4,11 @@ use Rattle.std.specs.Prelude.{◌↔◌}
 use Rattle.tko_model.specs.Ranges.{first_fault}
 use Rattle.tko_model.specs.declared.plain.OpenFault.{OpenFault}
 use Rattle.tko_model.specs.declared.plain.OpenFault.TheVariants as opening
-use Rattle.tko_model.specs.declared.settings.Settings.{Settings}
+use Rattle.tko_model.specs.Settings.{Settings, with_servers}
 use Rattle.tko_model.specs.declared.settings.SettingsFault.{SettingsFault}
 use Rattle.tko_server.specs.declared.run_fault.RunFault.{RunFault}
 use Rattle.tko_server.specs.declared.run_fault.RunFault.TheVariants as run
-use Rattle.tko_server.specs.Runs.{fault_of_opening}
+use Rattle.tko_server.specs.Runs.{IsAfterOpening, fault_of_opening}
 
 -- the tracker was not opened
 pub not_opened : {T U : Type 0} (opened : Result T OpenFault) (ended : Result U RunFault)
@@ -25,6 +25,38 @@ not_opened opened ended first (opening.Settings setting) is told ends fault = (
 not_opened opened ended first opening.Memory is told ends fault = (
   λ e. cc,
   λ h. let cause : opened ≡ Err (opening.Settings fault) = (told fault).1 h in cc,
+)
+
+-- the settings were refused
+pub refused : {T U : Type 0} (checked : Result T SettingsFault) (ended : Result U RunFault)
+    (first : Option SettingsFault) (cause : SettingsFault) → checked ≡ Err cause → ended ≡ Err (run.Settings cause)
+    → ((fault : SettingsFault) → (checked ≡ Err fault) ↔ (first ≡ Some fault))
+    → (fault : SettingsFault) → (ended ≡ Err (run.Settings fault)) ↔ (first ≡ Some fault)
+refused checked ended first cause is ends told fault = (
+  λ e. let same : cause ≡ fault = cc in (told fault).0 (rw (← same) is),
+  λ h.
+      let named : checked ≡ Err fault = (told fault).1 h in
+      let same : cause ≡ fault = cc in rw (← same) ends,
+)
+
+-- the settings passed, and memory ran out behind that
+pub out_of_memory : {T U : Type 0} (checked : Result T SettingsFault) (ended : Result U RunFault)
+    (first : Option SettingsFault) (value : T) → checked ≡ Ok value → ended ≡ Err run.Memory
+    → ((fault : SettingsFault) → (checked ≡ Err fault) ↔ (first ≡ Some fault))
+    → (fault : SettingsFault) → (ended ≡ Err (run.Settings fault)) ↔ (first ≡ Some fault)
+out_of_memory checked ended first value is ends told fault = (
+  λ e. cc,
+  λ h. let named : checked ≡ Err fault = (told fault).1 h in cc,
+)
+
+-- the settings passed, and so did what came behind that
+pub all_well : {T U : Type 0} (checked : Result T SettingsFault) (ended : Result U RunFault)
+    (first : Option SettingsFault) (value : T) (result : U) → checked ≡ Ok value → ended ≡ Ok result
+    → ((fault : SettingsFault) → (checked ≡ Err fault) ↔ (first ≡ Some fault))
+    → (fault : SettingsFault) → (ended ≡ Err (run.Settings fault)) ↔ (first ≡ Some fault)
+all_well checked ended first value result is ends told fault = (
+  λ e. cc,
+  λ h. let named : checked ≡ Err fault = (told fault).1 h in cc,
 )
 
 -- a fault is passed on
@@ -53,10 +85,25 @@ done_well one other first value part is ends told fault = (
 pub of_servers : {U : Type 0} (ended : Result U RunFault) (settings : Settings) (one other : ℕ)
     → one ≡ other
     → ((fault : SettingsFault) → (ended ≡ Err (run.Settings fault))
-    ↔ (first_fault (record settings { servers = one }) ≡ Some fault))
+    ↔ (first_fault (with_servers one settings) ≡ Some fault))
     → (fault : SettingsFault) → (ended ≡ Err (run.Settings fault))
-    ↔ (first_fault (record settings { servers = other }) ≡ Some fault)
+    ↔ (first_fault (with_servers other settings) ≡ Some fault)
 of_servers ended settings one other same told =
     let P : ℕ → Type 0 = λ n. (fault : SettingsFault) → (ended ≡ Err (run.Settings fault))
-    ↔ (first_fault (record settings { servers = n }) ≡ Some fault) in
+    ↔ (first_fault (with_servers n settings) ≡ Some fault) in
     subst P same told
+
+-- the settings passed, and the run failed behind that
+pub failed_later : {T U : Type 0} (one : Result T RunFault) (other : Result U RunFault)
+    (first : Option SettingsFault) (value : T) (cause : RunFault) → one ≡ Ok value → other ≡ Err cause → IsAfterOpening cause
+    → ((fault : SettingsFault) → (one ≡ Err (run.Settings fault)) ↔ (first ≡ Some fault))
+    → (fault : SettingsFault) → (other ≡ Err (run.Settings fault)) ↔ (first ≡ Some fault)
+failed_later one other first value (run.Settings name) is ends after told fault = absurd after
+failed_later one other first value run.Memory is ends after told fault = (
+  λ e. cc,
+  λ h. let named : one ≡ Err (run.Settings fault) = (told fault).1 h in cc,
+)
+failed_later one other first value run.Accept is ends after told fault = (
+  λ e. cc,
+  λ h. let named : one ≡ Err (run.Settings fault) = (told fault).1 h in cc,
+)

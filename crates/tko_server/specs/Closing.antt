@@ -1,6 +1,6 @@
 -- What is left of a server's tracker.
 use Rattle.std.specs.Prelude.{◌≡◌, All, List, MatchOption}
-use Rattle.tko_model.specs.declared.settings.Settings.{Settings}
+use Rattle.tko_model.specs.Settings.{Settings}
 use Rattle.tko_server.specs.declared.run_fault.RunFault.TheVariants as run
 use Rattle.tko_server.specs.declared.running.Failed.{Failed}
 use Rattle.tko_server.specs.Runs.{IsAfterOpening}

@@ -2,7 +2,7 @@
 use Rattle.std.specs.Prelude.{length}
 use Rattle.tko_model.specs.declared.plain.OpenFault.{OpenFault}
 use Rattle.tko_model.specs.declared.plain.OpenFault.TheVariants as opening
-use Rattle.tko_model.specs.declared.settings.Settings.{Settings}
+use Rattle.tko_model.specs.Settings.{Settings, with_servers}
 use Rattle.tko_server.specs.declared.run_fault.RunFault.{RunFault}
 use Rattle.tko_server.specs.declared.run_fault.RunFault.TheVariants as run
 use Rattle.tko_server.specs.declared.running.Options.{Options}
@@ -10,7 +10,7 @@ use Rattle.tko_server.specs.declared.running.Options.{Options}
 -- the settings of a server's tracker, which has the servers of the configuration
 abbrev pub tracker_settings : Options → Settings
 tracker_settings options =
-    record options.settings { servers = length options.config.addresses }
+    with_servers (length options.config.addresses) options.settings
 
 -- why a server ends whose tracker can't be opened
 abbrev pub fault_of_opening : OpenFault → RunFault

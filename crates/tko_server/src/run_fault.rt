@@ -39,6 +39,17 @@ impl From<AllocError> for RunFault {
     }
 }
 
+impl From<SettingsFault> for RunFault {
+    ghost use Rattle.std.specs.Prelude.{◌≡◌};
+    ghost use Rattle.tko_server.specs.declared.run_fault.RunFault.TheVariants.{Settings};
+
+    ghost from_gives = { λ cause fault. fault ≡ Settings cause };
+
+    fn from(setting: SettingsFault) -> RunFault {
+        RunFault::Settings(setting)
+    }
+}
+
 impl From<OpenFault> for RunFault {
     ghost use Rattle.std.specs.Prelude.{◌≡◌};
     ghost use Rattle.tko_server.specs.Runs.{fault_of_opening};

@@ -33,7 +33,8 @@ use tko_tracker::{Final, IdlePass, Named, Tracker, close, open};
 #[derive(Drop)]
 pub struct Options {
     pub config: Config,
-    /// There are as many workers as `threads`. The number of servers is that of the configuration.
+    /// There are as many workers as `threads`. The number of servers is that of the configuration,
+    /// and each server has a group.
     pub settings: Settings,
     pub delays: Delays,
     /// How long a server may take to answer, in milliseconds.
@@ -106,15 +107,26 @@ pub(crate) fn run_told<R: IoRuntime<Listener = TcpListener> + Threads + Sync>(
         ↔ (first_fault (tracker_settings options.now) ≡ Some fault) }
     ensures closed { IfOk result (λ ended. HasClosed (tracker_settings options.now) ended.closed) }
 {
-    let settings = Settings {
-        servers: options.config.servers(),
-        ..options.settings
-    };
+    let settings = settings_of(alloc, options)?;
     let (tracker, passes) = open(alloc, settings)?;
     match run_with::<Brand, R>(rt, alloc, listener, options, log, tracker, passes) {
         Ok(ended) => Ok(ended),
         Err(failed) => Err(failed.fault),
     }
+}
+
+/// The settings of the tracker: those of the options, over the servers of the configuration. They
+/// are checked before they are copied, so that memory running out hides no fault of theirs.
+fn settings_of(alloc: Global, options: &Options) -> Result<Settings, RunFault>
+    ensures ok { IfOk result (λ settings. settings ≡ tracker_settings options.now) }
+    ensures err { (fault : SettingsFault) → (result ≡ Err (RunFault.Settings fault))
+        ↔ (first_fault (tracker_settings options.now) ≡ Some fault) }
+{
+    let servers = options.config.servers();
+    options.settings.check_with_servers(servers)?;
+    let mut settings = options.settings.try_clone(alloc)?;
+    settings.servers = servers;
+    Ok(settings)
 }
 
 /// Why a server ended without its totals, and what was left of its tracker.

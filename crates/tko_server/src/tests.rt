@@ -1,10 +1,10 @@
 //! Workers over connections in memory, and the server over loopback.
-ghost use Rattle.std.specs.Prelude.{◌≡◌, IfOk, length};
+ghost use Rattle.std.specs.Prelude.{◌≡◌, ◌∷◌, [], IfOk, length};
 
 use std::alloc::Global;
 use std::test::Fail;
 use tko_health::TrackerSettings;
-use tko_model::Settings;
+use tko_model::OneGroup;
 use tko_pools::Config;
 use tko_prober::Delays;
 
@@ -19,7 +19,7 @@ mod workers;
 const SERVER_ERROR: &[u8] = b"SERVER_ERROR no server\r\n";
 
 /// One server, which one soft failure marks, and two threads.
-const SETTINGS: Settings = Settings {
+const SETTINGS: OneGroup = OneGroup {
     servers: 1,
     threads: 2,
     failures: 1,
@@ -36,7 +36,8 @@ impl TrackerSettings for Two {
       servers = 1;
       threads = 2;
       failures = 1;
-      limit = 40;
+      limits = 40 ∷ [];
+      group_of = 0 ∷ [];
       tries = 8;
       opening_stamp = 0;
     } };

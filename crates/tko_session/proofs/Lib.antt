@@ -1,5 +1,4 @@
 mod EventLemmas
-mod NeverLemmas
 mod ServedLemmas
 mod TextFacts
 mod TurnLemmas

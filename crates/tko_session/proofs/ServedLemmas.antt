@@ -30,9 +30,8 @@ use Rattle.tko_session.specs.Faults.{fault_of}
 use Rattle.tko_session.specs.SessionState.{SessionState, Snapshot, Answered, AnsweredPart, GoesOn, InSession, IsBehind, ProgressIs, fed_state, fresh, items_of, snapshot, text_of, cut_short, no_more}
 use Rattle.tko_session.specs.Served.{Context, Delivered, DeliveredPart, Delivery, EndsAt, Served, ServedSoFar, StoppedByLine, StoppedByRead, StoppedByWrite, StoppedEarly, Transcript, after_cut, at_end_of_input, at_once, at_quit, context, delivery}
 use Rattle.tko_session.proofs.EventLemmas.{idles-append, order-append}
-use Rattle.tko_session.proofs.NeverLemmas.{reading_goes_on}
-use Rattle.tko_session.proofs.TextFacts.{open_start}
-use Rattle.tko_session.proofs.TurnLemmas.{counts_append, counts_idle, counts_none, goes_on-append, goes_on-none, in_session, in_session_of, items-append, text-append, turned_append, turned_idle, turned_none, events_in_session, events_progress, part_paid}
+use Rattle.tko_session.proofs.TextFacts.{open_start, reading_goes_on}
+use Rattle.tko_session.proofs.TurnLemmas.{counts_append, counts_idle, counts_none, goes_on-append, goes_on-none, in_session, in_session_of, items-append, text-append, turned_append, turned_idle, turned_none, events_in_session, events_progress, part_none, part_paid}
 
 -- what an end reported in two parts, it reported as a whole
 abbrev Joins : {E : Type 0} → (E → List ℕ → E → Type 0) → Type 0
@@ -56,27 +55,6 @@ module _ {W : Type 0} {does : Effects W} where
       after_cut it to mid visits (goes_on-append items more goes going) emits is round
 
 module _ {O W : Type 0} {outlet : OutletGhosts O} {does : Effects W} where
-  -- nothing was answered
-  pub not_delivered : (state state' : SessionState) (parts : W) (writer : O) (written : ℕ) → outlet.takes writer [] writer
-      → state.owes ≡ false
-      → DeliveredPart outlet does 0 (delivery state parts writer written) (delivery state' parts writer written)
-  not_delivered state state' parts writer written nothing_out none = record {
-    events = [];
-    left = state.reading;
-    reached = parts;
-    idle = refl;
-    ends = at_once refl;
-    gives = Gives-none state.reading;
-    gains = gains_none parts;
-    counts = counts_none parts;
-    order = ap Some none;
-    in_session = in_session_of [] goes_on-none;
-    front = [];
-    unwritten = [];
-    text = refl;
-    output = writes_none writer written nothing_out;
-  }
-
   -- items were answered, and the front of their replies was written
   part_delivered : {old : Delivery O W} {mid : Snapshot W} {new : Delivery O W} (front unwritten : List ℕ)
       → (part : AnsweredPart does old.session mid)
@@ -100,6 +78,14 @@ module _ {O W : Type 0} {outlet : OutletGhosts O} {does : Effects W} where
     text = sym (part.outbox ∙ ap (λ xs. xs ++ text_of (turns_of part.events)) empty) ∙ split;
     output = wrote;
   }
+
+  -- nothing was answered
+  pub not_delivered : (state state' : SessionState) (parts : W) (writer : O) (written : ℕ) → outlet.takes writer [] writer
+      → state.outbox ≡ [] → state.owes ≡ false
+      → DeliveredPart outlet does 0 (delivery state parts writer written) (delivery state' parts writer written)
+  not_delivered state state' parts writer written nothing_out empty none =
+      let part : AnsweredPart does (snapshot state parts) (snapshot state parts) = part_none state state parts refl none none in
+      part_delivered [] [] part (ends_settled part.behind none) empty empty (writes_none writer written nothing_out)
 
   pub delivered_none : (state : SessionState) (parts : W) (writer : O) (written : ℕ) → outlet.takes writer [] writer
       → state.outbox ≡ [] → state.owes ≡ false
@@ -438,10 +424,8 @@ module _ {I O H L T C : Type 0} {inlet : InletGhosts I} {outlet : OutletGhosts O
   so_far_idle joins {old} {reader} {reader'} {mid} {after} so_far read idle rounded =
       let before = so_far.delivered in
       let last : List Event = IdleRound rounded.round.visits ∷ [] in
-      let items : items_of (turns_of (before.events ++ last)) ≡ items_of (turns_of before.events) =
-      items-append before.events last ∙ append-nil (items_of (turns_of before.events)) in
-      let text : text_of (turns_of (before.events ++ last)) ≡ text_of (turns_of before.events) =
-      text-append before.events last ∙ append-nil (text_of (turns_of before.events)) in
+      let items = items-append before.events last ∙ append-nil (items_of (turns_of before.events)) in
+      let text = text-append before.events last ∙ append-nil (text_of (turns_of before.events)) in
       record {
         bytes = so_far.bytes;
         idle = so_far.idle + 1;
@@ -470,10 +454,8 @@ module _ {I O H L T C : Type 0} {inlet : InletGhosts I} {outlet : OutletGhosts O
   stopped_idle joins {short} {old} {reader} {reader'} {mid} {after} so_far read idle rounded =
       let before = so_far.delivered in
       let last : List Event = IdleRound rounded.round.visits ∷ [] in
-      let items : items_of (turns_of (before.events ++ last)) ≡ items_of (turns_of before.events) =
-      items-append before.events last ∙ append-nil (items_of (turns_of before.events)) in
-      let text : text_of (turns_of (before.events ++ last)) ≡ text_of (turns_of before.events) =
-      text-append before.events last ∙ append-nil (text_of (turns_of before.events)) in
+      let items = items-append before.events last ∙ append-nil (items_of (turns_of before.events)) in
+      let text = text-append before.events last ∙ append-nil (text_of (turns_of before.events)) in
       let ended = in_session NeedsInput (items_of (turns_of before.events)) mid.session.state.reading before.progress_is in
       record {
         bytes = so_far.bytes;

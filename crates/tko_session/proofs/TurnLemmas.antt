@@ -36,7 +36,7 @@ use Rattle.tko_answer.specs.Replies.{reply_bound, sends_to}
 use Rattle.tko_session.specs.SessionState.{CountsRise, SessionState, Snapshot, Turned, Answered, AnsweredPart, Replied, Continues, EndsWith, GoesOn, InSession, IsBehind, ProgressIs, BeginBelowBound, progress_after, progress_of, snapshot, items_of, text_of, trails_of, requests_in, line_too_long, quit, cut_short, no_more}
 use Rattle.tko_text.proofs.GivesLemmas.{Gives-none, Gives-one, Gives-append}
 use Rattle.tko_session.proofs.EventLemmas.{idles-append, order-append, probes-append, short-append, turns-append}
-use Rattle.tko_session.proofs.NeverLemmas.{ends_reading}
+use Rattle.tko_text.proofs.NeverLemmas.{ends_reading}
 
 pub items-append : (events more : List Event)
     → items_of (turns_of (events ++ more)) ≡ items_of (turns_of events) ++ items_of (turns_of more)
@@ -419,12 +419,8 @@ module _ {H L T C : Type 0} {health : HealthGhosts H} {links : LinksGhosts L} {t
   -- so does one at an idle turn
   pub counts_idle : {short : Bool} {between after : Parts H L T C} → (rounded : Rounded health links clock short between after)
       → CountsRise (effects health links trails clock) between (IdleRound rounded.round.visits ∷ []) after
-  counts_idle {short} {between} {after} rounded = record {
-    sends = λ server. rounded.sends server ∙ sym (add-zero (links.sent between.backend.links server));
-    probes = λ server.
-        rounded.round.probes server
-        ∙ ap (λ visits. links.probed between.backend.links server + probes_in server visits) (sym (append-nil rounded.round.visits));
-  }
+  counts_idle {short} {between} {after} rounded = let counted = counts_round rounded in
+      record { sends = counted.sends; probes = counted.probes }
 
   -- the round that was owed is an event
   turned_round : {mid : Snapshot (Parts H L T C)} {state : SessionState} {after : Parts H L T C} → mid.state.owes ≡ true
@@ -448,10 +444,8 @@ module _ {H L T C : Type 0} {health : HealthGhosts H} {links : LinksGhosts L} {t
       → Answered (effects health links trails clock) progress old (snapshot state after)
   answered_round {progress} {old} {mid} {state} {after} front owed rounded paid =
       let visits = rounded.round.visits in
-      let items : items_of (turns_of (front.events ++ RoundAfter visits ∷ [])) ≡ items_of (turns_of front.events) =
-      items-append front.events (RoundAfter visits ∷ []) ∙ append-nil (items_of (turns_of front.events)) in
-      let text : text_of (turns_of (front.events ++ RoundAfter visits ∷ [])) ≡ text_of (turns_of front.events) =
-      text-append front.events (RoundAfter visits ∷ []) ∙ append-nil (text_of (turns_of front.events)) in
+      let items = items-append front.events (RoundAfter visits ∷ []) ∙ append-nil (items_of (turns_of front.events)) in
+      let text = text-append front.events (RoundAfter visits ∷ []) ∙ append-nil (text_of (turns_of front.events)) in
       record {
         events = front.events ++ RoundAfter visits ∷ [];
         turned = turned_append front.turned (turned_round owed rounded paid);
@@ -484,10 +478,8 @@ module _ {H L T C : Type 0} {health : HealthGhosts H} {links : LinksGhosts L} {t
       → AnsweredPart (effects health links trails clock) old (snapshot state after)
   part_round {progress} {short} {old} {mid} {state} {after} front owed rounded paid =
       let last : List Event = RoundAfter rounded.round.visits ∷ [] in
-      let items : items_of (turns_of (front.events ++ last)) ≡ items_of (turns_of front.events) =
-      items-append front.events last ∙ append-nil (items_of (turns_of front.events)) in
-      let text : text_of (turns_of (front.events ++ last)) ≡ text_of (turns_of front.events) =
-      text-append front.events last ∙ append-nil (text_of (turns_of front.events)) in
+      let items = items-append front.events last ∙ append-nil (items_of (turns_of front.events)) in
+      let text = text-append front.events last ∙ append-nil (text_of (turns_of front.events)) in
       let ended : InSession (items_of (turns_of front.events)) =
       in_session progress (items_of (turns_of front.events)) mid.state.reading front.progress_is in
       record {

@@ -10,13 +10,13 @@ use std::sync::Wait;
 use std::test::Fail;
 use std::time::Clock;
 use tko_links::{Links, Outcome, Script, Scripted};
-use tko_model::{Plain, Reply, Settings};
+use tko_model::{OneGroup, Plain, Reply};
 use tko_pools::Config;
 use tko_prober::Delays;
 use tko_route::{Attempt, Health, PlainHealth};
 
 /// The first failure marks the server.
-const SETTINGS: Settings = Settings {
+const SETTINGS: OneGroup = OneGroup {
     servers: 1,
     threads: 1,
     failures: 1,
@@ -63,7 +63,7 @@ fn one_server(alloc: Global, answers: &str, moments: &[u64]) -> Result<OneServer
 {
     Ok(Parts {
         backend: Backend {
-            health: PlainHealth::new(Plain::open(alloc, SETTINGS)?, 0),
+            health: PlainHealth::new(Plain::open(alloc, SETTINGS.settings(alloc)?)?, 0),
             links: Scripted::new(alloc, 1, scripts(alloc, answers)?)?,
             probers: Probers::new(alloc, delays()?, 1)?,
             clock: ListedClock::new(moments.to_vec(alloc)?),

@@ -1,6 +1,6 @@
 -- The abstract states of a run follow one another, and only own steps of calls change them.
 use Rattle.std.proofs.Common.{◌≡◌, ℕ, ◌<◌, length, inl, inr, refl}
-use Rattle.tko_model.specs.declared.settings.Settings.{Settings}
+use Rattle.tko_model.specs.Settings.{Settings}
 use Rattle.tko_model.specs.Tracker.{opened}
 use Rattle.tko_steps.specs.declared.phase.Call.{Call}
 use Rattle.tko_steps.specs.declared.phase.Phase.{Phase}

@@ -9,7 +9,9 @@ use Rattle.tko_model.specs.declared.mark.Mark.TheVariants.{Up, Soft, Hard}
 use Rattle.tko_model.specs.declared.mark.Op.{Op}
 use Rattle.tko_model.specs.declared.mark.Reply.{Reply}
 use Rattle.tko_model.specs.declared.mark.Reply.TheVariants as reply
-use Rattle.tko_model.specs.declared.settings.Settings.{Settings}
+use Rattle.tko_model.specs.declared.layout.Layout.TheVariants as layout
+use Rattle.tko_model.specs.Limits.{max_threads}
+use Rattle.tko_model.specs.Settings.{Settings}
 use Rattle.tko_model.specs.declared.state.ServerState.{ServerState}
 use Rattle.tko_model.specs.Ranges.{IsWithinRanges}
 use Rattle.tko_model.specs.Groups.{group_of, groups, is_in, limit_of}
@@ -820,14 +822,14 @@ place-there s shared server Settle there group = group
 place-there s shared server Loosen there group = group
 place-there s shared server Give there group = group
 
-mark-fits : (s : Settings) (number : ℕ) (mark : Mark) (stamp : ℕ) → IsWithinRanges s → number < 64 → IsFit s mark stamp
+mark-fits : (s : Settings) (number : ℕ) (mark : Mark) (stamp : ℕ) → IsWithinRanges s → number < max_threads layout.Two → IsFit s mark stamp
     → IsOwnOrUp number mark → IsMark mark
 mark-fits s number (Up count) stamp ranges low fit own = omega (arith, fit.0, ranges.failures.1)
 mark-fits s number (Soft owner) stamp ranges low fit own = absurd own
 mark-fits s number (Hard owner) stamp ranges low fit own = omega arith
 
 module _ (core : CoreState) (thread : ℕ) (call : Call) (is : IsCore core) (inside : thread < length core.threads) where
-  number-fits : (phase : Phase) → thread_at core thread ≡ InCall call phase → call.number < 64
+  number-fits : (phase : Phase) → thread_at core thread ≡ InCall call phase → call.number < max_threads layout.Two
   number-fits phase stands =
       let drawn = number-lt core.threads core.shared.enrolled thread call.number is.numbers inside (ap number_of stands) in
       omega (arith, drawn, enrolled-le core is, is.settings.threads.1)

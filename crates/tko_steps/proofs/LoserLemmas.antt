@@ -4,7 +4,7 @@ use Rattle.std.proofs.lemmas.Bool.{and_left, and_parts, cases_Bool, cond-false, 
 use Rattle.std.proofs.lemmas.List.Sums.{sum_by-cons}
 use Rattle.tko_model.specs.declared.mark.Mark.{Mark}
 use Rattle.tko_model.specs.declared.mark.Mark.TheVariants.{Soft}
-use Rattle.tko_model.specs.declared.settings.Settings.{Settings}
+use Rattle.tko_model.specs.Settings.{Settings}
 use Rattle.tko_model.specs.declared.state.ServerState.{ServerState}
 use Rattle.tko_model.specs.Tracker.{server_at}
 use Rattle.tko_steps.specs.declared.phase.Call.{Call as CallState}

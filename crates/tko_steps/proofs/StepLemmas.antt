@@ -1,7 +1,7 @@
 -- A step changes one word, to what that word alone decides.
 use Rattle.std.proofs.Common.{◌≡◌, ℕ, ◌<◌, Bool, true, false, cond, ◌+◌, List, length, set, refl, sym, ap, get_or-set_same, length-set}
 use Rattle.std.proofs.lemmas.List.{set-get_or}
-use Rattle.tko_model.specs.declared.settings.Settings.{Settings}
+use Rattle.tko_model.specs.Settings.{Settings}
 use Rattle.tko_model.specs.declared.state.ServerState.{ServerState}
 use Rattle.tko_model.specs.Groups.{group_of}
 use Rattle.tko_model.specs.Tracker.{server_at}

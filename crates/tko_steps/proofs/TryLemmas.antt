@@ -3,7 +3,7 @@ use Rattle.std.proofs.Common.{is_some, ◌≡◌, ◌+◌, Bool, true, false, no
 use Rattle.std.proofs.lemmas.Bool.{cond-false, cond-true}
 use Rattle.tko_model.specs.declared.mark.Mark.{Mark}
 use Rattle.tko_model.specs.declared.mark.Mark.TheVariants.{Up, Soft, Hard}
-use Rattle.tko_model.specs.declared.settings.Settings.{Settings}
+use Rattle.tko_model.specs.Settings.{Settings}
 use Rattle.tko_steps.specs.declared.step.Kind.{Kind}
 use Rattle.tko_steps.specs.declared.step.Kind.TheVariants as kind
 use Rattle.tko_steps.specs.declared.step.Place.{Place}

@@ -2,7 +2,7 @@
 use Rattle.std.proofs.Common.{◌≡◌, ℕ, ◌<◌, Bool, true, false, cond, ltb, List, [], ◌∷◌, ◌++◌, length, Option, Some, None, refl}
 use Rattle.std.proofs.lemmas.Bool.{ltb-true}
 use Rattle.tko_model.specs.declared.mark.Op.{Op}
-use Rattle.tko_model.specs.declared.settings.Settings.{Settings}
+use Rattle.tko_model.specs.Settings.{Settings}
 use Rattle.tko_steps.specs.declared.step.BeginFault.{BeginFault}
 use Rattle.tko_steps.specs.declared.step.BeginFault.TheVariants as fault
 use Rattle.tko_steps.specs.declared.step.Stepped.TheVariants as stepped

@@ -2,7 +2,7 @@
 -- calls as the sequential tracker does them, one after another.
 use Rattle.std.specs.Prelude.{◌≡◌, true, ℕ, List, [], ◌∷◌, ◌⊎◌, All, Option, Some, None}
 use Rattle.tko_model.specs.declared.mark.Reply.{Reply}
-use Rattle.tko_model.specs.declared.settings.Settings.{Settings}
+use Rattle.tko_model.specs.Settings.{Settings}
 use Rattle.tko_model.specs.Ranges.{IsWithinRanges}
 use Rattle.tko_model.specs.Tracker.{Tracker, after, reply_of}
 use Rattle.tko_steps.specs.Core.{is_call_step}

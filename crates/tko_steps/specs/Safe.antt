@@ -2,7 +2,7 @@
 -- slots that calls hold there, never past the group's limit, and each thread owns exactly the
 -- servers whose marks name it.
 use Rattle.std.specs.Prelude.{◌≡◌, ◌↔◌, ℕ, ◌+◌, ◌<◌, ◌≤◌, true, nat_lt, if◌then◌else◌, List, count_by, Some}
-use Rattle.tko_model.specs.declared.settings.Settings.{Settings}
+use Rattle.tko_model.specs.Settings.{Settings}
 use Rattle.tko_model.specs.declared.state.ServerState.{ServerState}
 use Rattle.tko_model.specs.Groups.{groups, limit_of}
 use Rattle.tko_model.specs.Tracker.{softs_in}

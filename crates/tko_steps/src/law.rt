@@ -1,6 +1,6 @@
 //! The laws of a step, of every run, and of a thread alone.
 ghost use Rattle.std.specs.Prelude.{◌≡◌, ◌≢◌, ℕ, Some, All};
-ghost use Rattle.tko_model.specs.declared.settings.Settings.{Settings};
+ghost use Rattle.tko_model.specs.Settings.{Settings};
 ghost use Rattle.tko_model.specs.Tracker.{opened};
 ghost use Rattle.tko_steps.specs.Alone.{InEveryRunAlone, IsIdleUnlessOf, Replays};
 ghost use Rattle.tko_steps.specs.Core.{IsOnOneWord, Shared, abstract_of, settings_of};

@@ -3,9 +3,9 @@
 use crate::{BeginFault, Core, Kind, Place, Slots, Stepped, Word};
 use std::alloc::Global;
 use std::test::Fail;
-use tko_model::{Mark, Op, OpenFault, Reply, ServerState, Settings};
+use tko_model::{Mark, OneGroup, Op, OpenFault, Reply, ServerState, Settings};
 
-const SETTINGS: Settings = Settings {
+const SETTINGS: OneGroup = OneGroup {
     servers: 2,
     threads: 2,
     failures: 1,
@@ -27,10 +27,15 @@ fn on(thread: usize, kind: Kind, server: usize, mark: Mark, stamp: u64) -> Line 
     Line::Step(thread, kind, Place::Server(server), word, true, None)
 }
 
-/// A step on the soft word.
+/// A step on the soft word of the first group.
 fn soft(thread: usize, kind: Kind, firm: u32, held: u32) -> Line {
+    soft_of(0, thread, kind, firm, held)
+}
+
+/// A step on the soft word of a group.
+fn soft_of(group: usize, thread: usize, kind: Kind, firm: u32, held: u32) -> Line {
     let word = Word::Soft(Slots { firm, held });
-    Line::Step(thread, kind, Place::Soft(0), word, true, None)
+    Line::Step(thread, kind, Place::Soft(group), word, true, None)
 }
 
 /// The same step, which is lost.
@@ -97,14 +102,20 @@ fn enrolled(
     tries: u32,
     opening_stamp: u64,
 ) -> Result<Core, OpenFault> {
-    let settings = Settings {
+    let settings = OneGroup {
         servers,
         threads,
         failures,
         limit,
         tries,
         opening_stamp,
-    };
+    }
+    .settings(alloc)?;
+    enrolled_with(alloc, settings)
+}
+
+fn enrolled_with(alloc: Global, settings: Settings) -> Result<Core, OpenFault> {
+    let threads = settings.threads;
     let mut core = Core::open(alloc, settings)?;
     for thread in 0..threads as usize {
         let _ = core.step(thread);
@@ -213,6 +224,41 @@ fn lost_mark_gives_slot_back(rt: HostRuntime) -> Result<(), Fail> {
     Ok(())
 }
 
+/// A slot that is held in one group costs no try in another, and a full group fills no other.
+#[test]
+fn each_group_has_slots_of_its_own(rt: HostRuntime) -> Result<(), Fail> {
+    let alloc = rt.alloc();
+    let settings = Settings {
+        servers: 4,
+        limits: Vec::from_slice(alloc, &[1, 1, 0])?,
+        group_of: Vec::from_slice(alloc, &[0, 1, 0, 2])?,
+        tries: 1,
+        ..SETTINGS.settings(alloc)?
+    };
+    let mut core = enrolled_with(alloc, settings)?;
+    let lines = [
+        Line::Begin(0, Op::SoftFailure, 0),
+        on(0, Kind::Look, 0, Mark::Up(0), 0),
+        soft_of(0, 0, Kind::Look, 0, 0),
+        soft_of(0, 0, Kind::Reserve, 0, 1),
+        Line::Begin(1, Op::SoftFailure, 1),
+        on(1, Kind::Look, 1, Mark::Up(0), 0),
+        soft_of(1, 1, Kind::Look, 0, 0),
+        soft_of(1, 1, Kind::Reserve, 0, 1),
+        on(1, Kind::Mark, 1, Mark::Soft(1), 1),
+        ends(soft_of(1, 1, Kind::Shift, 1, 0), Reply::TookSoft),
+        Line::Begin(1, Op::SoftFailure, 2),
+        on(1, Kind::Look, 2, Mark::Up(0), 0),
+        ends(soft_of(0, 1, Kind::Look, 0, 1), Reply::Contended),
+        Line::Begin(1, Op::SoftFailure, 3),
+        on(1, Kind::Look, 3, Mark::Up(0), 0),
+        soft_of(2, 1, Kind::Look, 0, 0),
+        ends(on(1, Kind::Look, 3, Mark::Up(0), 0), Reply::Full),
+    ];
+    assert_eq!(rt; first_difference(&mut core, &lines), None);
+    Ok(())
+}
+
 #[test]
 fn soft_mark_hardens(rt: HostRuntime) -> Result<(), Fail> {
     let mut core = enrolled(rt.alloc(), 1, 2, 1, 1, 8, 0)?;
@@ -280,7 +326,7 @@ fn last_change_before_the_stamp_is_worn(rt: HostRuntime) -> Result<(), Fail> {
 
 #[test]
 fn begin_names_the_first_fault(rt: HostRuntime) -> Result<(), Fail> {
-    let mut core = Core::open(rt.alloc(), SETTINGS)?;
+    let mut core = Core::open(rt.alloc(), SETTINGS.settings(rt.alloc())?)?;
     assert_eq!(rt; core.begin(0, Op::LookUp, 9), Err(BeginFault::NoThread));
     assert_eq!(rt; core.begin(2, Op::LookUp, 0), Err(BeginFault::NoThread));
     let _ = core.step(0);
@@ -293,7 +339,7 @@ fn begin_names_the_first_fault(rt: HostRuntime) -> Result<(), Fail> {
 
 #[test]
 fn the_thread_that_comes_first_draws_0(rt: HostRuntime) -> Result<(), Fail> {
-    let mut core = Core::open(rt.alloc(), SETTINGS)?;
+    let mut core = Core::open(rt.alloc(), SETTINGS.settings(rt.alloc())?)?;
     let enrolment = |number| Stepped::Did {
         kind: Kind::Enrol,
         place: Place::Enrolment,

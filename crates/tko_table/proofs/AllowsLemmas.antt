@@ -7,7 +7,7 @@ use Rattle.atomic_table.proofs.Lists.{set_here}
 use Rattle.atomic_table.specs.Table.{Allows, Me, State, keeps}
 use Rattle.tko_model.specs.declared.mark.Mark.{Mark}
 use Rattle.tko_model.specs.declared.mark.Op.{Op}
-use Rattle.tko_model.specs.declared.settings.Settings.{Settings}
+use Rattle.tko_model.specs.Settings.{Settings}
 use Rattle.tko_model.specs.declared.state.ServerState.{ServerState}
 use Rattle.tko_word.specs.Words.{IsWord, server_in}
 use Rattle.tko_steps.specs.declared.phase.Call.{Call}

@@ -9,7 +9,9 @@ use lib.ListN.{get_elem?}
 use Rattle.atomic_table.specs.Table.{Allows, keeps}
 use Rattle.tko_model.specs.declared.mark.Mark.{Mark}
 use Rattle.tko_model.specs.declared.mark.Mark.TheVariants.{Up, Soft, Hard}
-use Rattle.tko_model.specs.declared.settings.Settings.{Settings}
+use Rattle.tko_model.specs.declared.layout.Layout.TheVariants as layout
+use Rattle.tko_model.specs.Limits.{max_threads}
+use Rattle.tko_model.specs.Settings.{Settings}
 use Rattle.tko_model.specs.Tracker.{server_at}
 use Rattle.tko_word.specs.Words.{IsWord}
 use Rattle.tko_steps.specs.declared.phase.ThreadState.{ThreadState}
@@ -151,11 +153,11 @@ module _ (s : Settings) (words : List ℕ) (views : List (List Pass)) (id : ℕ)
   one : IsOneOf (joined views) pass (λ new. joined (set views id (before ++ new ∷ rest)))
   one = one-joined views id before rest pass there
 
-  pub few : (shared_in s words).enrolled ≤ 64
+  pub few : (shared_in s words).enrolled ≤ max_threads layout.Two
   few = omega (arith, enrolled-le (core_in s words (joined views)) kept.core.core, kept.core.core.settings.threads.1)
 
   -- there is a number left for this pass
-  pub fewer : (shared_in s words).enrolled < 64
+  pub fewer : (shared_in s words).enrolled < max_threads layout.Two
   fewer =
       let passes = joined views in
       let core = kept.core.core in

@@ -9,7 +9,7 @@ use mathlib.Core.Option.{some, some-injective, some-ne-none}
 use lib.ListN.{get_elem?}
 use Rattle.atomic_table.proofs.Lists.{set_else, set_here}
 use Rattle.atomic_table.specs.Table.{Joins}
-use Rattle.tko_model.specs.declared.settings.Settings.{Settings}
+use Rattle.tko_model.specs.Settings.{Settings}
 use Rattle.tko_steps.specs.Core.{number_of}
 use Rattle.tko_steps.specs.Invariant.{IsCore}
 use Rattle.tko_table.specs.declared.pass.Change.{Change}

@@ -3,7 +3,7 @@ use Rattle.std.proofs.Common.{◌≡◌, ℕ, zero, suc, ◌+◌, ◌<◌, List,
 use Rattle.std.proofs.lemmas.List.{append-nil, drop_at, take_at, length-replicate, take_all, length-set}
 use Rattle.std.proofs.lemmas.List.Elements.{All-nil, All-replicate}
 use Rattle.tko_model.specs.declared.mark.Mark.TheVariants.{Up}
-use Rattle.tko_model.specs.declared.settings.Settings.{Settings}
+use Rattle.tko_model.specs.Settings.{Settings}
 use Rattle.tko_model.specs.Ranges.{IsWithinRanges}
 use Rattle.tko_word.specs.Words.{IsWord, firm_in, held_in, server_in}
 use Rattle.tko_steps.specs.declared.phase.ThreadState.TheVariants.{NotEnrolled}

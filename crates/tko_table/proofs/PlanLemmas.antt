@@ -2,7 +2,7 @@
 use Rattle.std.proofs.Common.{Bool, cond}
 use Rattle.std.proofs.lemmas.Bool.{cond_both}
 use Rattle.tko_model.specs.declared.mark.Reply.TheVariants.{Contended, Full}
-use Rattle.tko_model.specs.declared.settings.Settings.{Settings}
+use Rattle.tko_model.specs.Settings.{Settings}
 use Rattle.tko_model.specs.declared.state.ServerState.{ServerState}
 use Rattle.tko_steps.specs.declared.phase.Call.{Call}
 use Rattle.tko_steps.specs.declared.phase.Phase.{Phase}

@@ -6,7 +6,7 @@ use Rattle.std.proofs.lemmas.List.Sorted.{All-permutation, IsPermutation-append_
 use mathlib.Core.Option.{some, some-injective, some-ne-none}
 use lib.ListN.{get_elem?}
 use Rattle.atomic_table.specs.Table.{Splits}
-use Rattle.tko_model.specs.declared.settings.Settings.{Settings}
+use Rattle.tko_model.specs.Settings.{Settings}
 use Rattle.tko_steps.proofs.JoinedLemmas.{core-permuted}
 use Rattle.tko_table.specs.declared.pass.Pass.{Pass}
 use Rattle.tko_table.specs.History.{Begins}

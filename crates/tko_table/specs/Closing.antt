@@ -1,6 +1,6 @@
 -- The words once no thread uses them any more.
 use Rattle.std.specs.Prelude.{◌≡◌, ℕ, ◌<◌, false, List, All, length}
-use Rattle.tko_model.specs.declared.settings.Settings.{Settings}
+use Rattle.tko_model.specs.Settings.{Settings}
 use Rattle.tko_steps.specs.declared.phase.ThreadState.TheVariants.{Idle}
 use Rattle.tko_steps.specs.Core.{Shared, no_slots, slots_at}
 use Rattle.tko_steps.specs.Steps.{is_marked_state}

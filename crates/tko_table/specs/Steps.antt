@@ -4,10 +4,12 @@ use Rattle.atomic_table.specs.declared.shared.Seat.{Seat}
 use Rattle.atomic_table.specs.Table.{Me}
 use Rattle.tko_model.specs.declared.mark.Mark.{Mark}
 use Rattle.tko_model.specs.declared.mark.Op.{Op}
-use Rattle.tko_model.specs.declared.settings.Settings.{Settings}
+use Rattle.tko_model.specs.declared.layout.Layout.TheVariants as layout
+use Rattle.tko_model.specs.Limits.{max_threads}
+use Rattle.tko_model.specs.Settings.{Settings}
 use Rattle.tko_model.specs.declared.state.ServerState.{ServerState}
 use Rattle.tko_model.specs.Tracker.{IsFit, server_at}
-use Rattle.tko_word.specs.Words.{IsMark, IsMarkOf, IsWord, most_threads, server_in, stamp_end}
+use Rattle.tko_word.specs.Words.{IsMark, IsMarkOf, IsWord, server_in, stamp_end}
 use Rattle.tko_model.specs.Groups.{limit_at}
 use Rattle.tko_steps.specs.declared.phase.Call.{Call}
 use Rattle.tko_steps.specs.declared.phase.Phase.{Phase}
@@ -216,7 +218,7 @@ pub record Enrols (before : List Pass) (number : ℕ) (after : List Pass) : Type
   pub history : List Change
   pub begins : All (λ pass. Begins pass.seen history) before
   pub drew : after ≡ enrol_first before number history
-  pub few : number < most_threads
+  pub few : number < max_threads layout.Two
   pub all : (pass : Pass) (rest : List Pass) →
       before ≡ pass ∷ rest →
       length before ≡ pass.settings.threads → number ≡ count_enrolled before

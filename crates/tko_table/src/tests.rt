@@ -15,10 +15,10 @@ ghost use Rattle.tko_table.specs.Steps.{IsAt, IsSameSeat, IsWritable, Took, view
 use crate::{Seat, Words};
 use std::process::Abort;
 use std::test::Fail;
-use tko_model::{Mark, Op, OpenFault, Reply, ServerState, Settings, SettingsFault};
+use tko_model::{Mark, OneGroup, Op, OpenFault, Reply, ServerState, SettingsFault};
 use tko_steps::{Action, Call, Decision, Kind, Observed, Phase, Slots, ThreadState, next};
 
-const SETTINGS: Settings = Settings {
+const SETTINGS: OneGroup = OneGroup {
     servers: 1,
     threads: 2,
     failures: 1,
@@ -228,7 +228,7 @@ fn walk(rt: &impl Abort, words: &Words, mut first: Seat, mut second: Seat)
 
 #[test]
 fn lost_mark_gives_slot_back(rt: HostRuntime) -> Result<(), Fail> {
-    let (words, mut seats) = Words::open(rt.alloc(), SETTINGS)?;
+    let (words, mut seats) = Words::open(rt.alloc(), SETTINGS.settings(rt.alloc())?)?;
     let second = last_seat(&rt, &words, &mut seats, 1);
     let first = last_seat(&rt, &words, &mut seats, 0);
     walk(&rt, &words, first, second);
@@ -236,18 +236,19 @@ fn lost_mark_gives_slot_back(rt: HostRuntime) -> Result<(), Fail> {
 }
 
 #[test]
-fn settings_out_of_range_are_refused(rt: HostRuntime) {
-    let settings = Settings {
+fn settings_out_of_range_are_refused(rt: HostRuntime) -> Result<(), Fail> {
+    let settings = OneGroup {
         servers: 0,
         ..SETTINGS
     };
-    let fault = Words::open(rt.alloc(), settings).err();
+    let fault = Words::open(rt.alloc(), settings.settings(rt.alloc())?).err();
     assert!(rt; matches!(fault, Some(OpenFault::Settings(SettingsFault::Servers))));
+    Ok(())
 }
 
 #[test]
 fn seats_are_joined_and_split(rt: HostRuntime) -> Result<(), Fail> {
-    let (words, mut seats) = Words::open(rt.alloc(), SETTINGS)?;
+    let (words, mut seats) = Words::open(rt.alloc(), SETTINGS.settings(rt.alloc())?)?;
     let second = last_seat(&rt, &words, &mut seats, 1);
     let mut first = last_seat(&rt, &words, &mut seats, 0);
     words.join(&mut first, second);

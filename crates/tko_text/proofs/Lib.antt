@@ -6,6 +6,7 @@ pub mod GivesLemmas
 pub mod JoinedLemmas
 pub mod KeyLemmas
 pub mod LineLemmas
+pub mod NeverLemmas
 pub mod PrintLemmas
 pub mod PrintedLemmas
 pub mod ReadAgainLemmas

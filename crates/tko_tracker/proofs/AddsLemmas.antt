@@ -6,7 +6,7 @@ use Rattle.tko_model.specs.declared.mark.Mark.{Mark}
 use Rattle.tko_model.specs.declared.mark.Op.{Op}
 use Rattle.tko_model.specs.declared.mark.Reply.{Reply}
 use Rattle.tko_model.specs.declared.mark.Reply.TheVariants.{Contended}
-use Rattle.tko_model.specs.declared.settings.Settings.{Settings}
+use Rattle.tko_model.specs.Settings.{Settings}
 use Rattle.tko_model.specs.declared.state.ServerState.{ServerState}
 use Rattle.tko_model.specs.Tracker.{server_at}
 use Rattle.tko_steps.specs.declared.phase.Call.{Call}
@@ -17,7 +17,7 @@ use Rattle.tko_steps.specs.declared.table.Decision.{Decision}
 use Rattle.tko_steps.specs.declared.table.Decision.TheVariants.{Goes, Answers}
 use Rattle.tko_steps.specs.declared.table.Observed.{Observed}
 use Rattle.tko_steps.specs.declared.table.Observed.TheVariants as seen
-use Rattle.tko_steps.specs.Core.{Shared, seen_by, shared_after, slots_at}
+use Rattle.tko_steps.specs.Core.{Shared, seen_by, shared_after}
 use Rattle.tko_steps.specs.Steps.{is_done, is_marked_state, state_after}
 use Rattle.tko_steps.specs.Table.{action_of, next_of, same_server}
 use Rattle.tko_table.specs.declared.pass.Change.{Change}
@@ -33,7 +33,6 @@ use Rattle.tko_tracker.specs.History.{IsAnsweredAt}
 use Rattle.tko_tracker.proofs.KnowsLemmas.{KnowsAt}
 use Rattle.tko_tracker.proofs.PlaceLemmas.{PlaceAfter, PlaceAt, is_start, place-next, start-at-end}
 use Rattle.tko_tracker.proofs.SoloLemmas.{SoloAfter, SoloAt, none-other, solo-next}
-use Rattle.tko_model.specs.Groups.{group_of, limit_at}
 
 -- what a call at this phase has added, where its pass was the first as it began
 pub record HasAdded (s : Settings) (first now : Pass) (call : Call) (phase : Phase) : Type 0 where

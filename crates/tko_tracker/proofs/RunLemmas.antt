@@ -7,7 +7,7 @@ use Rattle.tko_model.specs.declared.mark.Op.{Op}
 use Rattle.tko_model.specs.declared.mark.Op.TheVariants.{LookUp}
 use Rattle.tko_model.specs.declared.mark.Reply.{Reply}
 use Rattle.tko_model.specs.declared.mark.Reply.TheVariants.{Marked}
-use Rattle.tko_model.specs.declared.settings.Settings.{Settings}
+use Rattle.tko_model.specs.Settings.{Settings}
 use Rattle.tko_model.specs.declared.state.ServerState.{ServerState}
 use Rattle.tko_model.specs.Looks.{look_reply}
 use Rattle.tko_model.specs.declared.transition.Transition.{Transition}
@@ -21,7 +21,7 @@ use Rattle.tko_steps.specs.declared.table.Decision.{Decision}
 use Rattle.tko_steps.specs.declared.table.Decision.TheVariants.{Goes, Answers}
 use Rattle.tko_steps.specs.declared.table.Observed.{Observed}
 use Rattle.tko_steps.specs.declared.table.Observed.TheVariants as seen
-use Rattle.tko_steps.specs.Core.{CoreState, follows, seen_by, slots_at}
+use Rattle.tko_steps.specs.Core.{CoreState, follows, seen_by}
 use Rattle.tko_steps.specs.Cost.{most_steps}
 use Rattle.tko_steps.specs.Runs.{OwnStep}
 use Rattle.tko_steps.specs.Steps.{begun_by, in_call, is_done, state_after}
@@ -39,7 +39,6 @@ use Rattle.tko_tracker.proofs.AddsLemmas.{HasAdded, HasAddedAfter, HasEnded, add
 use Rattle.tko_tracker.proofs.KnowsLemmas.{Knows, KnowsAfter, KnowsAt, knows-next, left}
 use Rattle.tko_tracker.proofs.LookLemmas.{IsOwn, SeenAfter, SeenAt, exchange-lost, look-changed, seen-next}
 use Rattle.tko_tracker.proofs.TryLemmas.{KnowsAnywhere, TriedAfter, begins-anywhere, slot-held, tried-next, turn-is}
-use Rattle.tko_model.specs.Groups.{group_of, limit_at}
 
 -- the call of the pass that the view had first, at this phase
 pub record IsUnderWay

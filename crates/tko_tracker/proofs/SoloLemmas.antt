@@ -4,7 +4,7 @@ use Rattle.std.proofs.lemmas.Bool.{cond-true, cond_both, eq-eqb, eqb-true}
 use Rattle.std.proofs.lemmas.List.{append-nil}
 use Rattle.std.proofs.lemmas.List.Elements.{All-head}
 use Rattle.tko_model.specs.declared.mark.Reply.TheVariants.{Contended, Full}
-use Rattle.tko_model.specs.declared.settings.Settings.{Settings}
+use Rattle.tko_model.specs.Settings.{Settings}
 use Rattle.tko_model.specs.declared.state.ServerState.{ServerState}
 use Rattle.tko_model.specs.Tracker.{opened, server_at, softs_beside}
 use Rattle.tko_steps.specs.declared.phase.Call.{Call}
@@ -15,7 +15,7 @@ use Rattle.tko_steps.specs.declared.phase.ThreadState.TheVariants.{NotEnrolled, 
 use Rattle.tko_steps.specs.declared.table.Decision.{Decision}
 use Rattle.tko_steps.specs.declared.table.Decision.TheVariants.{Goes, Answers}
 use Rattle.tko_steps.specs.Core.{CoreState, seen_by, thread_at, slots_at}
-use Rattle.tko_steps.specs.Invariant.{IsCore, holds, holds_at, is_loose, is_loose_at, firm_at, held_at, holds_in, is_loose_in}
+use Rattle.tko_steps.specs.Invariant.{IsCore, holds_at, is_loose_at, firm_at, held_at, holds_in, is_loose_in}
 use Rattle.tko_steps.specs.Steps.{is_done}
 use Rattle.tko_steps.specs.Table.{action_of, from_start, goes, lost_try, next_of, same_server}
 use Rattle.tko_steps.proofs.CountLemmas.{bit, holds-own, loose-own}

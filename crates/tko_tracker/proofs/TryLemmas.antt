@@ -3,7 +3,7 @@ use Rattle.std.proofs.Common.{◌≡◌, ℕ, zero, suc, ◌+◌, ◌<◌, ◌�
 use Rattle.std.proofs.lemmas.Bool.{and_left, and_parts, eqb-true, lt-ltb, ltb-true}
 use Rattle.tko_model.specs.declared.mark.Mark.{Mark}
 use Rattle.tko_model.specs.declared.mark.Mark.TheVariants.{Up, Soft, Hard}
-use Rattle.tko_model.specs.declared.settings.Settings.{Settings}
+use Rattle.tko_model.specs.Settings.{Settings}
 use Rattle.tko_model.specs.declared.state.ServerState.{ServerState}
 use Rattle.tko_steps.specs.declared.phase.Call.{Call}
 use Rattle.tko_steps.specs.declared.phase.Phase.{Phase}
@@ -19,7 +19,7 @@ use Rattle.tko_steps.specs.declared.step.Word.TheVariants as word
 use Rattle.tko_steps.specs.declared.table.Decision.{Decision}
 use Rattle.tko_steps.specs.declared.table.Decision.TheVariants.{Goes, Answers}
 use Rattle.tko_steps.specs.Core.{CoreState, abstract_of, after_step_from, follows, reported_from, thread_at, slots_at}
-use Rattle.tko_steps.specs.Invariant.{IsCore, holds, holds_in}
+use Rattle.tko_steps.specs.Invariant.{IsCore, holds_in}
 use Rattle.tko_steps.specs.Lost.{IsChangedSince, IsSlotOfOther, finds_no_slot, is_look}
 use Rattle.tko_steps.specs.Runs.{Moment, OwnStep, StepTaken, Took, World, count_of, steps_in, with_reported}
 use Rattle.tko_steps.specs.Steps.{answer_of, kind_of, kind_of_exchange}
@@ -31,7 +31,7 @@ use Rattle.tko_steps.proofs.OwnLemmas.{act_step}
 use Rattle.tko_steps.proofs.TryLemmas.{exchange-not_look}
 use Rattle.tko_steps.proofs.WiringLemmas.{stepped_from}
 use Rattle.tko_tracker.specs.Tries.{HasTried, IsTurn}
-use Rattle.tko_model.specs.Groups.{group_of, limit_at, limit_of}
+use Rattle.tko_model.specs.Groups.{group_of, limit_of}
 use Rattle.tko_steps.proofs.CoreLemmas.{own-group}
 
 -- ---- the turn of a thread

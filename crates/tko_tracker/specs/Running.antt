@@ -3,7 +3,7 @@ use Rattle.std.specs.Prelude.{◌≡◌, ℕ, ◌+◌, ◌<◌, ◌≤◌, true,
 use Rattle.tko_model.specs.declared.mark.Mark.TheVariants.{Soft}
 use Rattle.tko_model.specs.declared.mark.Op.{Op}
 use Rattle.tko_model.specs.declared.mark.Reply.{Reply}
-use Rattle.tko_model.specs.declared.settings.Settings.{Settings}
+use Rattle.tko_model.specs.Settings.{Settings}
 use Rattle.tko_steps.specs.declared.phase.Call.{Call}
 use Rattle.tko_steps.specs.declared.phase.Phase.{Phase}
 use Rattle.tko_steps.specs.declared.phase.Phase.TheVariants.{Read, AtThreshold, Reserving, Holding, Loosening, Loosened}

@@ -8,7 +8,7 @@ use Rattle.tko_model.specs.declared.mark.Op.{Op}
 use Rattle.tko_model.specs.declared.mark.Op.TheVariants.{LookUp, Release}
 use Rattle.tko_model.specs.declared.mark.Reply.{Reply}
 use Rattle.tko_model.specs.declared.mark.Reply.TheVariants.{Released}
-use Rattle.tko_model.specs.declared.settings.Settings.{Settings}
+use Rattle.tko_model.specs.Settings.{Settings}
 use Rattle.tko_model.specs.Looks.{look_of, look_reply}
 use Rattle.tko_steps.specs.declared.phase.ThreadState.TheVariants.{Idle}
 use Rattle.tko_steps.specs.Cost.{most_steps}
@@ -41,7 +41,15 @@ pub record Seated : Type 0 where
 abbrev pub first_pass : List Pass → Pass
 first_pass [] =
     new_pass
-    (record { servers = 0; threads = 0; failures = 0; limit = 0; tries = 0; opening_stamp = 0 })
+    (record {
+      servers = 0;
+      threads = 0;
+      failures = 0;
+      limits = [];
+      group_of = [];
+      tries = 0;
+      opening_stamp = 0;
+    })
 first_pass (pass ∷ passes) = pass
 
 abbrev pub seated : Seat (Unit {0}) (List Pass) → Seated

@@ -46,7 +46,6 @@ pub struct Final {
     words: ClosedWords,
     ghost free: { (group : ℕ) → group < groups words.settings →
         slots_at words.shared.slots group ≡ no_slots },
-    ghost some: { 0 < groups words.settings },
 }
 
 impl Model for Final {
@@ -73,11 +72,19 @@ impl Final {
         self.words.server(server).stamp
     }
 
-    /// How many slots are firm, and how many are held: none.
-    pub fn soft(&self) -> (u32, u32)
+    /// How many groups of servers there are.
+    pub fn groups(&self) -> usize
+        ensures { result ≡ groups self.now.settings }
+    {
+        self.words.settings.groups()
+    }
+
+    /// How many slots of a group are firm, and how many are held: none.
+    pub fn soft(&self, group: usize) -> (u32, u32)
+        requires { group < groups self.now.settings }
         ensures { result ≡ (0, 0) }
     {
-        let slots = self.words.slots(0);
+        let slots = self.words.slots(group);
         (slots.firm, slots.held)
     }
 }

@@ -11,14 +11,15 @@ pub trait Named {
 }
 
 impl Named for Brand {
-    ghost use Rattle.std.specs.Prelude.{[]};
+    ghost use Rattle.std.specs.Prelude.{[], ◌∷◌};
 
     ghost tracker = { record {
       settings = record {
         servers = 1;
         threads = 1;
         failures = 1;
-        limit = 0;
+        limits = 0 ∷ [];
+        group_of = 0 ∷ [];
         tries = 1;
         opening_stamp = 0;
       };

@@ -8,9 +8,9 @@ mod threads;
 
 use crate::{Final, IdlePass, Pass, Tracker, close, open, wake};
 use std::test::Fail;
-use tko_model::{Look, Mark, Op, Reply, Settings};
+use tko_model::{Look, Mark, OneGroup, Op, Reply};
 
-const SETTINGS: Settings = Settings {
+const SETTINGS: OneGroup = OneGroup {
     servers: 2,
     threads: 2,
     failures: 1,
@@ -50,7 +50,7 @@ fn reply(tracker: &Tracker, pass: &mut Pass, op: Op, server: usize) -> Reply
 
 #[test]
 fn two_threads_share_one_soft_mark(rt: HostRuntime) -> Result<(), Fail> {
-    let (tracker, passes) = open(rt.alloc(), SETTINGS)?;
+    let (tracker, passes) = open(rt.alloc(), SETTINGS.settings(rt.alloc())?)?;
     let (mut first, mut second) = last_two(&tracker, passes).expect(&rt, "two passes");
     let soft = Mark::Soft(0);
     assert_eq!(rt;
@@ -91,7 +91,8 @@ fn two_threads_share_one_soft_mark(rt: HostRuntime) -> Result<(), Fail> {
     };
     assert_eq!(rt; is_at(&last, 0), (Mark::Up(0), 3));
     assert_eq!(rt; is_at(&last, 1), (Mark::Up(0), 2));
-    assert_eq!(rt; last.soft(), (0, 0));
+    assert!(rt; last.groups() == 1);
+    assert_eq!(rt; last.soft(0), (0, 0));
     Ok(())
 }
 
@@ -104,7 +105,7 @@ fn is_at(last: &Final, server: usize) -> (Mark, u64)
 
 #[test]
 fn all_passes_close_the_tracker(rt: HostRuntime) -> Result<(), Fail> {
-    let (tracker, mut passes) = open(rt.alloc(), SETTINGS)?;
+    let (tracker, mut passes) = open(rt.alloc(), SETTINGS.settings(rt.alloc())?)?;
     let last = passes.pop().expect(&rt, "two passes");
     let Err((tracker, mut passes)) = close(tracker, passes) else {
         panic!(rt; "a pass is missing")

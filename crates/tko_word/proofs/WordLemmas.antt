@@ -4,22 +4,31 @@ use Rattle.std.proofs.lemmas.Bool.{lt-ltb, le-ltb, eq-eqb, ne_eqb, cond-true, co
 use Rattle.std.proofs.lemmas.Nat.{and_mask, div-add-mod', div-mul-add, mod-mul-add, shr_below}
 use Rattle.tko_model.specs.declared.mark.Mark.{Mark}
 use Rattle.tko_model.specs.declared.mark.Mark.TheVariants.{Up, Soft, Hard}
-use Rattle.tko_model.specs.declared.settings.Settings.{Settings}
+use Rattle.tko_model.specs.declared.layout.Layout.{Layout}
+use Rattle.tko_model.specs.declared.layout.Layout.TheVariants as layout
 use Rattle.tko_model.specs.declared.state.ServerState.{ServerState}
 use Rattle.tko_model.specs.Ranges.{IsWithinRanges}
-use Rattle.tko_word.specs.Words.{IsMark, IsMarkOf, IsWord, IsWordOf, body_of, health_word, mark_in, server_in}
+use Rattle.tko_model.specs.Settings.{Settings}
+use Rattle.tko_word.specs.Words.{IsMark, IsMarkIn, IsMarkOf, IsWord, IsWordIn, body_of, health_word, mark_in, server_in}
 
 pub IsMark-of : (s : Settings) (mark : Mark) → IsWithinRanges s → IsMarkOf s mark → IsMark mark
 IsMark-of s (Up count) ranges is = omega (arith, ranges.failures.1)
 IsMark-of s (Soft thread) ranges is = omega (arith, ranges.threads.1)
 IsMark-of s (Hard thread) ranges is = omega (arith, ranges.threads.1)
 
-pub IsWord-of : (s : Settings) (word : ℕ) → IsWithinRanges s → IsWordOf s word → IsWord word
-IsWord-of s word ranges is =
+-- what the first layout allows the second allows
+pub IsMark-in : (layout : Layout) (mark : Mark) → IsMarkIn layout mark → IsMark mark
+IsMark-in layout.One (Up count) is = omega arith
+IsMark-in layout.One (Soft thread) is = omega arith
+IsMark-in layout.One (Hard thread) is = omega arith
+IsMark-in layout.Two mark is = is
+
+pub IsWord-in : (layout : Layout) (s : Settings) (word : ℕ) → IsWordIn layout s word → IsWord word
+IsWord-in layout s word is =
     record {
       mark = is.mark;
       stamp = is.stamp;
-      allowed = IsMark-of s is.mark ranges is.allowed;
+      allowed = IsMark-in layout is.mark is.fits;
       below = is.below;
       is = is.is;
     }
@@ -79,23 +88,26 @@ body_of-mark_in body below =
 pub masked : (word : ℕ) → bit_and word 8191 ≡ word % 8192
 masked word = and_mask word 13
 
-pub IsWordOf-body : (s : Settings) (word : ℕ) → word < 2 ^ 64 → IsMarkOf s (mark_in (word % 8192)) → IsWordOf s word
-IsWordOf-body s word fits allowed =
+pub IsWordIn-body : (layout : Layout) (s : Settings) (word : ℕ) → word < 2 ^ 64
+    → IsMarkOf s (mark_in (word % 8192)) × IsMarkIn layout (mark_in (word % 8192)) → IsWordIn layout s word
+IsWordIn-body layout s word small allowed =
     let body = body_of-mark_in (word % 8192) (omega arith) in
     record {
       mark = mark_in (word % 8192);
       stamp = word / 8192;
-      allowed = allowed;
-      below = shr_below word 51 13 fits;
+      allowed = allowed.0;
+      fits = allowed.1;
+      below = shr_below word 51 13 small;
       is = omega (arith, body, div-add-mod' word 8192);
     }
 
-pub body-IsWordOf : (s : Settings) (word : ℕ) → IsWithinRanges s → IsWordOf s word → IsMarkOf s (mark_in (word % 8192))
+pub body-IsWordIn : (layout : Layout) (s : Settings) (word : ℕ) → IsWordIn layout s word
+    → IsMarkOf s (mark_in (word % 8192)) × IsMarkIn layout (mark_in (word % 8192))
 unfolding server_in
-body-IsWordOf s word ranges is =
-    let holds = server_in_is word is.mark is.stamp (IsMark-of s is.mark ranges is.allowed) is.is in
+body-IsWordIn layout s word is =
+    let holds = server_in_is word is.mark is.stamp (IsMark-in layout is.mark is.fits) is.is in
     let same : mark_in (word % 8192) ≡ is.mark = ap (λ (server : ServerState). server.mark) holds in
-    subst (IsMarkOf s) (sym same) is.allowed
+    (subst (IsMarkOf s) (sym same) is.allowed, subst (IsMarkIn layout) (sym same) is.fits)
 
 -- words are one exactly where they hold one mark and one stamp
 pub server_in_same : (one other : ℕ) → IsWord one → IsWord other → server_in one ≡ server_in other → one ≡ other

@@ -1,10 +1,13 @@
 -- The words that threads share: the health word of a server, which holds its mark and its stamp,
 -- and the soft word, which holds the two counts of soft marks.
 use Rattle.std.specs.Prelude.{◌≡◌, ℕ, ◌+◌, ◌-◌, ◌*◌, ◌/◌, ◌%◌, ◌^◌, ◌<◌, ◌==◌, nat_lt, if◌then◌else◌}
+use Rattle.tko_model.specs.declared.layout.Layout.{Layout}
+use Rattle.tko_model.specs.declared.layout.Layout.TheVariants as layout
 use Rattle.tko_model.specs.declared.mark.Mark.{Mark}
 use Rattle.tko_model.specs.declared.mark.Mark.TheVariants.{Up, Soft, Hard}
-use Rattle.tko_model.specs.declared.settings.Settings.{Settings}
 use Rattle.tko_model.specs.declared.state.ServerState.{ServerState}
+use Rattle.tko_model.specs.Limits.{max_failures, max_threads}
+use Rattle.tko_model.specs.Settings.{Settings}
 
 -- a stamp counts up in steps of this; a body lies below it
 abbrev pub body_size : ℕ
@@ -17,13 +20,6 @@ marked = 4096
 -- every stamp lies below this
 abbrev pub stamp_end : ℕ
 stamp_end = 2 ^ 51
-
--- the most soft failures in a row, and the most threads, that any settings in range allow
-abbrev pub most_failures : ℕ
-most_failures = 1000
-
-abbrev pub most_threads : ℕ
-most_threads = 64
 
 -- what stands for a mark: the count, or the thread's number, doubled, and 1 where the mark is hard
 abbrev pub body_of : Mark → ℕ
@@ -62,11 +58,15 @@ firm_in word = word % 2 ^ 32
 unfoldable pub held_in : ℕ → ℕ
 held_in word = word / 2 ^ 32
 
+-- a mark that some settings in range of this layout allow
+abbrev pub IsMarkIn : Layout → Mark → Type 0
+IsMarkIn layout (Up count) = count < max_failures layout
+IsMarkIn layout (Soft thread) = thread < max_threads layout
+IsMarkIn layout (Hard thread) = thread < max_threads layout
+
 -- a mark that some settings in range allow
 abbrev pub IsMark : Mark → Type 0
-IsMark (Up count) = count < most_failures
-IsMark (Soft thread) = thread < most_threads
-IsMark (Hard thread) = thread < most_threads
+IsMark mark = IsMarkIn layout.Two mark
 
 -- a mark that these settings allow
 abbrev pub IsMarkOf : Settings → Mark → Type 0
@@ -82,11 +82,12 @@ pub record IsWord (word : ℕ) : Type 0 where
   pub below : stamp < stamp_end
   pub is : word ≡ health_word mark stamp
 
--- the word of some stamp and a mark that these settings allow
-pub record IsWordOf (s : Settings) (word : ℕ) : Type 0 where
+-- the word of some stamp and a mark that these settings and the layout allow
+pub record IsWordIn (layout : Layout) (s : Settings) (word : ℕ) : Type 0 where
   pub mark : Mark
   pub stamp : ℕ
   pub allowed : IsMarkOf s mark
+  pub fits : IsMarkIn layout mark
   pub below : stamp < stamp_end
   pub is : word ≡ health_word mark stamp
 

@@ -8,10 +8,10 @@
 //! | 1 to 11, marked | the number of the thread that marked it |
 //! | 0, marked | 1 where the mark is hard |
 ghost use Rattle.std.specs.Prelude.{◌≡◌, ◌<◌, ◌^◌, ◌↔◌, true};
-ghost use Rattle.tko_model.specs.Ranges.{IsWithinRanges};
-ghost use Rattle.tko_word.specs.Words.{IsMark, IsMarkOf, IsWord, IsWordOf, body_of, body_size, health_word, mark_in, marked, server_in, stamp_end};
+ghost use Rattle.tko_model.specs.declared.layout.Layout.TheVariants as layout;
+ghost use Rattle.tko_word.specs.Words.{IsMark, IsMarkIn, IsMarkOf, IsWord, IsWordIn, body_of, body_size, health_word, mark_in, marked, server_in, stamp_end};
 
-use tko_model::{Mark, Settings};
+use tko_model::{Layout, Mark, Settings};
 
 /// Every stamp of a word is below this.
 pub const STAMP_END: u64 = 1 << 51;
@@ -48,12 +48,18 @@ pub fn unpack(word: u64) -> (Mark, u64)
     (mark_of(word & BODY_MASK), word >> BODY_BITS)
 }
 
-/// Whether this is the word of some stamp and a mark that the settings allow.
+/// Whether this is the word of some stamp and a mark that the settings and the second layout allow.
 pub fn is_word(word: u64, settings: &Settings) -> bool
-    requires { IsWithinRanges settings.now }
-    ensures { (result ≡ true) ↔ IsWordOf settings.now word }
+    ensures { (result ≡ true) ↔ IsWordIn layout.Two settings.now word }
 {
-    is_body(word & BODY_MASK, settings)
+    is_word_in(word, settings, Layout::Two)
+}
+
+/// Whether this is the word of some stamp and a mark that the settings and the layout allow.
+pub fn is_word_in(word: u64, settings: &Settings, layout: Layout) -> bool
+    ensures { (result ≡ true) ↔ IsWordIn layout settings.now word }
+{
+    is_body(word & BODY_MASK, settings, layout)
 }
 
 fn body(mark: Mark) -> u64
@@ -83,14 +89,15 @@ fn mark_of(body: u64) -> Mark
     }
 }
 
-/// Whether the settings allow the mark that this body stands for.
-fn is_body(body: u64, settings: &Settings) -> bool
+/// Whether the settings and the layout allow the mark that this body stands for.
+fn is_body(body: u64, settings: &Settings, layout: Layout) -> bool
     requires { body < body_size }
-    ensures { (result ≡ true) ↔ IsMarkOf settings.now (mark_in body) }
+    ensures { (result ≡ true)
+        ↔ (IsMarkOf settings.now (mark_in body) × IsMarkIn layout (mark_in body)) }
 {
     if body < MARKED {
-        body < settings.failures as u64
+        body < settings.failures.min(layout.max_failures()) as u64
     } else {
-        (body - MARKED) >> THREAD_SHIFT < settings.threads as u64
+        (body - MARKED) >> THREAD_SHIFT < settings.threads.min(layout.max_threads()) as u64
     }
 }

@@ -1,7 +1,10 @@
-//! The laws of both layouts.
+//! The laws of the words, and of the two layouts of the health word.
 ghost use Rattle.std.specs.Prelude.{◌≡◌, ◌+◌, ◌-◌, ◌<◌, ◌^◌, ◌↔◌, ℕ};
+ghost use Rattle.tko_model.specs.Ranges.{IsWithin};
+ghost use Rattle.tko_model.specs.Settings.{Settings};
+ghost use Rattle.tko_model.specs.declared.layout.Layout.TheVariants as layout;
 ghost use Rattle.tko_model.specs.declared.mark.Mark.{Mark};
-ghost use Rattle.tko_word.specs.Words.{IsMark, IsWord, health_word, one_slot, server_in, slot_over_mark, soft_word, word_minus, word_plus};
+ghost use Rattle.tko_word.specs.Words.{IsMark, IsWord, IsWordIn, health_word, one_slot, server_in, slot_over_mark, soft_word, word_minus, word_plus};
 
 /// No two pairs of a mark and a stamp have one health word, and no two pairs of counts one soft
 /// word. Two health words are one exactly where they hold the same mark and stamp.
@@ -26,4 +29,15 @@ pub fn changed_counts()
         → word_plus (soft_word firm held) slot_over_mark ≡ soft_word (firm - 1) (held + 1) }
     ensures give { (firm held : ℕ) → firm < 2 ^ 32 → 0 < held → held < 2 ^ 32
         → word_minus (soft_word firm held) one_slot ≡ soft_word firm (held - 1) }
+{}
+
+/// Settings that pass in the first layout pass in the second, and their words of the first are
+/// words of the second. In both layouts a word holds the same mark and stamp.
+pub fn one_in_two()
+    ensures settings { (s : Settings) → IsWithin layout.One s → IsWithin layout.Two s }
+    ensures words { (s : Settings) (word : ℕ) → IsWithin layout.One s
+        → IsWordIn layout.One s word → IsWordIn layout.Two s word }
+    ensures reading { (s : Settings) (word : ℕ)
+        (first : IsWordIn layout.One s word) (second : IsWordIn layout.Two s word)
+        → (first.mark ≡ second.mark) × (first.stamp ≡ second.stamp) }
 {}

@@ -1,15 +1,17 @@
-//! A desk of three passes.
-ghost use Rattle.std.specs.Prelude.{◌≡◌};
-ghost use Rattle.tko_tracker.specs.Seated.{ArePasses};
+//! A desk of three passes, and one of as many as there may be.
+ghost use Rattle.std.specs.Prelude.{◌≡◌, All, IfOk};
+ghost use Rattle.tko_tracker.specs.Seated.{ArePasses, IsOf};
 
 use crate::Desk;
+use std::alloc::{AllocError, Global};
 use std::marker::Brand;
+use std::process::Abort;
 use std::sync::Wait;
 use std::test::Fail;
-use tko_model::Settings;
-use tko_tracker::{IdlePass, Named, Tracker, open};
+use tko_model::OneGroup;
+use tko_tracker::{IdlePass, Named, Tracker, close, open};
 
-const SETTINGS: Settings = Settings {
+const SETTINGS: OneGroup = OneGroup {
     servers: 1,
     threads: 3,
     failures: 1,
@@ -45,8 +47,46 @@ fn lend<R: Wait, N: Named>(
 
 #[test]
 fn three_passes_are_lent(rt: HostRuntime) -> Result<(), Fail> {
-    let (tracker, passes) = open(rt.alloc(), SETTINGS)?;
+    let (tracker, passes) = open(rt.alloc(), SETTINGS.settings(rt.alloc())?)?;
     let numbers = lend::<_, Brand>(&rt, &tracker, passes);
     assert_eq!(rt; numbers, Some((2, 1, 0, 1)));
+    Ok(())
+}
+
+/// Takes a pass as often as there are passes, gives each back, and returns what the desk then has.
+fn lend_all<R: Wait + Abort, N: Named>(
+    rt: &R,
+    alloc: Global,
+    tracker: &Tracker,
+    passes: Vec<IdlePass>,
+) -> Result<Vec<IdlePass>, AllocError>
+    requires tracker { tracker.now ≡ N.tracker }
+    requires passes { ArePasses N.tracker passes.items }
+    ensures { IfOk result (λ left. All (IsOf tracker.now) left.items) }
+{
+    let _ = tracker;
+    let count = passes.len();
+    let desk = Desk::<N>::open(passes);
+    let mut lent = Vec::new(alloc);
+    for _ in 0..count {
+        lent.push(desk.take(rt).expect(rt, "a pass"))?;
+    }
+    assert!(rt; desk.take(rt).is_none());
+    for pass in lent {
+        assert!(rt; desk.give(rt, pass).is_ok());
+    }
+    Ok(desk.end())
+}
+
+#[test]
+fn passes_of_1024_threads_are_lent(rt: HostRuntime) -> Result<(), Fail> {
+    let settings = OneGroup {
+        threads: 1_024,
+        ..SETTINGS
+    };
+    let (tracker, passes) = open(rt.alloc(), settings.settings(rt.alloc())?)?;
+    let left = lend_all::<_, Brand>(&rt, rt.alloc(), &tracker, passes)?;
+    assert_eq!(rt; left.len(), 1_024);
+    assert!(rt; close(tracker, left).is_ok());
     Ok(())
 }

@@ -18,10 +18,10 @@ use std::sync::{Mutex, Wait};
 use std::test::Fail;
 use std::thread::{Threads, join};
 use threads::{Shared, hammer, lend};
-use tko_model::Settings;
+use tko_model::OneGroup;
 use tko_tracker::{IdlePass, Named, Tracker, close, open};
 
-const SETTINGS: Settings = Settings {
+const SETTINGS: OneGroup = OneGroup {
     servers: 1,
     threads: 3,
     failures: 3,
@@ -107,7 +107,8 @@ fn three(shares: Vec<Share>) -> Option<(Share, Share, Share)> {
 
 #[test]
 fn one_order_of_200_000_calls(rt: HostRuntime) -> Result<(), Fail> {
-    let (tracker, passes) = open(rt.alloc(), SETTINGS)?;
+    let settings = SETTINGS.settings(rt.alloc())?;
+    let (tracker, passes) = open(rt.alloc(), SETTINGS.settings(rt.alloc())?)?;
     let (book, shares) = Book::open(rt.alloc(), 1, 3)?;
     let shares = three(shares).expect(&rt, "three shares");
     let Ended {
@@ -129,8 +130,9 @@ fn one_order_of_200_000_calls(rt: HostRuntime) -> Result<(), Fail> {
         panic!(rt; "a pass is missing")
     };
     assert_eq!(rt; last.stamp(0), changes as u64);
-    assert_eq!(rt; last.soft(), (0, 0));
-    assert!(rt; have_order(rt.alloc(), &SETTINGS, &one, &other, last.mark(0))?);
+    assert!(rt; last.groups() == 1);
+    assert_eq!(rt; last.soft(0), (0, 0));
+    assert!(rt; have_order(rt.alloc(), &settings, &one, &other, last.mark(0))?);
     let shares = vec![in rt.alloc(); shares.0, shares.1, shares.2]?;
     let totals = gather(book, shares).map_err(|_| "gather")?.counts;
     assert_eq!(rt; totals.of(Kind::Request), calls as u64);

@@ -13,6 +13,8 @@ impl Config {
             addresses: self.addresses.copy(alloc)?,
             children: copy_children(alloc, &self.children)?,
             failover_exptime: self.failover_exptime,
+            groups: self.groups.to_vec(alloc)?,
+            soft_limits: self.soft_limits.to_vec(alloc)?,
         })
     }
 }

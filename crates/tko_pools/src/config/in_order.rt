@@ -11,7 +11,7 @@ use tko_bytes::NoMemory;
 
 impl Config {
     /// The configuration of servers without pools: every key has all of them as its targets, in the
-    /// order of these addresses.
+    /// order of these addresses. The servers are all in one group.
     pub fn in_order(alloc: Global, addresses: Vec<String>) -> Result<Config, NoMemory>
         requires few { length addresses.items ≤ max_servers }
         ensures value { IfOk result (λ config.
@@ -20,6 +20,8 @@ impl Config {
             targets_of config key ≡ numbers_below (length addresses.items)) }
     {
         Ok(Config {
+            groups: vec![in alloc; 0; addresses.len()]?,
+            soft_limits: vec![in alloc; None; 1]?,
             children: children_in_order(alloc, addresses.len())?,
             addresses: Addresses::of(addresses),
             failover_exptime: DEFAULT_EXPTIME,

@@ -1,7 +1,7 @@
 //! The linearization point of a call: whether it is legal, and where it takes effect last.
 ghost use Rattle.std.specs.Prelude.{◌≡◌, ◌≢◌, ◌↔◌, List, ◌∷◌, true};
 ghost use Rattle.tko_model.specs.declared.mark.Reply.{Reply};
-ghost use Rattle.tko_model.specs.declared.settings.Settings.{Settings};
+ghost use Rattle.tko_model.specs.Settings.{Settings};
 ghost use Rattle.tko_runs.specs.Effects.{IsKept, IsEffect, Judges};
 ghost use Rattle.tko_runs.specs.Points.{HasReply, IsEffective, PointsCalls, IsSoFar};
 ghost use Rattle.tko_steps.specs.Runs.{Call, OwnStep};

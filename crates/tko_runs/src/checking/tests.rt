@@ -3,7 +3,7 @@
 use crate::{Event, Run, RunFault, Schedule, check, play};
 use std::alloc::Global;
 use std::test::Fail;
-use tko_model::{Mark, Op, Reply, ServerState, Settings, WORN_STAMP};
+use tko_model::{Mark, OneGroup, Op, Reply, ServerState, WORN_STAMP};
 use tko_steps::{Kind, Place, Slots, Word};
 
 /// Two soft failures, of which the second finds no room for a mark.
@@ -26,14 +26,39 @@ const SLOTS: usize = 10;
 
 const LAST: usize = 11;
 
-/// The fault of that run with another event at a place.
+/// The same calls, each on a server of a group of its own: both find room.
+const EACH_IN_ITS_GROUP: &[u8; 122] = b"schedule 2
+servers 2
+threads 2
+failures 1
+limits 1 1
+groups 0 1
+tries 3
+stamp 0
+begin 0 soft 0
+run 0
+begin 1 soft 1
+run 1
+";
+
+/// The fault of the first run with another event at a place.
 fn fault_with(alloc: Global, place: usize, event: Event) -> Result<Option<RunFault>, Fail> {
-    let run = play(alloc, &Schedule::read(alloc, SECOND_IS_FULL)?)?;
+    fault_of(alloc, SECOND_IS_FULL, place, event)
+}
+
+/// The fault of a schedule's run with another event at a place.
+fn fault_of(
+    alloc: Global,
+    text: &[u8],
+    place: usize,
+    event: Event,
+) -> Result<Option<RunFault>, Fail> {
+    let run = play(alloc, &Schedule::read(alloc, text)?)?;
     let mut events = Vec::from_slice(alloc, run.events())?;
     if let Some(slot) = events.get_mut(place) {
         *slot = event;
     }
-    let changed = Run::of(alloc, *run.settings(), events)?;
+    let changed = Run::of(alloc, run.settings().try_clone(alloc)?, events)?;
     Ok(check(alloc, &changed).err())
 }
 
@@ -133,6 +158,15 @@ fn slots_follow(rt: HostRuntime) -> Result<(), Fail> {
     Ok(())
 }
 
+/// The soft word of the other group holds what the step claims to find; it is not the call's.
+#[test]
+fn a_soft_word_is_that_of_the_group_of_the_server(rt: HostRuntime) -> Result<(), Fail> {
+    let look = on_slots(Kind::Look, 1, 0);
+    let changed = fault_of(rt.alloc(), EACH_IN_ITS_GROUP, SLOTS, look)?;
+    assert_eq!(rt; changed, Some(RunFault::Step(7)));
+    Ok(())
+}
+
 /// A step of the only thread on the only server.
 fn alone(kind: Kind, found: ServerState, left: ServerState, answer: Option<Reply>) -> Event {
     Event::Step {
@@ -148,7 +182,7 @@ fn alone(kind: Kind, found: ServerState, left: ServerState, answer: Option<Reply
 /// The fault of a hard failure that looks at the server and takes these steps, where the server
 /// opens at this stamp.
 fn fault_at(alloc: Global, opened: ServerState, steps: &[Event]) -> Result<Option<RunFault>, Fail> {
-    let settings = Settings {
+    let settings = OneGroup {
         servers: 1,
         threads: 1,
         failures: 2,
@@ -172,7 +206,7 @@ fn fault_at(alloc: Global, opened: ServerState, steps: &[Event]) -> Result<Optio
     })?;
     events.push(alone(Kind::Look, opened, opened, None))?;
     events.extend_from_slice(steps)?;
-    let run = Run::of(alloc, settings, events)?;
+    let run = Run::of(alloc, settings.settings(alloc)?, events)?;
     Ok(check(alloc, &run).err())
 }
 

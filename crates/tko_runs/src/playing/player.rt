@@ -7,7 +7,7 @@ ghost use Rattle.tko_steps.specs.Runs.{Begin, Step};
 
 use crate::run::SkippedTurns;
 use crate::schedule::command::MAX_STEPS;
-use crate::{Command, Event, Run, SkippedTurn};
+use crate::{Command, Event, Run, SkippedTurn, Version};
 use std::alloc::Global;
 use std::marker::Model;
 use tko_bytes::NoMemory;
@@ -37,11 +37,12 @@ impl Model for Player {
 
 impl Player {
     /// All threads enrol, in the order of their places.
-    pub fn open(alloc: Global, settings: Settings) -> Result<Player, NoMemory>
-        requires { IsWithinRanges settings }
-        ensures { IfOk result (λ player. player ≡ enrolled settings) }
+    pub fn open(alloc: Global, settings: &Settings) -> Result<Player, NoMemory>
+        requires { IsWithinRanges settings.now }
+        ensures { IfOk result (λ player. player ≡ enrolled settings.now) }
     {
-        let core = match Core::open(alloc, settings) {
+        let own = settings.try_clone(alloc)?;
+        let core = match Core::open(alloc, own) {
             Ok(core) => core,
             Err(OpenFault::Settings(_)) => unreachable!(),
             Err(OpenFault::Memory) => return Err(NoMemory),
@@ -154,10 +155,10 @@ impl Player {
     }
 
     /// The run of these events and skipped turns.
-    pub fn finish(self, settings: Settings) -> Run
-        requires { IsRunData (run_data_of settings self) }
-        ensures { result ≡ run_data_of settings self }
+    pub fn finish(self, version: Version, settings: Settings) -> Run
+        requires { IsRunData (run_data_of version settings self) }
+        ensures { result ≡ run_data_of version settings self }
     {
-        Run::new(settings, self.events, self.skips)
+        Run::new(version, settings, self.events, self.skips)
     }
 }

@@ -4,15 +4,20 @@ ghost use Rattle.tko_runs.specs.States.{same_word};
 ghost use Rattle.tko_steps.specs.Table.{same_server};
 ghost use Rattle.tko_runs.specs.Prints.{answer_text, begin_text, event_text, kind_text, line, outcome_text, place_text, refusal_text, skipped_text, step_text, won_text};
 
-use crate::printing::words::append_word;
-use crate::{Event, SkippedTurn};
+use crate::printing::words::{append_group, append_word};
+use crate::{Event, SkippedTurn, Version};
 use tko_bytes::NoMemory;
 use tko_model::{Op, Reply, ServerState, append_number, append_reply, op_word};
 use tko_steps::{BeginFault, Kind, Place, Word};
 
 /// An event, which has that number if it is a step of a call. Enrolments aren't printed.
-pub(crate) fn append_event(out: &mut Vec<u8>, number: u64, event: &Event) -> Result<(), NoMemory>
-    ensures { OnOk result (out.new.items ≡ out.old.items ++ event_text number event.now) }
+pub(crate) fn append_event(
+    out: &mut Vec<u8>,
+    version: Version,
+    number: u64,
+    event: &Event,
+) -> Result<(), NoMemory>
+    ensures { OnOk result (out.new.items ≡ out.old.items ++ event_text version number event.now) }
 {
     match *event {
         Event::Begin { thread, op, server } => {
@@ -30,7 +35,7 @@ pub(crate) fn append_event(out: &mut Vec<u8>, number: u64, event: &Event) -> Res
             if !kind.is_call_step() {
                 return Ok(());
             }
-            append_step(out, number, thread, kind, place)?;
+            append_step(out, version, number, thread, kind, place)?;
             append_outcome(out, kind, found, left)?;
             append_answer(out, thread, answer)
         }
@@ -49,17 +54,19 @@ fn append_begin(out: &mut Vec<u8>, thread: usize, op: Op, server: usize) -> Resu
 /// `<i> <thread> <kind> <place> `
 fn append_step(
     out: &mut Vec<u8>,
+    version: Version,
     number: u64,
     thread: usize,
     kind: Kind,
     place: Place,
 ) -> Result<(), NoMemory>
-    ensures { OnOk result (out.new.items ≡ out.old.items ++ step_text number thread kind place) }
+    ensures { OnOk result (out.new.items ≡
+        out.old.items ++ step_text version number thread kind place) }
 {
     append_number(out, b"", number)?;
     append_number(out, b" ", thread as u64)?;
     out.extend_from_slice(kind_word(kind))?;
-    append_place(out, place)?;
+    append_place(out, version, place)?;
     Ok(out.extend_from_slice(b" ")?)
 }
 
@@ -78,12 +85,12 @@ fn kind_word(kind: Kind) -> &'static [u8]
     }
 }
 
-fn append_place(out: &mut Vec<u8>, place: Place) -> Result<(), NoMemory>
-    ensures { OnOk result (out.new.items ≡ out.old.items ++ place_text place) }
+fn append_place(out: &mut Vec<u8>, version: Version, place: Place) -> Result<(), NoMemory>
+    ensures { OnOk result (out.new.items ≡ out.old.items ++ place_text version place) }
 {
     match place {
         Place::Server(server) => append_number(out, b"server:", server as u64),
-        Place::Soft(_) => Ok(out.extend_from_slice(b"soft")?),
+        Place::Soft(group) => append_group(out, version, group),
         Place::Enrolment => Ok(out.extend_from_slice(b"enrolment")?),
     }
 }

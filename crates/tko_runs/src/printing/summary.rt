@@ -1,9 +1,9 @@
 //! The summary at the end of a run's text: its calls, and the words as it leaves them.
-ghost use Rattle.std.specs.Prelude.{◌≡◌, ◌++◌, [], ◌∷◌, OnOk, codes};
-ghost use Rattle.tko_runs.specs.Prints.{line, order_text, point_text, servers_text, slots_text};
+ghost use Rattle.std.specs.Prelude.{◌≡◌, ◌++◌, [], ◌∷◌, OnOk};
+ghost use Rattle.tko_runs.specs.Prints.{line, order_text, point_text, servers_text, soft_words_text};
 
-use crate::Point;
-use crate::printing::words::{append_slots, append_state};
+use crate::printing::words::{append_group, append_slots, append_state};
+use crate::{Point, Version};
 use tko_bytes::NoMemory;
 use tko_model::{ServerState, append_number};
 use tko_steps::Slots;
@@ -55,12 +55,31 @@ fn append_server(out: &mut Vec<u8>, place: usize, server: ServerState) -> Result
     Ok(out.extend_from_slice(b"\n")?)
 }
 
-/// The counts of the soft word.
-pub(crate) fn append_soft_word(out: &mut Vec<u8>, slots: Slots) -> Result<(), NoMemory>
-    ensures { OnOk result (out.new.items ≡
-        out.old.items ++ line (codes "soft " ++ slots_text slots)) }
+/// A line for each group's soft word.
+pub(crate) fn append_soft_words(
+    out: &mut Vec<u8>,
+    version: Version,
+    slots: &[Slots],
+) -> Result<(), NoMemory>
+    ensures { OnOk result (out.new.items ≡ out.old.items ++ soft_words_text version 0 slots.now) }
 {
-    out.extend_from_slice(b"soft ")?;
-    append_slots(out, slots)?;
+    for (group, counts) in slots.iter().enumerate() {
+        append_soft_word(out, version, group, *counts)?;
+    }
+    Ok(())
+}
+
+fn append_soft_word(
+    out: &mut Vec<u8>,
+    version: Version,
+    group: usize,
+    counts: Slots,
+) -> Result<(), NoMemory>
+    ensures { OnOk result (out.new.items ≡
+        out.old.items ++ soft_words_text version group (counts ∷ [])) }
+{
+    append_group(out, version, group)?;
+    out.extend_from_slice(b" ")?;
+    append_slots(out, counts)?;
     Ok(out.extend_from_slice(b"\n")?)
 }

@@ -1,9 +1,10 @@
 //! Runs of any events that are claimed.
 ghost use Rattle.std.specs.Prelude.{◌≡◌, [], IfOk, IfErr};
 ghost use Rattle.tko_runs.specs.States.{IsClaimFault};
+ghost use Rattle.tko_runs.specs.Versions.{version_of};
 
 use crate::run::state::State;
-use crate::{Event, Run};
+use crate::{Event, Run, Version};
 use std::alloc::Global;
 use thiserror::Error;
 use tko_bytes::NoMemory;
@@ -35,10 +36,16 @@ impl From<NoMemory> for ClaimFault {
 }
 
 impl Run {
-    /// The run that is claimed, whatever words its steps find and leave; `check` judges these.
+    /// The run that is claimed, whatever words its steps find and leave; `check` judges these. It
+    /// prints as one of version 1 if its servers are all in one group, else as one of version 2.
     pub fn of(alloc: Global, settings: Settings, events: Vec<Event>) -> Result<Run, ClaimFault>
         ensures ok { IfOk result (λ run.
-            run ≡ record { settings = settings; events = events.items; skips = [] }) }
+            run ≡ record {
+              version = version_of settings;
+              settings = settings;
+              events = events.items;
+              skips = [];
+            }) }
         ensures err { IfErr result (IsClaimFault settings events.items) }
     {
         if let Err(outside) = settings.check() {
@@ -51,6 +58,7 @@ impl Run {
             }
             state.record(event);
         }
-        Ok(Run::new(settings, events, Vec::new(alloc)))
+        let version = Version::of_claim(&settings);
+        Ok(Run::new(version, settings, events, Vec::new(alloc)))
     }
 }

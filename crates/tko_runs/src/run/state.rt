@@ -4,7 +4,7 @@
 //! the words are at the end.
 ghost use Rattle.std.specs.Prelude.{◌≡◌, ◌↔◌, ◌<◌, ◌+◌, None, true, length, IfOk};
 ghost use Rattle.tko_steps.specs.Core.{slots_at};
-ghost use Rattle.tko_runs.specs.States.{CanCome, HasCall, IsEnrolment, IsIdle, IsPlace, entry_at, number_of, opened_state, state_after, with_answer, with_begin, with_enrolment, with_word};
+ghost use Rattle.tko_runs.specs.States.{CanCome, HasCall, IsEnrolment, IsIdle, IsPlace, entry_at, number_of, opened_state, server_of, state_after, with_answer, with_begin, with_enrolment, with_word};
 ghost use Rattle.tko_steps.specs.Core.{is_call_step, word_at};
 
 use crate::Event;
@@ -19,7 +19,7 @@ use tko_steps::{Place, Slots, Word};
 pub(crate) enum ThreadEntry {
     NotEnrolled,
     Idle { number: u32 },
-    InCall { number: u32 },
+    InCall { number: u32, server: usize },
 }
 
 /// A soft word with no slot taken.
@@ -68,6 +68,13 @@ impl State {
         self.servers.as_slice()
     }
 
+    /// The counts of each group's soft word.
+    pub fn soft_words(&self) -> &[Slots]
+        ensures { result.now ≡ self.now.words.slots }
+    {
+        self.slots.as_slice()
+    }
+
     /// The counts of the soft word of a group; of one that isn't there, none.
     pub fn slots(&self, group: usize) -> Slots
         ensures { result ≡ slots_at self.now.words.slots group }
@@ -98,7 +105,18 @@ impl State {
     {
         match self.threads[thread] {
             ThreadEntry::NotEnrolled => 0,
-            ThreadEntry::Idle { number } | ThreadEntry::InCall { number } => number,
+            ThreadEntry::Idle { number } | ThreadEntry::InCall { number, .. } => number,
+        }
+    }
+
+    /// The server of a thread's call; without a call, 0.
+    pub fn server_of(&self, thread: usize) -> usize
+        requires { thread < length self.now.threads }
+        ensures { result ≡ server_of (entry_at self.now thread) }
+    {
+        match self.threads[thread] {
+            ThreadEntry::NotEnrolled | ThreadEntry::Idle { .. } => 0,
+            ThreadEntry::InCall { server, .. } => server,
         }
     }
 
@@ -189,7 +207,7 @@ impl State {
         ensures { self.new ≡ state_after self.old event.now }
     {
         match *event {
-            Event::Begin { thread, .. } => self.begin(thread),
+            Event::Begin { thread, server, .. } => self.begin(thread, server),
             Event::Step {
                 thread,
                 kind,
@@ -208,12 +226,12 @@ impl State {
         }
     }
 
-    fn begin(&mut self, thread: usize)
+    fn begin(&mut self, thread: usize, server: usize)
         requires { thread < length self.old.threads }
-        ensures { self.new ≡ with_begin self.old thread }
+        ensures { self.new ≡ with_begin self.old thread server }
     {
         if let ThreadEntry::Idle { number } = self.threads[thread] {
-            self.threads[thread] = ThreadEntry::InCall { number };
+            self.threads[thread] = ThreadEntry::InCall { number, server };
         }
     }
 
@@ -254,7 +272,7 @@ impl State {
         requires { thread < length self.old.threads }
         ensures { self.new ≡ with_answer self.old thread answer }
     {
-        if let (ThreadEntry::InCall { number }, Some(_)) = (self.threads[thread], answer) {
+        if let (ThreadEntry::InCall { number, .. }, Some(_)) = (self.threads[thread], answer) {
             self.threads[thread] = ThreadEntry::Idle { number };
         }
     }

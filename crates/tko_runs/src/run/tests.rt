@@ -1,12 +1,12 @@
 //! Claimed runs: which events can come.
 
-use crate::{ClaimFault, Event, Run};
+use crate::{ClaimFault, Event, Run, Version};
 use std::alloc::Global;
 use std::test::Fail;
-use tko_model::{Mark, Op, Reply, ServerState, Settings, SettingsFault};
+use tko_model::{Mark, OneGroup, Op, Reply, ServerState, Settings, SettingsFault};
 use tko_steps::{Kind, Place, Word};
 
-const TWO_OF_EACH: Settings = Settings {
+const TWO_OF_EACH: OneGroup = OneGroup {
     servers: 2,
     threads: 2,
     failures: 1,
@@ -54,7 +54,7 @@ fn look(thread: usize, server: usize) -> Event {
 fn fault_behind(alloc: Global, before: &[Event], bad: Event) -> Result<Option<ClaimFault>, Fail> {
     let mut events = Vec::from_slice(alloc, before)?;
     events.push(bad)?;
-    Ok(Run::of(alloc, TWO_OF_EACH, events).err())
+    Ok(Run::of(alloc, TWO_OF_EACH.settings(alloc)?, events).err())
 }
 
 #[test]
@@ -67,9 +67,10 @@ fn a_claimed_run_has_what_was_claimed(rt: HostRuntime) -> Result<(), Fail> {
         begin(1, 1),
     ];
     let claimed = Vec::from_slice(rt.alloc(), &events)?;
-    let run = Run::of(rt.alloc(), TWO_OF_EACH, claimed)?;
+    let run = Run::of(rt.alloc(), TWO_OF_EACH.settings(rt.alloc())?, claimed)?;
     assert_eq!(rt; run.events(), events.as_slice());
-    assert_eq!(rt; *run.settings(), TWO_OF_EACH);
+    assert_eq!(rt; run.settings().limits.as_slice(), [1].as_slice());
+    assert_eq!(rt; run.version(), Version::One);
     Ok(())
 }
 
@@ -104,12 +105,25 @@ fn an_event_behind_a_begin_can_be_bad(rt: HostRuntime) -> Result<(), Fail> {
 
 #[test]
 fn settings_are_judged_before_events(rt: HostRuntime) -> Result<(), Fail> {
-    let settings = Settings {
+    let settings = OneGroup {
         limit: 257,
         ..TWO_OF_EACH
     };
     let events = Vec::from_slice(rt.alloc(), &[begin(0, 0)])?;
-    let fault = Run::of(rt.alloc(), settings, events).err();
+    let fault = Run::of(rt.alloc(), settings.settings(rt.alloc())?, events).err();
     assert_eq!(rt; fault, Some(ClaimFault::Settings(SettingsFault::Limit)));
+    Ok(())
+}
+
+#[test]
+fn a_claimed_run_with_two_groups_names_them(rt: HostRuntime) -> Result<(), Fail> {
+    let alloc = rt.alloc();
+    let settings = Settings {
+        limits: Vec::from_slice(alloc, &[1, 0])?,
+        group_of: Vec::from_slice(alloc, &[1, 0])?,
+        ..TWO_OF_EACH.settings(alloc)?
+    };
+    let run = Run::of(alloc, settings, Vec::new(alloc))?;
+    assert_eq!(rt; run.version(), Version::Two);
     Ok(())
 }

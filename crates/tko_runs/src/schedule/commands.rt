@@ -1,6 +1,6 @@
 //! The lines of a schedule after its header.
 ghost use Rattle.std.specs.Prelude.{◌≡◌, ◌+◌, ◌<◌, ◌≤◌, ◌⊎◌, ◌++◌, [], ◌∷◌, Ok, Err, Some, None, length, IfOk, IfErr, OnOk};
-ghost use Rattle.tko_runs.specs.Limits.{header_lines, max_commands};
+ghost use Rattle.tko_runs.specs.Limits.{max_commands};
 ghost use Rattle.tko_bytes.specs.Lines.{lines_of};
 ghost use Rattle.tko_runs.specs.Schedules.{command_line, commands_of};
 
@@ -11,21 +11,24 @@ use tko_bytes::{NoMemory, first_line};
 /// The most lines after the header.
 const MAX_COMMANDS: usize = 1_000;
 
-/// The number of header lines.
-const HEADER_LINES: u32 = 7;
-
-/// The commands of a text of such lines.
-pub(crate) fn read_commands(alloc: Global, text: &[u8]) -> Result<Vec<Command>, ScheduleFault>
-    ensures ok { IfOk result (λ commands. commands_of (lines_of text.now) ≡ Ok commands.items) }
+/// The commands of a text of such lines, which follows so many header lines.
+pub(crate) fn read_commands(
+    alloc: Global,
+    before: u32,
+    text: &[u8],
+) -> Result<Vec<Command>, ScheduleFault>
+    requires { before ≤ 8 }
+    ensures ok { IfOk result (λ commands.
+        commands_of before (lines_of text.now) ≡ Ok commands.items) }
     ensures few { IfOk result (λ commands. length commands.items ≤ max_commands) }
     ensures err { IfErr result (λ fault.
-        (fault ≡ ScheduleFault.Memory) ⊎ (commands_of (lines_of text.now) ≡ Err fault)) }
+        (fault ≡ ScheduleFault.Memory) ⊎ (commands_of before (lines_of text.now) ≡ Err fault)) }
 {
     let mut commands = Vec::new(alloc);
     let mut rest = text;
     while !rest.is_empty() {
         let (line, behind) = first_line(rest);
-        let command = command_at(commands.len(), line)?;
+        let command = command_at(before, commands.len(), line)?;
         keep(&mut commands, command)?;
         rest = behind;
     }
@@ -39,15 +42,16 @@ fn keep(commands: &mut Vec<Command>, command: Command) -> Result<(), NoMemory>
     Ok(())
 }
 
-/// The command of the line at this place after the header.
-fn command_at(place: usize, line: &[u8]) -> Result<Command, ScheduleFault>
-    requires { place ≤ max_commands }
+/// The command of the line at this place after so many header lines.
+fn command_at(before: u32, place: usize, line: &[u8]) -> Result<Command, ScheduleFault>
+    requires place { place ≤ max_commands }
+    requires before { before ≤ 8 }
     ensures few { IfOk result (λ command. place < max_commands) }
     ensures ok { IfOk result (λ command. command_line line.now ≡ Some command) }
-    ensures line { IfErr result (λ fault. fault ≡ ScheduleFault.Line (place + header_lines + 1)) }
+    ensures line { IfErr result (λ fault. fault ≡ ScheduleFault.Line (place + before + 1)) }
     ensures err { IfErr result (λ fault. (max_commands ≤ place) ⊎ (command_line line.now ≡ None)) }
 {
-    let bad = ScheduleFault::Line(place as u32 + HEADER_LINES + 1);
+    let bad = ScheduleFault::Line(place as u32 + before + 1);
     if place >= MAX_COMMANDS {
         return Err(bad);
     }

@@ -1,134 +1,141 @@
-//! The header of a schedule: seven lines, which give the settings.
-ghost use Rattle.std.specs.Prelude.{◌≡◌, Ok, Err, Some, None, drop, min, IfOk, IfErr};
-ghost use Rattle.tko_model.specs.Ranges.{IsWithinRanges, first_fault};
-ghost use Rattle.tko_runs.specs.Headers.{HasHeaderLine, HasTitle, LacksHeaderLine, LacksTitle};
-ghost use Rattle.tko_runs.specs.Limits.{header_lines, max_field};
+//! The header of a schedule: the lines that give its version and its settings.
+ghost use Rattle.std.specs.Prelude.{◌≡◌, ◌-◌, Ok, drop, IfOk, IfErr};
 ghost use Rattle.tko_bytes.specs.Lines.{lines_of};
-ghost use Rattle.tko_runs.specs.Schedules.{header, header_number};
+ghost use Rattle.tko_runs.specs.Schedules.{IsFault, counts_in, groups_in, header, one_group_in, settings_in, with_groups};
+ghost use Rattle.tko_runs.specs.Versions.{header_lines};
 
-use crate::ScheduleFault;
-use std::marker::Model;
-use tko_bytes::{Fields, first_line, number};
-use tko_model::{Settings, SettingsFault};
+mod lines;
 
-/// The numbers of the header lines. Contracts see settings with these numbers, however large.
-#[derive(Drop)]
-pub(crate) struct Header {
-    servers: u64,
-    threads: u64,
-    failures: u64,
-    limit: u64,
-    tries: u64,
-    stamp: u64,
+use crate::schedule::header::lines::{header_list, header_number, in_field, title};
+use crate::{ScheduleFault, Version};
+use std::alloc::Global;
+use tko_model::{OneGroup, Settings};
+
+/// The settings that each version has in the same lines.
+#[derive(Clone, Copy)]
+pub(crate) struct Counts {
+    pub servers: u32,
+    pub threads: u32,
+    pub failures: u32,
 }
 
-impl Model for Header {
-    ghost use Rattle.tko_model.specs.declared.settings.Settings.{Settings};
-
-    ghost Value = { Settings };
-
-    ghost view = { λ h. record {
-      servers = h.servers;
-      threads = h.threads;
-      failures = h.failures;
-      limit = h.limit;
-      tries = h.tries;
-      opening_stamp = h.stamp;
-    } };
-}
-
-impl Header {
-    /// The header at the start of a text, and the rest of the text.
-    pub(crate) fn read(text: &[u8]) -> Result<(Header, &[u8]), ScheduleFault>
-        ensures ok { IfOk result (λ read. header (lines_of text.now) ≡ Ok read.0) }
-        ensures rest { IfOk result (λ read.
-            lines_of read.1.now ≡ drop header_lines (lines_of text.now)) }
-        ensures err { IfErr result (λ fault. header (lines_of text.now) ≡ Err fault) }
+impl Counts {
+    /// The settings with these groups.
+    fn with_groups(
+        self,
+        limits: Vec<u32>,
+        group_of: Vec<u32>,
+        tries: u32,
+        opening_stamp: u64,
+    ) -> Settings
+        ensures { result ≡ with_groups self limits.items group_of.items tries opening_stamp }
     {
-        let rest = title(text)?;
-        let (servers, rest) = header_line(2, b"servers", rest)?;
-        let (threads, rest) = header_line(3, b"threads", rest)?;
-        let (failures, rest) = header_line(4, b"failures", rest)?;
-        let (limit, rest) = header_line(5, b"limit", rest)?;
-        let (tries, rest) = header_line(6, b"tries", rest)?;
-        let (stamp, rest) = header_line(7, b"stamp", rest)?;
-        let header = Header {
-            servers,
-            threads,
-            failures,
-            limit,
+        Settings {
+            servers: self.servers,
+            threads: self.threads,
+            failures: self.failures,
+            limits,
+            group_of,
             tries,
-            stamp,
-        };
-        Ok((header, rest))
-    }
-
-    /// The settings, if each number is in its range. A number too large for its field is outside
-    /// the field's range.
-    pub(crate) fn settings(self) -> Result<Settings, SettingsFault>
-        ensures ok { IfOk result (λ settings. settings ≡ self) }
-        ensures ranges { IfOk result (λ settings. IsWithinRanges settings) }
-        ensures in_range { IfOk result (λ settings. first_fault self ≡ None) }
-        ensures err { IfErr result (λ fault. first_fault self ≡ Some fault) }
-    {
-        let settings = Settings {
-            servers: narrow(self.servers),
-            threads: narrow(self.threads),
-            failures: narrow(self.failures),
-            limit: narrow(self.limit),
-            tries: narrow(self.tries),
-            opening_stamp: self.stamp,
-        };
-        settings.check()?;
-        Ok(settings)
+            opening_stamp,
+        }
     }
 }
 
-/// The number, or the largest `u32` if it is larger.
-fn narrow(number: u64) -> u32
-    ensures { result ≡ min number max_field }
+/// The version and the settings of the header at the start of a text, and the rest of the text.
+/// The ranges of the settings are not checked.
+pub(crate) fn read_header(
+    alloc: Global,
+    text: &[u8],
+) -> Result<(Version, Settings, &[u8]), ScheduleFault>
+    ensures ok { IfOk result (λ read.
+        header (lines_of text.now) ≡ Ok (record { version = read.0; settings = read.1 })) }
+    ensures rest { IfOk result (λ read.
+        lines_of read.2.now ≡ drop (header_lines read.0) (lines_of text.now)) }
+    ensures err { IfErr result (λ fault. IsFault (header (lines_of text.now)) fault) }
 {
-    number.min(u64::from(u32::MAX)) as u32
+    let (version, rest) = title(text)?;
+    let (counts, rest) = read_counts(rest)?;
+    let (settings, rest) = read_settings(alloc, version, counts, rest)?;
+    Ok((version, settings, rest))
 }
 
-/// The text after its first line, which is always the same.
-fn title(text: &[u8]) -> Result<&[u8], ScheduleFault>
-    ensures ok { IfOk result (λ rest. HasTitle text.now rest.now) }
-    ensures err { IfErr result (λ fault. LacksTitle text.now fault) }
+/// The second line to the fourth.
+fn read_counts(text: &[u8]) -> Result<(Counts, &[u8]), ScheduleFault>
+    ensures ok { IfOk result (λ read. counts_in (lines_of text.now) ≡ Ok read.0) }
+    ensures rest { IfOk result (λ read. lines_of read.1.now ≡ drop 3 (lines_of text.now)) }
+    ensures err { IfErr result (λ fault. IsFault (counts_in (lines_of text.now)) fault) }
 {
-    if text.is_empty() {
-        return Err(ScheduleFault::Line(1));
-    }
-    let (line, rest) = first_line(text);
-    if line != b"schedule 1".as_slice() {
-        return Err(ScheduleFault::Line(1));
-    }
-    Ok(rest)
+    let (servers, rest) = header_number(2, b"servers", text)?;
+    let (threads, rest) = header_number(3, b"threads", rest)?;
+    let (failures, rest) = header_number(4, b"failures", rest)?;
+    let counts = Counts {
+        servers: in_field(servers),
+        threads: in_field(threads),
+        failures: in_field(failures),
+    };
+    Ok((counts, rest))
 }
 
-/// The number of the header line of this name at the start of a text, and the rest of the text.
-fn header_line<'a>(line: u32, name: &[u8], text: &'a [u8]) -> Result<(u64, &'a [u8]), ScheduleFault>
-    ensures ok { IfOk result (λ read. HasHeaderLine name.now text.now read.0 read.1.now) }
-    ensures err { IfErr result (λ fault. LacksHeaderLine line name.now text.now fault) }
+/// The lines after the fourth.
+fn read_settings<'a>(
+    alloc: Global,
+    version: Version,
+    counts: Counts,
+    text: &'a [u8],
+) -> Result<(Settings, &'a [u8]), ScheduleFault>
+    ensures ok { IfOk result (λ read. settings_in version counts (lines_of text.now) ≡ Ok read.0) }
+    ensures rest { IfOk result (λ read.
+        lines_of read.1.now ≡ drop (header_lines version - 4) (lines_of text.now)) }
+    ensures err { IfErr result (λ fault.
+        IsFault (settings_in version counts (lines_of text.now)) fault) }
 {
-    if text.is_empty() {
-        return Err(ScheduleFault::Line(line));
-    }
-    let (first, rest) = first_line(text);
-    match header_number(name, first) {
-        Some(number) => Ok((number, rest)),
-        None => Err(ScheduleFault::Line(line)),
+    match version {
+        Version::One => read_one_group(alloc, counts, text),
+        Version::Two => read_groups(alloc, counts, text),
+        Version::Three => read_groups(alloc, counts, text),
     }
 }
 
-/// The number of a line `<name> <number>`.
-fn header_number(name: &[u8], line: &[u8]) -> Option<u64>
-    ensures { result ≡ header_number name.now line.now }
+/// The lines of the first version.
+fn read_one_group<'a>(
+    alloc: Global,
+    counts: Counts,
+    text: &'a [u8],
+) -> Result<(Settings, &'a [u8]), ScheduleFault>
+    ensures ok { IfOk result (λ read. one_group_in counts (lines_of text.now) ≡ Ok read.0) }
+    ensures rest { IfOk result (λ read. lines_of read.1.now ≡ drop 3 (lines_of text.now)) }
+    ensures err { IfErr result (λ fault. IsFault (one_group_in counts (lines_of text.now)) fault) }
 {
-    let mut fields = Fields::of(line);
-    let (word, value) = (fields.next()?, fields.next()?);
-    if fields.next().is_some() || word != name {
-        return None;
-    }
-    number(value, u64::MAX)
+    let (limit, rest) = header_number(5, b"limit", text)?;
+    let (tries, rest) = header_number(6, b"tries", rest)?;
+    let (stamp, rest) = header_number(7, b"stamp", rest)?;
+    let group = OneGroup {
+        servers: counts.servers,
+        threads: counts.threads,
+        failures: counts.failures,
+        limit: in_field(limit),
+        tries: in_field(tries),
+        opening_stamp: stamp,
+    };
+    let settings = group.settings(alloc)?;
+    Ok((settings, rest))
+}
+
+/// Those of the other versions.
+fn read_groups<'a>(
+    alloc: Global,
+    counts: Counts,
+    text: &'a [u8],
+) -> Result<(Settings, &'a [u8]), ScheduleFault>
+    ensures ok { IfOk result (λ read. groups_in counts (lines_of text.now) ≡ Ok read.0) }
+    ensures rest { IfOk result (λ read. lines_of read.1.now ≡ drop 4 (lines_of text.now)) }
+    ensures err { IfErr result (λ fault. IsFault (groups_in counts (lines_of text.now)) fault) }
+{
+    let (limits, rest) = header_list(alloc, 5, b"limits", text)?;
+    let (groups, rest) = header_list(alloc, 6, b"groups", rest)?;
+    let (tries, rest) = header_number(7, b"tries", rest)?;
+    let (stamp, rest) = header_number(8, b"stamp", rest)?;
+    let settings = counts.with_groups(limits, groups, in_field(tries), stamp);
+    Ok((settings, rest))
 }

@@ -22,12 +22,12 @@ use tko_health::SharedSeating;
 use tko_io::{Stop, Taped};
 use tko_links::{IoRuntime, Scripted};
 use tko_metrics::WorkerMeter;
-use tko_model::{Mark, Settings};
+use tko_model::{Mark, OneGroup};
 use tko_pools::Config;
 use tko_tracker::{IdlePass, Named, Tracker, close, open};
 
 /// Two servers and three threads.
-const THREE: Settings = Settings {
+const THREE: OneGroup = OneGroup {
     servers: 2,
     threads: 3,
     ..SETTINGS
@@ -238,7 +238,7 @@ fn meet_and_close<
 #[test]
 fn workers_without_a_client_give_their_passes_back(rt: HostRuntime) -> Result<(), Fail> {
     let _sockets: Option<(TcpStream, TcpListener)> = None;
-    let (tracker, passes) = open(rt.alloc(), THREE)?;
+    let (tracker, passes) = open(rt.alloc(), THREE.settings(rt.alloc())?)?;
     let ends = [None, None, None];
     let (report, marks) = meet_and_close::<_, Brand>(&rt, rt.alloc(), tracker, passes, &ends)?;
     assert_eq!(rt; (report.sessions, report.faults), (0, 0));
@@ -252,7 +252,7 @@ fn workers_whose_sessions_end_by_faults_give_their_passes_back(
     rt: HostRuntime,
 ) -> Result<(), Fail> {
     let _sockets: Option<(TcpStream, TcpListener)> = None;
-    let (tracker, passes) = open(rt.alloc(), THREE)?;
+    let (tracker, passes) = open(rt.alloc(), THREE.settings(rt.alloc())?)?;
     let ends = [Some(End::Read), Some(End::Write), Some(End::Memory)];
     let (report, marks) = meet_and_close::<_, Brand>(&rt, rt.alloc(), tracker, passes, &ends)?;
     let expected = WorkerReport {

@@ -153,7 +153,7 @@ fn run_both_at<
 #[test]
 fn workers_overlap(rt: HostRuntime) -> Result<(), Fail> {
     let _sockets: Option<(TcpStream, TcpListener)> = None;
-    let (tracker, passes) = open(rt.alloc(), SETTINGS)?;
+    let (tracker, passes) = open(rt.alloc(), SETTINGS.settings(rt.alloc())?)?;
     let ended = run_both_at::<_, Brand>(&rt, rt.alloc(), &tracker, passes)?;
     assert_eq!(rt; ended.workers, 2);
     assert!(rt; !ended.late);
@@ -164,7 +164,7 @@ fn workers_overlap(rt: HostRuntime) -> Result<(), Fail> {
 #[test]
 fn workers_in_a_lock_overlap(rt: HostRuntime) -> Result<(), Fail> {
     let _sockets: Option<(TcpStream, TcpListener)> = None;
-    let (seating, seats) = LockedSeating::<Two>::open(rt.alloc(), SETTINGS)?;
+    let (seating, seats) = LockedSeating::<Two>::open(rt.alloc(), SETTINGS.settings(rt.alloc())?)?;
     let ended = run_both(&rt, rt.alloc(), seating, seats)?;
     assert_eq!(rt; (ended.workers, ended.late), (2, false));
     assert_eq!(rt; ended.text.as_slice(), b"END\r\nEND\r\n".as_slice());

@@ -13,7 +13,7 @@ use std::time::{Clock, Duration};
 use std::{io, thread};
 use tko_counts::Kind;
 use tko_desk::Totals;
-use tko_model::Settings;
+use tko_model::OneGroup;
 
 const PATIENCE: Patience = Patience {
     write_timeout: 5_000,
@@ -53,10 +53,11 @@ fn ask<R: Net<Stream = TcpStream>>(
 fn options(alloc: Global, port: u16) -> Result<Options, Fail> {
     Ok(Options {
         config: config(alloc, format!(in alloc; "127.0.0.1:{port}")?.as_str())?,
-        settings: Settings {
+        settings: OneGroup {
             threads: 1,
             ..SETTINGS
-        },
+        }
+        .settings(alloc)?,
         delays: delays()?,
         timeout: 1_000,
         patience: PATIENCE,

@@ -95,7 +95,7 @@ fn work_in_lock<R: Wait + Net<Stream = TcpStream> + Clock>(
     alloc: Global,
     case: Case<'_>,
 ) -> Result<Left, Fail> {
-    let (seating, mut seats) = LockedSeating::<Two>::open(alloc, SETTINGS)?;
+    let (seating, mut seats) = LockedSeating::<Two>::open(alloc, SETTINGS.settings(alloc)?)?;
     let seat = seats.pop().ok_or("a seat")?;
     work(rt, alloc, seating, seat, case)
 }
@@ -106,7 +106,7 @@ fn work_without_lock<R: Wait + Net<Stream = TcpStream> + Clock>(
     alloc: Global,
     case: Case<'_>,
 ) -> Result<Left, Fail> {
-    let (tracker, passes) = open(alloc, SETTINGS)?;
+    let (tracker, passes) = open(alloc, SETTINGS.settings(alloc)?)?;
     work_at::<R, Brand>(rt, alloc, &tracker, passes, case)
 }
 

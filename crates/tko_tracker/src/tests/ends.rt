@@ -10,11 +10,11 @@ use crate::{Pass, Tracker, close, open, wake};
 use std::alloc::Global;
 use std::process::Abort;
 use std::test::Fail;
-use tko_model::{Mark, Op, Reply, Settings};
+use tko_model::{Mark, OneGroup, Op, Reply};
 use tko_steps::{Call, Decision, Phase, next};
 use tko_table::{Seat, Words};
 
-const SETTINGS: Settings = Settings {
+const SETTINGS: OneGroup = OneGroup {
     servers: 2,
     threads: 2,
     failures: 1,
@@ -110,7 +110,7 @@ fn endings() -> [Ending; 14] {
 
 /// The last pass is not enough to close the tracker.
 fn end(rt: &impl Abort, alloc: Global, ending: &Ending) -> Result<(), Fail> {
-    let (tracker, passes) = open(alloc, SETTINGS)?;
+    let (tracker, passes) = open(alloc, SETTINGS.settings(alloc)?)?;
     let (mut first, mut second) = last_two(&tracker, passes).expect(rt, "two passes");
     if let Some(op) = ending.before {
         let _ = reply(&tracker, &mut first, op, 0);
@@ -158,7 +158,7 @@ fn find_mark(rt: &impl Abort, tracker: &Tracker, pass: &mut Pass, mark: Mark)
 
 /// A pass is dropped while its thread owns server 0, and another thread makes calls.
 fn drop_owner(rt: &impl Abort, alloc: Global, op: Op, took: Reply, mark: Mark) -> Result<(), Fail> {
-    let (tracker, passes) = open(alloc, SETTINGS)?;
+    let (tracker, passes) = open(alloc, SETTINGS.settings(alloc)?)?;
     let (mut first, mut second) = last_two(&tracker, passes).expect(rt, "two passes");
     assert_eq!(rt; reply(&tracker, &mut first, op, 0), took);
     drop(first);

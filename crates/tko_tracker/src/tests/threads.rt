@@ -7,9 +7,9 @@ use crate::{IdlePass, Tracker, close, open, wake};
 use std::process::Abort;
 use std::test::Fail;
 use std::thread::{Threads, join};
-use tko_model::{Op, Reply, Settings};
+use tko_model::{OneGroup, Op, Reply};
 
-const SETTINGS: Settings = Settings {
+const SETTINGS: OneGroup = OneGroup {
     servers: 2,
     threads: 4,
     failures: 2,
@@ -114,7 +114,7 @@ fn last_pass(rt: &impl Abort, tracker: &Tracker, passes: &mut Vec<IdlePass>) -> 
 
 #[test]
 fn stamps_count_the_changes_of_four_threads(rt: HostRuntime) -> Result<(), Fail> {
-    let (tracker, mut passes) = open(rt.alloc(), SETTINGS)?;
+    let (tracker, mut passes) = open(rt.alloc(), SETTINGS.settings(rt.alloc())?)?;
     let fourth = last_pass(&rt, &tracker, &mut passes);
     let third = last_pass(&rt, &tracker, &mut passes);
     let second = last_pass(&rt, &tracker, &mut passes);
@@ -125,6 +125,7 @@ fn stamps_count_the_changes_of_four_threads(rt: HostRuntime) -> Result<(), Fail>
         panic!(rt; "a pass is missing")
     };
     assert_eq!(rt; last.stamp(0).wrapping_add(last.stamp(1)), changes);
-    assert_eq!(rt; last.soft(), (0, 0));
+    assert!(rt; last.groups() == 1);
+    assert_eq!(rt; last.soft(0), (0, 0));
     Ok(())
 }

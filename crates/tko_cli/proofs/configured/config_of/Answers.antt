@@ -8,4 +8,5 @@ returns-in_err-check-in-None-clause-err c =
     let p = err_from_is_err_and c.from_residual-in_err-check-in-None.result c.from_residual-in_err-check-in-None.ensures.1 in
     let first = (c.in_err-check-in-None.ensures.err c.in_err-check-in-None.field-0.0).0 refl in
     rw (p.1, p.2)
-    (unset c.args.options.now c.in_err-check-in-None.field-0.0 c.in-None.is (rw c.settings.ensures at first))
+    (unset c.args.options.now c.in_err-check-in-None.field-0.0 c.in-None.is
+    (rw c.settings.ensures at (rw c.in_ok-settings-in-None.ensures at first)))

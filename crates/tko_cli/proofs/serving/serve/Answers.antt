@@ -41,6 +41,11 @@ returns-clause-ok g c =
     c.write_text-2.new.outlet c.in_ok-ended.ended.totals.counts c.in_ok-plan.ensures.ok c.in_ok-write_text.ensures.ok
     (rw c.in_ok-lines.ensures at (rw c.deref.ensures.value at c.in_ok-write_text-2.ensures.ok))
 
+pub returns-in_err-write_text-2-clause-err : goal.returns-in_err-write_text-2-clause-err
+returns-in_err-write_text-2-clause-err g c =
+    let p = err_from_is_err_and c.from_residual-in_err-write_text-2.result c.from_residual-in_err-write_text-2.ensures.1 in
+    rw (p.1, p.2) (rw c.in_ok-write_text.ensures.calm at c.in_err-write_text-2.ensures.err)
+
 pub returns-in_err-lines-clause-told : goal.returns-in_err-lines-clause-told
 returns-in_err-lines-clause-told g c =
     on_err c.from_residual-in_err-lines.result (Begun (Ready c.in_ok-write_text.ensures.ok)

@@ -3,9 +3,9 @@
 use std::alloc::Global;
 use std::process::Abort;
 use std::test::Fail;
-use tko_model::{Mark, Op, Plain, Reply, Settings};
+use tko_model::{Mark, OneGroup, Op, Plain, Reply};
 
-pub(super) const SETTINGS: Settings = Settings {
+pub(super) const SETTINGS: OneGroup = OneGroup {
     servers: 2,
     threads: 1,
     failures: 2,
@@ -75,7 +75,7 @@ fn release_all(rt: &impl Abort, plain: &mut Plain) {
 /// What the sequential tracker does: the calls, and before the one at this place, and after the
 /// last, a release of each mark.
 pub(super) fn plan_of(rt: &impl Abort, alloc: Global, cut: usize) -> Result<Plan, Fail> {
-    let mut plain = Plain::open(alloc, SETTINGS)?;
+    let mut plain = Plain::open(alloc, SETTINGS.settings(alloc)?)?;
     let mut replies = [Reply::Contended; COUNT];
     for place in 0..COUNT {
         if place == cut {

@@ -6,7 +6,7 @@ use Rattle.tko_runs.proofs.printing.append_events.Given as goal
 -- one step
 abbrev pub invariant-loop-event : goal.invariant-loop-event
 invariant-loop-event l =
-    (l.out.items ++ events_text l.number (drop l.event-index l.events)
-    ≡ l.initial.out.items ++ events_text l.initial.number l.events)
+    (l.out.items ++ events_text l.version l.number (drop l.event-index l.events)
+    ≡ l.initial.out.items ++ events_text l.version l.initial.number l.events)
     × (number_behind l.number (drop l.event-index l.events) ≡ number_behind l.initial.number l.events)
     × (l.number ≤ l.initial.number + l.event-index)

@@ -6,7 +6,7 @@ pub loop-skip-preserved : goal.loop-skip-preserved
 loop-skip-preserved c =
     let cut = c.split_at.ensures in (
       told_turn
-          _ _ _ c.loop-skip.number c.loop-skip.place _ c.loop-skip.rest.now c.split_at.result.0.now _
+          c.args.version _ _ _ c.loop-skip.number c.loop-skip.place _ c.loop-skip.rest.now c.split_at.result.0.now _
           c.loop-skip.out.items c.append_events.new.out.items _ _
           c.loop-skip-test.true
           (omega arith)

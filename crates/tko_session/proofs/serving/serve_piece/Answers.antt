@@ -8,7 +8,7 @@ pub returns-in_err-take-clause-ends : goal.returns-in_err-take-clause-ends
 returns-in_err-take-clause-ends g c =
     let p = err_from_is_err_and c.from_residual.result c.from_residual.ensures.1 in
     rw (p.1, p.2) (not_taken c.in_err-take.field-0.0 (λ is. c.requires.reads (c.in_err-take.ensures.failed.0 (ap Err is)))
-    (not_delivered _ _ c.args.parts.now c.args.writer.now c.args.written.now (g.met.O.Outlet.nothing c.args.writer.now) c.requires.owes) refl)
+    (not_delivered _ _ c.args.parts.now c.args.writer.now c.args.written.now (g.met.O.Outlet.nothing c.args.writer.now) c.requires.outbox c.requires.owes) refl)
 
 pub loop-init : goal.loop-init
 loop-init g c =

@@ -15,7 +15,7 @@ use Rattle.tko_steps.proofs.NumberLemmas.{Numbers-run}
 use Rattle.tko_steps.proofs.OwnerLemmas.{OwnersAnswers-run}
 use Rattle.tko_steps.proofs.RunLemmas.{CountSlots-core, HasOneResponsible-core, Holds-run, OwnsItsMarks-world}
 use Rattle.std.proofs.Common.{subst}
-use Rattle.tko_model.specs.declared.settings.Settings.{Settings}
+use Rattle.tko_model.specs.Settings.{Settings}
 use Rattle.tko_steps.specs.Safe.{AreWithinLimits}
 use Rattle.tko_steps.specs.Core.{abstract_of}
 use Rattle.tko_steps.proofs.law.every_run.Goals as goal

@@ -1,4 +1,5 @@
-use Rattle.std.proofs.Common.{◌+◌, ◌≤◌, ◌∙◌, arith, subst, sym}
+use Rattle.std.proofs.Common.{◌+◌, ◌≤◌, ◌∙◌, ap, arith, subst, sym}
+use Rattle.tko_table.specs.declared.words.Words.{Words}
 use Rattle.tko_tracker.specs.Seated.{tracker_of}
 use Rattle.tko_tracker.proofs.RetireLemmas.{IsReleased, released-all, released-next, released-skip}
 use Rattle.tko_tracker.proofs.calls.release_all.Goals.{then-owns, else-owns}
@@ -24,5 +25,6 @@ returns c =
     let tracker = tracker_of c.args.words.now in
     let at = c.loop-server in
     released-all tracker c.args.pass.now at.pass at.server c.number.result at.invariant
-    (let all : tracker.settings.servers ≤ at.server = omega (arith, c.loop-server-test.false) in all)
+    (let servers = ap (λ (it : Words). it.settings.servers) c.words.view_is in
+    let all : tracker.settings.servers ≤ at.server = omega (arith, servers, c.loop-server-test.false) in all)
     c.number.ensures.below c.number.ensures.number

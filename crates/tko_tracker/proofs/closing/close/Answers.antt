@@ -1,7 +1,6 @@
-use Rattle.std.proofs.Common.{rules, ◌<◌, ◌∙◌, arith, subst, sym}
+use Rattle.std.proofs.Common.{rules, ◌<◌, ◌∙◌, subst}
 use Rattle.tko_model.specs.Groups.{groups}
-use Rattle.tko_model.specs.declared.settings.Settings.{Settings}
-use Rattle.tko_model.proofs.GroupLemmas.{group_of-lt}
+use Rattle.tko_model.specs.Settings.{Settings}
 use Rattle.tko_table.specs.Steps.{view_of}
 use Rattle.tko_tracker.specs.Closing.{HoldsEachOnce, IsFinal}
 use Rattle.tko_tracker.specs.Seated.{TrackerId, tracker_of}
@@ -25,9 +24,5 @@ returns c =
 
 pub invariant_of-result : goal.invariant_of-result
 invariant_of-result c =
-    let words = c.tracker.inside.words in
     let same = c.close.ensures.settings in
-    let some : 0 < groups words.settings = omega (arith, group_of-lt words.settings 0 words.ranges) in (
-      λ group below. c.close.ensures.left.free group (subst (λ (it : Settings). group < groups it) same below),
-      (subst (λ (it : Settings). 0 < groups it) (sym same) some, tt),
-    )
+    (λ group below. c.close.ensures.left.free group (subst (λ (it : Settings). group < groups it) same below), tt)

@@ -1,7 +1,9 @@
-use Rattle.std.proofs.Common.{◌≡◌, ◌∷◌, ◌∙◌, rules}
+use Rattle.std.proofs.Common.{◌≡◌, ◌∷◌, ◌∙◌, ap, rules, subst}
+use Rattle.std.specs.List.{All}
+use Rattle.std.proofs.lemmas.List.Elements.{All-head}
 use Rattle.std.specs.Vec.Iter.{into_iter_items}
 use Rattle.tko_table.specs.Steps.{view_of}
-use Rattle.tko_tracker.specs.Seated.{tracker_of}
+use Rattle.tko_tracker.specs.Seated.{IsOf, Seated, tracker_of}
 use Rattle.tko_tracker.proofs.ClosingLemmas.{gathered-start, gathered-step}
 use Rattle.tko_tracker.proofs.closing.joined.Goals as goal
 
@@ -17,3 +19,8 @@ loop-pass-preserved c =
     let step = gathered-step (tracker_of c.args.words.now) c.args.passes.items _ _ (view_of c.loop-pass.seat) (view_of c.join.new.seat)
     c.pass.inside.number c.pass.inside.seat c.in-Some-pass.pass i.2 c.pass.invariant c.pass.view_is c.in-Some-pass.ensures.steps.0
     c.join.ensures.both i.4 in (tt, tt, step.0, c.join.ensures.seat.0 ∙ i.3, step.1)
+
+pub join-requires-clause-other : goal.join-requires-clause-other
+join-requires-clause-other c =
+    let of_left = subst (All (IsOf (tracker_of c.args.words.now))) c.in-Some-pass.ensures.steps.0 c.loop-pass.invariant.4 in
+    ap (λ (it : Seated). it.table) c.pass.view_is ∙ (All-head (IsOf (tracker_of c.args.words.now)) c.in-Some-pass.pass _ of_left).table

@@ -1,5 +1,4 @@
-use Rattle.std.proofs.Common.{◌<◌, All, refl, subst}
-use Rattle.tko_model.specs.declared.settings.Settings.{Settings}
+use Rattle.std.proofs.Common.{refl}
 use Rattle.tko_health.proofs.SeatingLemmas.{all_below, same_error}
 use Rattle.tko_health.proofs.locked_seating.LockedSeating.open.Goals as goal
 
@@ -10,6 +9,17 @@ returns-in-Err-clause-settings g c = λ fault.
 
 pub returns-in-Ok-idle_seats-clause-own : goal.returns-in-Ok-idle_seats-clause-own
 returns-in-Ok-idle_seats-clause-own g c =
-    let seats = c.in-Ok-idle_seats.seats.items in
-    let P : Settings → Type 0 = λ s. All (λ x. x < s.threads) seats in
-    subst P c.requires (all_below c.args.settings.threads seats c.in-Ok-idle_seats.ensures)
+    all_below g.S.TrackerSettings.settings.threads c.in-Ok-idle_seats.seats.items c.in-Ok-idle_seats.ensures
+
+-- where the tracker opens, there is no fault of the settings
+pub returns-in-Ok-idle_seats-clause-settings : goal.returns-in-Ok-idle_seats-clause-settings
+returns-in-Ok-idle_seats-clause-settings g c = λ fault. (
+  λ e. absurd (cc e),
+  λ h. absurd (cc ((c.open.ensures.settings fault).1 h, c.in-Ok.is)),
+)
+
+pub returns-in-Err-idle_seats-clause-settings : goal.returns-in-Err-idle_seats-clause-settings
+returns-in-Err-idle_seats-clause-settings g c = λ fault. (
+  λ e. absurd (cc e),
+  λ h. absurd (cc ((c.open.ensures.settings fault).1 h, c.in-Ok.is)),
+)

@@ -1,5 +1,5 @@
 use Rattle.std.proofs.Common.{◌≡◌, List, reverse, take}
-use Rattle.tko_model.specs.declared.settings.Settings.{Settings}
+use Rattle.tko_model.specs.Settings.{Settings}
 use Rattle.tko_runs.specs.Effects.{AreEffects}
 use Rattle.tko_runs.specs.Points.{IsSoFar}
 use Rattle.tko_steps.specs.Runs.{Call, OwnStep}

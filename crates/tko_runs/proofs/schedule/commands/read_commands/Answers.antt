@@ -9,7 +9,7 @@ returns-in_err-command-clause-err c =
     let len : c.len.result ≡ length c.loop-rest.commands.items = search rules in
     let so_far = rw c.first_line.ensures.lines at c.loop-rest.invariant in
     rw (p.1, p.2, c.in_err-command.ensures.line, len)
-    (inr (has_read-bad _ _ _ _ so_far (rw len at c.in_err-command.ensures.err)))
+    (inr (has_read-bad c.args.before _ _ _ _ so_far (rw len at c.in_err-command.ensures.err)))
 
 pub loop-rest-preserved : goal.loop-rest-preserved
 loop-rest-preserved c =
@@ -20,4 +20,4 @@ loop-rest-preserved c =
 
 pub returns-clause-ok : goal.returns-clause-ok
 returns-clause-ok c =
-    has_read-all _ _ (rw (lines_of-empty c.loop-rest.rest.now (grind arith)) at c.loop-rest.invariant)
+    has_read-all c.args.before _ _ (rw (lines_of-empty c.loop-rest.rest.now (grind arith)) at c.loop-rest.invariant)

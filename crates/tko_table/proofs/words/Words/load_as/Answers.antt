@@ -1,5 +1,5 @@
 use Rattle.std.proofs.Common.{◌<◌, ◌∙◌, arith, subst, sym}
-use Rattle.tko_model.specs.declared.settings.Settings.{Settings}
+use Rattle.tko_model.specs.Settings.{Settings}
 use Rattle.tko_table.proofs.ValueLemmas.{allows-look_at}
 use Rattle.tko_table.specs.Steps.{Looked}
 use Rattle.tko_table.proofs.words.Words.load_as.Goals as goal

@@ -25,3 +25,18 @@ returns-in_err-words-clause-settings c = λ fault.
           let same : c.in_err-words.field-0.0 ≡ OpenFault.Settings fault = cc (c.in_err-words.was, is) in
           p.1 ∙ ap Err (p.2 ∙ same)),
     )
+
+-- where the words open, there is no fault of the settings
+pub returns-in_err-seats-clause-settings : goal.returns-in_err-seats-clause-settings
+returns-in_err-seats-clause-settings c =
+    let p = err_from_is_err_and c.from_residual-in_err-seats.result c.from_residual-in_err-seats.ensures.1 in
+    λ fault. (
+      λ e. absurd (cc (e, p.1, p.2)),
+      λ h. absurd (cc ((c.whole.ensures.settings fault).1 h, c.in_ok-words.was)),
+    )
+
+pub returns-clause-settings : goal.returns-clause-settings
+returns-clause-settings c = λ fault. (
+  λ e. absurd (cc e),
+  λ h. absurd (cc ((c.whole.ensures.settings fault).1 h, c.in_ok-words.was)),
+)

@@ -1,6 +1,0 @@
-use Rattle.std.proofs.Common.{rules}
-use Rattle.tko_runs.proofs.HeaderLemmas.{lacks_header_line-empty}
-use Rattle.tko_runs.proofs.schedule.header.header_line.Goals as goal
-
-pub returns-then-is_empty-clause-err : goal.returns-then-is_empty-clause-err
-returns-then-is_empty-clause-err c = lacks_header_line-empty c.args.line c.args.name.now c.args.text.now (search rules)
