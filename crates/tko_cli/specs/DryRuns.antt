@@ -96,7 +96,8 @@ pub record IsOutside (options : DryOptions) (name : SettingsFault) : Type 0 wher
   pub asked : AllAsk (words_in options) scripts
   pub config : Configuration
   pub configured : IsConfigured options config
-  pub first : first_fault (in_one_group (dry_settings options (length config.addresses))) ≡ Some name
+  pub first :
+      first_fault (in_one_group (dry_settings options (length config.addresses))) ≡ Some name
 
 -- the number of sends to a server
 abbrev pub sends_of : ScriptedState → ℕ → ℕ

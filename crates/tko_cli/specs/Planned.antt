@@ -59,8 +59,8 @@ pub record IsFlawedPlan (options : ServeOptions) (cause : ConfigFault) : Type 0 
   pub refuses : Refuses (string_bytes options.config) cause
   pub reason : fault_of_config cause ≡ fault.Config cause
 
--- the JSON is a configuration, and this setting is the first one outside its range, whether the limit
--- is one that a group has or not
+-- the JSON is a configuration, and this setting is the first one outside its range, whether the
+-- limit is one that a group has or not
 pub record IsUnsetPlan (options : ServeOptions) (name : SettingsFault) : Type 0 where
   pub config : Configuration
   pub means : Means (string_bytes options.config) config

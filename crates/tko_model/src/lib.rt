@@ -1,8 +1,8 @@
 //! The words that every other crate uses, and the sequential tracker.
 //!
-//! - `Settings`: how many servers and threads there are, when a server is marked, and in what groups
-//!   soft marks are limited. `OneGroup`: settings without groups. `Layout`: how high the numbers of
-//!   threads and failures may be.
+//! - `Settings`: how many servers and threads there are, when a server is marked, and in what
+//!   groups soft marks are limited. `OneGroup`: settings without groups. `Layout`: how high the
+//!   numbers of threads and failures may be.
 //! - `Mark`: what is known of a server's health, and which thread marked it.
 //! - `Op` and `Reply`: the operations of a tracker, and its replies.
 //! - `Transition`: what an operation answers and changes, decided for one server.

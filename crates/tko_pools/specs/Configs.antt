@@ -120,7 +120,8 @@ pub record AreGroups (config : Configuration) : Type 0 where
   pub within : All (λ group. group < length config.soft_limits) config.groups
   pub small : All (λ limit. IfSome limit (λ n. n ≤ max_soft_limit)) config.soft_limits
 
--- each child has a server, each number is below the number of addresses, and the servers have groups
+-- each child has a server, each number is below the number of addresses, and the servers have
+-- groups
 pub record IsSound (config : Configuration) : Type 0 where
   pub children : All (λ child. 0 < length child) config.children
   pub numbers :
