@@ -11,7 +11,7 @@ use Rattle.tko_links.specs.Scripted.{ScriptedState, IsPlayed}
 use Rattle.tko_prober.specs.declared.delays.Delays.{Delays}
 use Rattle.tko_backend.specs.declared.clock.FrozenClock.{FrozenClock}
 use Rattle.tko_answer.specs.declared.parts.Parts.{Parts}
-use Rattle.tko_session.specs.declared.session.Report.{Report}
+use Rattle.tko_session.specs.declared.step.Report.{Report}
 use Rattle.tko_io.specs.declared.io.Inlet.{Ghosts as InletGhosts}
 use Rattle.tko_io.specs.declared.io.Outlet.{Ghosts as OutletGhosts}
 use Rattle.tko_session.specs.Turns.{IsRequestCut}

@@ -1,3 +1,4 @@
+mod DrivenLemmas
 mod EventLemmas
 mod ServedLemmas
 mod TextFacts

@@ -18,9 +18,9 @@ use Rattle.tko_text.proofs.GivesLemmas.{Gives-append, Gives-fed, Gives-none}
 use Rattle.tko_text.proofs.ReadingLemmas.{NeedsMore-failed}
 use Rattle.tko_session.specs.declared.fault.SessionFault.{SessionFault}
 use Rattle.tko_session.specs.declared.fault.SessionFault.TheVariants as fault
-use Rattle.tko_session.specs.declared.session.Progress.{Progress}
-use Rattle.tko_session.specs.declared.session.Progress.TheVariants.{More, NeedsInput, LineTooLong, Quit}
-use Rattle.tko_session.specs.declared.session.Report.{Report}
+use Rattle.tko_session.specs.declared.step.Progress.{Progress}
+use Rattle.tko_session.specs.declared.step.Progress.TheVariants.{More, NeedsInput, LineTooLong, Quit}
+use Rattle.tko_session.specs.declared.step.Report.{Report}
 use Rattle.tko_io.specs.Io.{Writes, capped}
 use Rattle.tko_io.proofs.WriteLemmas.{writes_append, writes_none}
 use Rattle.tko_session.specs.Effects.{effects}

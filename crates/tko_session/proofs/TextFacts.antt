@@ -1,5 +1,5 @@
 -- Before any byte no item is decided, and where no item is a line too long reading goes on.
-use Rattle.std.proofs.Common.{◌≡◌, ◌≢◌, ℕ, List, [], ◌∷◌, sym, ap, ◌∙◌, arith}
+use Rattle.std.proofs.Common.{◌≢◌, ℕ, List, [], ◌∷◌, sym, ap, ◌∙◌, arith}
 use Rattle.std.proofs.lemmas.List.Elements.{All-head, All-tail}
 use Rattle.tko_text.specs.declared.item.Item.{Item}
 use Rattle.tko_text.specs.Reading.{EmitsEach, Gives, NeedsMore, Never, Reading, fed, start}

@@ -27,9 +27,9 @@ use Rattle.tko_session.specs.Effects.{effects}
 use Rattle.tko_session.specs.Events.{Answer, Effects, Event, IdleRound, IsRun, NoneRun, RoundAfter, Rounded, turns_of}
 use Rattle.tko_backend.specs.Round.{probes_in, ran_out}
 use Rattle.tko_session.specs.Turns.{Turn, is_request}
-use Rattle.tko_session.specs.declared.session.Progress.{Progress}
-use Rattle.tko_session.specs.declared.session.Progress.TheVariants.{More, NeedsInput}
-use Rattle.tko_session.specs.declared.session.Progress.TheVariants as progress
+use Rattle.tko_session.specs.declared.step.Progress.{Progress}
+use Rattle.tko_session.specs.declared.step.Progress.TheVariants.{More, NeedsInput}
+use Rattle.tko_session.specs.declared.step.Progress.TheVariants as progress
 use Rattle.tko_io.specs.Io.{capped}
 use Rattle.tko_io.proofs.WriteLemmas.{capped-more}
 use Rattle.tko_answer.specs.Replies.{reply_bound, sends_to}

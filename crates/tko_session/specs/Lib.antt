@@ -1,3 +1,4 @@
+pub mod Driven
 pub mod Effects
 pub mod Ends
 pub mod Events

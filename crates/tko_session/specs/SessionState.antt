@@ -13,8 +13,10 @@ use Rattle.tko_health.specs.declared.health.Health.{Ghosts as HealthGhosts}
 use Rattle.tko_links.specs.declared.links.Links.{Ghosts as LinksGhosts}
 use Rattle.tko_answer.specs.declared.parts.Parts.{Parts}
 use Rattle.tko_answer.specs.declared.trails.Trails.{Ghosts as TrailsGhosts}
-use Rattle.tko_session.specs.declared.session.Progress.{Progress}
-use Rattle.tko_session.specs.declared.session.Progress.TheVariants as progress
+use Rattle.tko_session.specs.declared.step.Progress.{Progress}
+use Rattle.tko_session.specs.declared.step.Progress.TheVariants as progress
+use Rattle.tko_session.specs.declared.step.Work.{Work}
+use Rattle.tko_session.specs.declared.step.Work.TheVariants as work
 use Rattle.tko_session.specs.Events.{Effects, Event, NoneShort, idle_rounds, owed_after, turns_of, visits_of}
 use Rattle.tko_io.specs.Io.{capped}
 use Rattle.tko_answer.specs.Replies.{RoutedKey, reply_bound, sends_to, trails_in}
@@ -22,12 +24,16 @@ use Rattle.tko_backend.specs.Round.{probes_in}
 use Rattle.tko_session.specs.Turns.{Turn, Becomes, is_request}
 
 -- how far the input was read, the replies that wait to be written, the number of requests, and
--- whether the round after the last request is still to be run
+-- whether the round after the last request is still to be run; and, while a request is answered,
+-- how far that came, where its reply begins, and the targets of its key
 pub record SessionState : Type 0 where
   pub reading : Reading
   pub outbox : List ℕ
   pub requests : ℕ
   pub owes : Bool
+  pub work : Work
+  pub begin : ℕ
+  pub targets : List ℕ
 
 -- a session at a moment, and the parts that it works on
 pub record Snapshot (W : Type 0) : Type 0 where
@@ -39,7 +45,15 @@ snapshot state parts = record { state = state; parts = parts }
 
 -- a session that has read nothing
 abbrev pub fresh : SessionState
-fresh = record { reading = start; outbox = []; requests = 0; owes = false }
+fresh = record {
+  reading = start;
+  outbox = [];
+  requests = 0;
+  owes = false;
+  work = work.Between;
+  begin = 0;
+  targets = [];
+}
 
 -- the same after these bytes came
 abbrev pub fed_state : SessionState → List ℕ → SessionState

@@ -1,57 +1,37 @@
-//! One client's session between two pieces of its input.
-ghost use Rattle.std.specs.Prelude.{◌≡◌, ◌≢◌, ◌≤◌, ◌<◌, ◌↔◌, ◌++◌, [], false, true, Ok, OnOk, OnErr, IfOk, IfSome, IfNone, IsErrOf, is_err, length};
-ghost use Rattle.std.specs.Option.{option_copied};
-ghost use Rattle.tko_text.specs.Reading.{Emits, NeedsMore, Never, fed};
+//! One client's session as a value that is driven: bytes in, requests to be sent out, what came of
+//! each in, replies out. It sends and waits for nothing itself.
+ghost use Rattle.std.specs.Prelude.{◌≡◌, ◌≢◌, ◌≤◌, ◌↔◌, ◌++◌, false, IfNone, IfOk, IfSome, IsErrOf, IsTrue, OnErr, OnOk, drop, length};
+ghost use Rattle.tko_text.specs.Reading.{Emits, NeedsMore, Never};
 ghost use Rattle.tko_text.specs.Requests.{fault_text};
-ghost use Rattle.tko_session.specs.Turns.{IsRequestCut};
-ghost use Rattle.tko_session.specs.Effects.{effects};
-ghost use Rattle.tko_session.specs.Events.{IsRun};
-ghost use Rattle.tko_backend.specs.Probers.{AreQuiet, NoneMarked};
-ghost use Rattle.tko_answer.specs.Answers.{Reaches};
+ghost use Rattle.tko_answer.specs.Asking.{BeginsAt, HasServers, Stays, with_noted};
 ghost use Rattle.tko_answer.specs.Replies.{reply_bound};
-ghost use Rattle.tko_session.specs.SessionState.{Answered, AnsweredPart, Replied, fed_state, fresh, progress_after, progress_of, snapshot};
+ghost use Rattle.tko_session.specs.Driven.{IsAwaiting, IsOut, IsReady, KeyBegun, KeyDropped, ItemDropped, ItemRead, MayGoOn, OutcomeDropped, OutcomeTaken, RequestBegun, RequestDropped, WasDropped, WentOn, dropped, step_of, went};
+ghost use Rattle.tko_session.specs.SessionState.{fed_state, fresh, progress_after, progress_of, snapshot};
 
-use crate::{Parts, Trails, round};
+use crate::step::{Progress, Report, Step, Work};
+use crate::{Parts, Trails};
 use std::alloc::Global;
 use std::marker::Model;
-use tko_answer::{Outbox, answer};
-use tko_backend::Clock;
+use std::mem::replace;
+use tko_answer::{Answer, Asking, OneKey, Outbox};
 use tko_bytes::NoMemory;
-use tko_links::{IoRuntime, Links};
+use tko_links::{IoRuntime, Outcome};
 use tko_route::Health;
 use tko_text::{FeedFault, Item, Reader, Request, TextFault};
 
-/// What a session came to, at the end of its input.
-#[derive(Clone, Copy, Debug, PartialEq, Eq)]
-pub struct Report {
-    /// How many items were no faults; the greatest number means that many or more.
-    pub requests: u64,
-    /// How many bytes came of an item that the end of input cut.
-    pub unfinished: u64,
-}
-
-/// How far a session answered what it read.
-#[derive(Clone, Copy, Debug, PartialEq, Eq)]
-pub enum Progress {
-    /// There may be more to answer, once the replies were written and the owed round was run.
-    More,
-    /// Everything that is decided was answered: the session needs the next piece.
-    NeedsInput,
-    /// The last item was a line too long, after which nothing is read.
-    LineTooLong,
-    /// The last item was `quit`: the session is over, and nothing that follows is to be answered.
-    Quit,
-}
-
 /// One client's session: the reader of its bytes, the replies that wait to be written, the number
-/// of its requests, and whether it owes the round after the last one. It keeps the room for a key's
-/// targets, which contracts do not see.
+/// of its requests, whether it owes the round after the last one, and how far the answer to a
+/// request came. It borrows nothing between two calls.
 #[derive(Drop)]
 pub struct Session {
     reader: Reader,
     outbox: Outbox,
     requests: u64,
     owes: bool,
+    work: Work,
+    /// Where the reply to the request begins in the outbox.
+    begin: usize,
+    /// The targets of the key that is asked for, and the room for those of the next one.
     targets: Vec<usize>,
 }
 
@@ -65,6 +45,9 @@ impl Model for Session {
       outbox = s.outbox;
       requests = s.requests;
       owes = s.owes;
+      work = s.work;
+      begin = s.begin;
+      targets = s.targets.items;
     } };
 }
 
@@ -77,22 +60,142 @@ impl Session {
             outbox: Outbox::new(alloc),
             requests: 0,
             owes: false,
+            work: Work::Between,
+            begin: 0,
             targets: Vec::new(alloc),
         }
     }
 
-    /// The replies that wait to be written.
-    pub fn outbox(&self) -> &[u8]
+    /// Takes the next piece of the client's bytes. After a line too long it takes none: each call
+    /// then fails with `Failed`, and none with `Memory`.
+    pub fn feed(&mut self, piece: &[u8]) -> Result<(), FeedFault>
+        ensures ok { OnOk result (self.new ≡ fed_state self.old piece.now) }
+        ensures failed { IsErrOf result FeedFault.Failed ↔ (self.old.reading.after ≡ Never) }
+        ensures err { OnErr result (self.new ≡ self.old) }
+    {
+        self.reader.feed(piece)
+    }
+
+    /// Goes on with the next key of the request that is being answered, or else with the next item,
+    /// if one is decided.
+    pub fn next<R: IoRuntime, H: Health, L, T: Trails, C>(
+        &mut self,
+        rt: &R,
+        alloc: Global,
+        parts: &mut Parts<H, L, T, C>,
+    ) -> Result<Step, NoMemory>
+        requires servers { HasServers H.servers parts.old }
+        requires ready { IsReady parts.old.config self.old }
+        requires may { MayGoOn self.old.work }
+        ensures ok { IfOk result (λ step. WentOn H.steps T.records self.old.work
+            (snapshot self.old parts.old) step (snapshot self.new parts.new)) }
+        ensures err { OnErr result (WasDropped H.steps T.records self.old.work
+            (snapshot self.old parts.old) (snapshot self.new parts.new)) }
+        ensures ready { OnOk result (IsReady parts.new.config self.new) }
+        ensures stays { Stays H.servers parts.old parts.new }
+    {
+        match self.take_work() {
+            Work::Between => self.next_item(rt, alloc, parts),
+            Work::AtKey(key) => self.begin_key(rt, alloc, parts, key),
+            Work::Awaits(_) => unreachable!(),
+        }
+    }
+
+    /// The request that may be sent, to the server that the last permission names.
+    pub fn request(&self) -> &Request
+        requires { IsAwaiting self.now.work }
+        ensures { (it : Asking) → self.now.work ≡ Work.Awaits it → result.now ≡ it.key.request }
+    {
+        match &self.work {
+            Work::Awaits(asking) => asking.request(),
+            Work::Between => unreachable!(),
+            Work::AtKey(_) => unreachable!(),
+        }
+    }
+
+    /// Records what came of the send, and goes on to the next target unless it was answered.
+    pub fn answered<R: IoRuntime, H: Health, L, T: Trails, C>(
+        &mut self,
+        rt: &R,
+        parts: &mut Parts<H, L, T, C>,
+        outcome: Outcome,
+    ) -> Result<Step, NoMemory>
+        requires servers { HasServers H.servers parts.old }
+        requires ready { IsReady parts.old.config self.old }
+        requires awaiting { IsAwaiting self.old.work }
+        ensures ok { IfOk result (λ step. (it : Asking) → self.old.work ≡ Work.Awaits it
+            → OutcomeTaken H.steps T.records outcome it
+            (snapshot self.old parts.old) step (snapshot self.new parts.new)) }
+        ensures err { OnErr result ((it : Asking) → self.old.work ≡ Work.Awaits it
+            → OutcomeDropped H.steps T.records outcome it
+            (snapshot self.old parts.old) (snapshot self.new parts.new)) }
+        ensures ready { OnOk result (IsReady parts.new.config self.new) }
+        ensures stays { Stays H.servers parts.old parts.new }
+    {
+        match self.take_work() {
+            Work::Awaits(asking) => self.take_outcome(rt, parts, asking, outcome),
+            Work::Between => unreachable!(),
+            Work::AtKey(_) => unreachable!(),
+        }
+    }
+
+    /// Drops the request where memory ran out at the send. The servers that the attempts before it
+    /// marked are going to be probed.
+    pub fn stop<H, L, T, C>(
+        &mut self,
+        parts: &mut Parts<H, L, T, C>,
+        fault: tko_links::NoMemory,
+    ) -> NoMemory
+        requires awaiting { IsAwaiting self.old.work }
+        ensures dropped { self.new ≡ dropped self.old }
+        ensures noted { (it : Asking) → self.old.work ≡ Work.Awaits it
+            → parts.new ≡ with_noted it.waiting.attempts parts.old }
+    {
+        match self.take_work() {
+            Work::Awaits(asking) => {
+                let _stopped = asking.stop(parts, fault);
+                self.drop_request()
+            }
+            Work::Between => unreachable!(),
+            Work::AtKey(_) => unreachable!(),
+        }
+    }
+
+    /// The replies that wait to be written. That to a request whose answer is under way is not
+    /// complete.
+    pub fn output(&self) -> &[u8]
         ensures { result.now ≡ self.now.outbox }
     {
         self.outbox.as_slice()
     }
 
-    /// Drops the replies, once they were written.
-    pub fn clear_outbox(&mut self)
-        ensures { self.new ≡ record self.old { outbox = [] } }
+    /// Whether the replies reached the bound, so that they are to be written first.
+    pub fn is_full(&self) -> bool
+        ensures { IsTrue result ↔ (reply_bound ≤ length self.now.outbox) }
     {
-        self.outbox.clear();
+        self.outbox.is_full()
+    }
+
+    /// Drops the first `count` bytes of the replies, which were written.
+    pub fn sent(&mut self, count: usize)
+        requires between { self.old.work ≡ Work.Between }
+        ensures { self.new ≡ record self.old { outbox = drop count self.old.outbox } }
+    {
+        self.outbox.drop_front(count);
+    }
+
+    /// Whether the round after the last request is still to be run.
+    pub fn owes_round(&self) -> bool
+        ensures { result ≡ self.now.owes }
+    {
+        self.owes
+    }
+
+    /// The round that was owed is run.
+    pub fn round_run(&mut self)
+        ensures { self.new ≡ record self.old { owes = false } }
+    {
+        self.owes = false;
     }
 
     /// What it came to, if the input ends here.
@@ -117,114 +220,37 @@ impl Session {
         }
     }
 
-    /// Takes the next piece of the client's bytes. After a line too long it takes none: each call
-    /// then fails with `Failed`, and none with `Memory`.
-    pub fn take(&mut self, piece: &[u8]) -> Result<(), FeedFault>
-        ensures ok { OnOk result (self.new ≡ fed_state self.old piece.now) }
-        ensures failed { IsErrOf result FeedFault.Failed ↔ (self.old.reading.after ≡ Never) }
-        ensures err { OnErr result (self.new ≡ self.old) }
+    fn take_work(&mut self) -> Work
+        ensures work { result ≡ self.old.work }
+        ensures between { self.new ≡ record self.old { work = Work.Between } }
     {
-        self.reader.feed(piece)
+        replace(&mut self.work, Work::Between)
     }
 
-    /// Answers the items that are decided, in order, until none is left, until the replies that
-    /// wait reach their bound, or until a round is owed that may take long. The round after a
-    /// request is run at once while no prober is at work.
-    pub fn answer<R: IoRuntime, H: Health, L: Links, T: Trails, C: Clock>(
+    /// Reads the next item, if one is decided. A fault is answered at once, a request begun.
+    fn next_item<R: IoRuntime, H: Health, L, T: Trails, C>(
         &mut self,
         rt: &R,
         alloc: Global,
         parts: &mut Parts<H, L, T, C>,
-    ) -> Result<Progress, NoMemory>
-        requires reach { Reaches H.servers L.servers parts.old }
-        requires owes { self.old.owes ≡ false }
-        ensures ok { IfOk result (λ progress. Answered
-            (effects H.Health L.Links T.Trails C.Clock) progress
+    ) -> Result<Step, NoMemory>
+        requires servers { HasServers H.servers parts.old }
+        requires between { self.old.work ≡ Work.Between }
+        ensures ok { IfOk result (λ step. ItemRead H.steps T.records
+            (snapshot self.old parts.old) step (snapshot self.new parts.new)) }
+        ensures err { OnErr result (ItemDropped H.steps T.records
             (snapshot self.old parts.old) (snapshot self.new parts.new)) }
-        ensures full { result ≡ Ok Progress.More → self.new.owes ≡ false
-            → reply_bound ≤ length self.new.outbox }
-        ensures err { OnErr result (AnsweredPart
-            (effects H.Health L.Links T.Trails C.Clock)
-            (snapshot self.old parts.old) (snapshot self.new parts.new)) }
-        ensures busy { OnOk result (self.new.owes ≡ true → ¬ AreQuiet parts.new.backend.probers) }
-        ensures begun { NoneMarked parts.old.backend.probers → self.new.owes ≡ false
-            → NoneMarked parts.new.backend.probers }
-        ensures reach { Reaches H.servers L.servers parts.new }
+        ensures ready { OnOk result (IsReady parts.new.config self.new) }
+        ensures stays { Stays H.servers parts.old parts.new }
     {
-        for _ in rt.forever() {
-            if self.owes {
-                return Ok(Progress::More);
-            }
-            if self.outbox.is_full() {
-                return Ok(Progress::More);
-            }
-            match self.answer_next(rt, alloc, parts)? {
-                Progress::More => {}
-                Progress::NeedsInput => return Ok(Progress::NeedsInput),
-                Progress::LineTooLong => return Ok(Progress::LineTooLong),
-                Progress::Quit => return Ok(Progress::Quit),
-            }
-        }
-        unreachable!()
-    }
-
-    /// Runs the round that is owed, if one is.
-    pub fn run_owed_round<R: IoRuntime, H: Health, L: Links, T, C: Clock>(
-        &mut self,
-        rt: &R,
-        parts: &mut Parts<H, L, T, C>,
-    ) -> Result<(), NoMemory>
-        requires reach { Reaches H.servers L.servers parts.old }
-        ensures round { IsRun H.Health L.Links C.Clock self.old.owes (is_err result)
-            parts.old parts.new }
-        ensures none_owed { self.new ≡ record self.old { owes = false } }
-        ensures begun { self.old.owes ≡ true → NoneMarked parts.new.backend.probers }
-        ensures reach { Reaches H.servers L.servers parts.new }
-    {
-        if !self.owes {
-            return Ok(());
-        }
-        self.owes = false;
-        round(rt, parts)
-    }
-
-    /// Answers the next item, if one is decided.
-    fn answer_next<R: IoRuntime, H: Health, L: Links, T: Trails, C: Clock>(
-        &mut self,
-        rt: &R,
-        alloc: Global,
-        parts: &mut Parts<H, L, T, C>,
-    ) -> Result<Progress, NoMemory>
-        requires reach { Reaches H.servers L.servers parts.old }
-        requires owes { self.old.owes ≡ false }
-        requires room { length self.old.outbox < reply_bound }
-        ensures ok { IfOk result (λ progress. Answered
-            (effects H.Health L.Links T.Trails C.Clock) progress
-            (snapshot self.old parts.old) (snapshot self.new parts.new)) }
-        ensures more { result ≡ Ok Progress.More → ¬ NeedsMore self.old.reading }
-        ensures err { OnErr result (AnsweredPart
-            (effects H.Health L.Links T.Trails C.Clock)
-            (snapshot self.old parts.old) (snapshot self.new parts.new)) }
-        ensures busy { OnOk result (self.new.owes ≡ true → ¬ AreQuiet parts.new.backend.probers) }
-        ensures begun { NoneMarked parts.old.backend.probers → self.new.owes ≡ false
-            → NoneMarked parts.new.backend.probers }
-        ensures reach { Reaches H.servers L.servers parts.new }
-    {
-        match self.next()? {
-            None => Ok(Progress::NeedsInput),
+        match self.read_item()? {
+            None => Ok(Step::At(Progress::NeedsInput)),
             Some(Item::Fault(fault)) => self.answer_fault(fault),
-            Some(Item::Request(request)) => {
-                let progress = self.answer_request(rt, alloc, parts, request)?;
-                if !parts.backend.probers.is_quiet() {
-                    return Ok(progress);
-                }
-                self.run_owed_round(rt, parts)?;
-                Ok(progress)
-            }
+            Some(Item::Request(request)) => self.begin_request(rt, alloc, parts, request),
         }
     }
 
-    fn next(&mut self) -> Result<Option<Item>, NoMemory>
+    fn read_item(&mut self) -> Result<Option<Item>, NoMemory>
         ensures item { IfOk result (λ found. IfSome found
             (λ item. Emits self.old.reading item self.new.reading)) }
         ensures none { IfOk result (λ found. IfNone found
@@ -235,57 +261,133 @@ impl Session {
     }
 
     /// Answers a fault.
-    fn answer_fault(&mut self, fault: TextFault) -> Result<Progress, NoMemory>
+    fn answer_fault(&mut self, fault: TextFault) -> Result<Step, NoMemory>
         ensures ok { OnOk result (self.new
             ≡ record self.old { outbox = self.old.outbox ++ fault_text fault }) }
-        ensures progress { IfOk result (λ progress. progress ≡ progress_after fault) }
+        ensures step { IfOk result (λ step. step ≡ Step.At (progress_after fault)) }
         ensures err { OnErr result (self.new ≡ self.old) }
     {
         self.outbox.append(fault.reply())?;
-        match fault {
-            TextFault::LineTooLong => Ok(Progress::LineTooLong),
-            TextFault::UnknownCommand
-            | TextFault::BadLine
-            | TextFault::BadKey
-            | TextFault::BadChunk
-            | TextFault::TooLarge => Ok(Progress::More),
-        }
+        Ok(Step::At(progress_after(fault)))
     }
 
-    /// Records a request and answers it, and then owes its round.
-    fn answer_request<R: IoRuntime, H: Health, L: Links, T: Trails, C>(
+    /// Records a request and begins to answer it. From here on its round is owed.
+    fn begin_request<R: IoRuntime, H: Health, L, T: Trails, C>(
         &mut self,
         rt: &R,
         alloc: Global,
         parts: &mut Parts<H, L, T, C>,
         request: Request,
-    ) -> Result<Progress, NoMemory>
-        requires reach { Reaches H.servers L.servers parts.old }
-        ensures ok { OnOk result (Replied H.Health L.Links T.Trails
-            (snapshot self.old parts.old) request (snapshot self.new parts.new)) }
-        ensures progress { IfOk result (λ progress. progress ≡ progress_of request) }
-        ensures err { OnErr result (self.new ≡ record self.old { owes = true }) }
-        ensures cut { OnErr result (IsRequestCut H.steps L.exchanges L.sent L.probed T.records
-            request parts.old parts.new) }
-        ensures reach { Reaches H.servers L.servers parts.new }
+    ) -> Result<Step, NoMemory>
+        requires servers { HasServers H.servers parts.old }
+        requires between { self.old.work ≡ Work.Between }
+        ensures ok { IfOk result (λ step. RequestBegun H.steps T.records request
+            (snapshot self.old parts.old) step (snapshot self.new parts.new)) }
+        ensures err { OnErr result (RequestDropped H.steps T.records request
+            (snapshot self.old parts.old) (snapshot self.new parts.new)) }
+        ensures ready { OnOk result (IsReady parts.new.config self.new) }
+        ensures stays { Stays H.servers parts.old parts.new }
     {
         self.owes = true;
+        self.begin = self.outbox.len();
         parts.trails.request(rt, &request)?;
         let progress = progress_of(&request);
-        let waiting = self.outbox.len();
-        let Ok(()) = answer(
-            rt,
-            alloc,
-            parts,
-            &mut self.targets,
-            &mut self.outbox,
-            request,
-        ) else {
-            self.outbox.truncate(waiting);
-            return Err(NoMemory);
+        let Ok(answer) = Answer::begin(rt, alloc, parts, &mut self.outbox, request) else {
+            return Err(self.drop_request());
         };
-        self.requests = self.requests.saturating_add(1);
-        Ok(progress)
+        Ok(self.go_to(answer, progress))
+    }
+
+    /// Begins the next key of a request.
+    fn begin_key<R: IoRuntime, H: Health, L, T: Trails, C>(
+        &mut self,
+        rt: &R,
+        alloc: Global,
+        parts: &mut Parts<H, L, T, C>,
+        key: OneKey,
+    ) -> Result<Step, NoMemory>
+        requires servers { HasServers H.servers parts.old }
+        requires begins { BeginsAt self.old.begin key.share self.old.outbox }
+        ensures ok { IfOk result (λ step. KeyBegun H.steps T.records key
+            (snapshot self.old parts.old) step (snapshot self.new parts.new)) }
+        ensures err { OnErr result (KeyDropped H.steps T.records key
+            (snapshot self.old parts.old) (snapshot self.new parts.new)) }
+        ensures ready { OnOk result (IsReady parts.new.config self.new) }
+        ensures stays { Stays H.servers parts.old parts.new }
+    {
+        let Ok(answer) = key.begin(rt, alloc, parts, &mut self.targets, &mut self.outbox) else {
+            return Err(self.drop_request());
+        };
+        Ok(self.go_to(answer, Progress::More))
+    }
+
+    /// Records what came of a send, and goes on with its key.
+    fn take_outcome<R: IoRuntime, H: Health, L, T: Trails, C>(
+        &mut self,
+        rt: &R,
+        parts: &mut Parts<H, L, T, C>,
+        asking: Asking,
+        outcome: Outcome,
+    ) -> Result<Step, NoMemory>
+        requires servers { HasServers H.servers parts.old }
+        requires out { IsOut parts.old.config self.old asking }
+        ensures ok { IfOk result (λ step. OutcomeTaken H.steps T.records outcome asking
+            (snapshot self.old parts.old) step (snapshot self.new parts.new)) }
+        ensures err { OnErr result (OutcomeDropped H.steps T.records outcome asking
+            (snapshot self.old parts.old) (snapshot self.new parts.new)) }
+        ensures ready { OnOk result (IsReady parts.new.config self.new) }
+        ensures stays { Stays H.servers parts.old parts.new }
+    {
+        let targets = self.targets.as_slice();
+        let Ok(answer) = asking.answered(rt, parts, targets, &mut self.outbox, outcome) else {
+            return Err(self.drop_request());
+        };
+        Ok(self.go_to(answer, Progress::More))
+    }
+
+    /// Keeps how far the answer came, and says what it asks for.
+    fn go_to(&mut self, answer: Answer, progress: Progress) -> Step
+        ensures asks { result ≡ step_of progress answer }
+        ensures went { self.new ≡ went answer self.old }
+    {
+        match answer {
+            Answer::Asks(clear, asking) => {
+                self.work = Work::Awaits(asking);
+                Step::Asks(clear)
+            }
+            Answer::Next(key) => {
+                self.work = Work::AtKey(key);
+                Step::Next
+            }
+            Answer::Done => {
+                self.work = Work::Between;
+                self.requests = self.requests.saturating_add(1);
+                Step::At(progress)
+            }
+        }
+    }
+
+    /// Drops what there is of the reply to the request.
+    fn drop_request(&mut self) -> NoMemory
+        ensures { self.new ≡ dropped self.old }
+    {
+        self.work = Work::Between;
+        self.outbox.truncate(self.begin);
+        NoMemory
+    }
+}
+
+/// How far a session is once it answered this fault.
+fn progress_after(fault: TextFault) -> Progress
+    ensures { result ≡ progress_after fault }
+{
+    match fault {
+        TextFault::LineTooLong => Progress::LineTooLong,
+        TextFault::UnknownCommand
+        | TextFault::BadLine
+        | TextFault::BadKey
+        | TextFault::BadChunk
+        | TextFault::TooLarge => Progress::More,
     }
 }
 

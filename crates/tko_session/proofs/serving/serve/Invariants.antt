@@ -1,5 +1,6 @@
 use Rattle.std.proofs.Common.{◌≡◌, ◌<◌, vec_len}
-use Rattle.tko_session.specs.declared.session.Progress.TheVariants.{NeedsInput}
+use Rattle.tko_session.specs.declared.step.Progress.TheVariants.{NeedsInput}
+use Rattle.tko_session.specs.declared.step.Work.TheVariants.{Between}
 use Rattle.tko_backend.specs.Probers.{NoneMarked}
 use Rattle.tko_session.specs.Effects.{effects}
 use Rattle.tko_answer.specs.Answers.{Reaches}
@@ -14,4 +15,5 @@ invariant-loop g l =
     × (g.O.Outlet.failures l.writer ≡ g.O.Outlet.failures l.fn.writer)
     × Reaches g.H.Health.servers g.L.Links.servers l.parts
     × (0 < vec_len l.buffer)
+    × (l.session.work ≡ Between)
     × (NoneMarked l.fn.parts.backend.probers → NoneMarked l.parts.backend.probers)

@@ -1,11 +1,10 @@
-use Rattle.std.proofs.Common.{ap, sym, ◌∙◌}
-use Rattle.tko_session.specs.SessionState.{SessionState}
+use Rattle.std.proofs.Common.{sym, ◌∙◌}
 use Rattle.tko_answer.proofs.ResultLemmas.{on_err}
 use Rattle.tko_session.proofs.TurnLemmas.{answered_none, answered_append, part_after}
-use Rattle.tko_session.proofs.session.Session.answer.Goals as goal
+use Rattle.tko_session.proofs.answering.answer.Goals as goal
 
 pub loop-init : goal.loop-init
-loop-init g c = (answered_none c.args.self.now c.args.parts.now, c.requires.reach, λ begun none. begun, λ owed. cc)
+loop-init g c = (answered_none c.args.session.now c.args.parts.now, c.requires.reach, λ begun none. begun, c.requires.between, λ owed. cc)
 
 pub returns-in_err-answer_next-clause-err : goal.returns-in_err-answer_next-clause-err
 returns-in_err-answer_next-clause-err g c =
@@ -16,7 +15,8 @@ loop-preserved g c =
     let more = rw c.in-More.is at c.in_ok-answer_next.ensures.ok in (
       answered_append c.loop.invariant.0 more,
       c.in_ok-answer_next.ensures.reach,
-      λ begun none. c.in_ok-answer_next.ensures.begun (c.loop.invariant.2 begun (sym (ap (λ (s : SessionState). s.owes) c.self.view_is) ∙ c.if-self.false)) none,
+      λ begun none. c.in_ok-answer_next.ensures.begun (c.loop.invariant.2 begun (sym c.owes_round.ensures ∙ c.if-owes_round.false)) none,
+      c.in_ok-answer_next.ensures.between,
       c.in_ok-answer_next.ensures.busy,
     )
 
