@@ -7,7 +7,7 @@ use Rattle.tko_text.specs.declared.request.Request.{Request}
 use Rattle.tko_text.specs.SentRequests.{is_silent, without_noreply}
 use Rattle.tko_links.specs.declared.links.Outcome.{Outcome}
 use Rattle.tko_links.specs.Links.{LinksItem}
-use Rattle.tko_pools.specs.Configs.{AreServers, Configuration, targets_of}
+use Rattle.tko_pools.specs.Configs.{Configuration, targets_of}
 use Rattle.tko_route.specs.Calls.{Call, Does, IsExchange, Upstream, came}
 use Rattle.tko_route.specs.Routing.{Reached, last_place}
 use Rattle.tko_route.specs.Trail.{Attempts, IsCut, IsCutTrail, IsTrail, Makes, answer_of, cut, form_at, next_target}
@@ -416,23 +416,6 @@ begin_cut {H} {L} {T} {C} {steps = steps} {exchanges = exchanges} {sent = sent} 
     subst (λ (p : Parts H L T C). IsAnswerCut steps exchanges sent probed records request old p) (sym same) (cut_at_once request old)
 begin_cut (asked.in_status is some same) = in_status is some same
 
--- where a send is out, its targets are servers
-abbrev pub HasTargets : Configuration → Answer → List ℕ → Type 0
-HasTargets config answer.Done targets = Unit {0}
-HasTargets config (answer.Next one) targets = Unit {0}
-HasTargets config (answer.Asks clear it) targets = AreServers config targets
-
-pub has_targets : (config : Configuration) (at : Answer) (targets : List ℕ) → AreServers config targets → HasTargets config at targets
-has_targets config answer.Done targets are = tt
-has_targets config (answer.Next one) targets are = tt
-has_targets config (answer.Asks clear it) targets are = are
-
--- what begins has nothing sent
-pub none_sent : {H L T C : Type 0} {steps : H → HealthItem → H → Type 0} {request : Request} {old new : Parts H L T C × List ℕ} {at : Answer}
-    (config : Configuration) (targets : List ℕ) → Begins steps request old at new → HasTargets config at targets
-none_sent config targets (asked.answered text done itself more) = subst (λ a. HasTargets config a targets) (sym done) tt
-none_sent config targets (asked.keyed (one, is, first) same) = subst (λ a. HasTargets config a targets) (sym is) tt
-
 module _ {H L T C : Type 0} {servers : H → ℕ} {linked : L → ℕ} where
   -- health and probers have the servers of the configuration
   pub reaches_has : {at : Parts H L T C} → Reaches servers linked at → HasServers servers at
@@ -454,13 +437,6 @@ module _ {H L T C : Type 0} {servers : H → ℕ} {linked : L → ℕ} where
   pub linked_reach : {at : Parts H L T C} {after : L} → Reaches servers linked at → linked after ≡ linked at.backend.links
       → Reaches servers linked (record at { backend = record at.backend { links = after } })
   linked_reach reach same = record { health = reach.health; links = same ∙ reach.links; probers = reach.probers }
-
-module _ {H L T C : Type 0} {servers : H → ℕ} where
-  -- the targets of a key are servers after a call too
-  pub has_targets_after : {old new : Parts H L T C} (at : Answer) (targets : List ℕ) → Stays servers old new → AreServers old.config targets
-      → HasTargets new.config at targets
-  has_targets_after {old} {new} at targets stays are =
-      has_targets new.config at targets (subst (λ (c : Configuration). AreServers c targets) (sym (ap (λ (p : Parts H L T C). p.config) stays.others)) are)
 
 module _ {H L T C : Type 0} {servers : H → ℕ} {linked : L → ℕ} where
   -- more servers are going to be probed

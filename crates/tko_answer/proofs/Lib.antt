@@ -1,8 +1,9 @@
 mod AnsweringLemmas
 mod AskingLemmas
 mod CutLemmas
-mod DrivingLemmas
+pub mod DrivingLemmas
 mod GoingLemmas
+pub mod HeldLemmas
 mod OutboxLemmas
 pub mod ResultLemmas
 mod StatusLemmas

@@ -6,9 +6,10 @@ use Rattle.tko_model.specs.Records.{HealthItem}
 use Rattle.tko_text.specs.declared.request.Request.{Request}
 use Rattle.tko_text.specs.declared.request.Request.TheVariants.{StatsTko}
 use Rattle.tko_text.specs.SentRequests.{is_silent}
+use Rattle.tko_pools.specs.Configs.{AreServers, Configuration}
 use Rattle.tko_route.specs.Calls.{Call}
-use Rattle.tko_route.specs.Routing.{GoesOn, Reached, last_place}
-use Rattle.tko_route.specs.Trail.{answer_of}
+use Rattle.tko_route.specs.Routing.{FindsUp, GoesOn, IsAwaited, Reached, last_place}
+use Rattle.tko_route.specs.Trail.{answer_of, form_at}
 use Rattle.tko_route.specs.declared.attempt.Attempt.{Attempt}
 use Rattle.tko_route.specs.declared.routing.Stage.{Stage}
 use Rattle.tko_route.specs.declared.routing.Stage.TheVariants as stage
@@ -20,6 +21,7 @@ use Rattle.tko_answer.specs.Replies.{end_line, reply_text, values_in}
 use Rattle.tko_answer.specs.TrailEvents.{TrailEvent, Tried}
 use Rattle.tko_answer.specs.declared.asking.Answer.{Answer}
 use Rattle.tko_answer.specs.declared.asking.Answer.TheVariants as answer
+use Rattle.tko_answer.specs.declared.asking.Asking.{Asking}
 use Rattle.tko_answer.specs.declared.asking.OneKey.{OneKey}
 use Rattle.tko_answer.specs.declared.asking.Share.{Share}
 use Rattle.tko_answer.specs.declared.asking.Share.TheVariants as share
@@ -52,6 +54,23 @@ front_of (share.Joined begin left) outbox = take begin outbox
 abbrev pub HasFront : Share → List ℕ → Type 0
 HasFront (share.Whole silent) outbox = Unit {0}
 HasFront (share.Joined begin left) outbox = begin ≤ length outbox
+
+-- the reply that this key is a part of begins after so many bytes of the outbox
+abbrev pub BeginsAt : ℕ → Share → List ℕ → Type 0
+BeginsAt begin (share.Whole silent) outbox = begin ≤ length outbox
+BeginsAt begin (share.Joined first left) outbox = (first ≡ begin) × (begin ≤ length outbox)
+
+-- a send is out to one of these targets, which are servers; what is sent is some request in the
+-- form of its place, and calls of its key found the server up
+pub record IsSent (config : Configuration) (targets : List ℕ) (it : Asking) : Type 0 where
+  pub within : AreServers config targets
+  pub awaited : IsAwaited targets it.waiting
+  pub original : Request
+  pub calls : List Call
+  pub form : it.key.request
+      ≡ form_at config.failover_exptime original (length it.waiting.attempts)
+  pub found : FindsUp (form_at config.failover_exptime original) calls
+      it.waiting.attempts it.waiting.server
 
 -- with which key the answer to a request begins, where so many bytes wait before its reply: with
 -- its only one; or with the first of several, and then come those that are left

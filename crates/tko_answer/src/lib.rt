@@ -6,11 +6,9 @@
 //! - `Answer`: how far the answer to a request came, as a value that sends nothing itself;
 //!   `OneKey`, a key that is to be asked for, and `Asking`, one whose request was sent. The reply
 //!   is put at the end of an `Outbox`, the replies that wait to be written.
-//! - `answer`: sends what an answer asks for, until the reply is complete.
 //! - `status`: the mark of each server as text.
 #![tactic(auto)]
 
-mod answering;
 mod asking;
 mod counting;
 mod ending;
@@ -21,7 +19,6 @@ mod requests;
 mod status_text;
 mod trails;
 
-pub use answering::answer;
 pub use asking::{Answer, Asking, OneKey};
 pub use outbox::Outbox;
 pub use parts::Parts;

@@ -1,5 +1,5 @@
 //! Replies that wait to be written.
-ghost use Rattle.std.specs.Prelude.{◌≡◌, ◌≤◌, ◌↔◌, ◌++◌, if◌then◌else◌, [], IfOk, MatchBool, IsSome, IsTrue, OnOk, OnErr, length, map, string_bytes, take, unwrap_or};
+ghost use Rattle.std.specs.Prelude.{◌≡◌, ◌≤◌, ◌↔◌, ◌++◌, if◌then◌else◌, [], IfOk, MatchBool, IsSome, IsTrue, OnOk, OnErr, drop, length, map, string_bytes, take, unwrap_or};
 ghost use Rattle.std.specs.Option.{option_copied};
 ghost use Rattle.tko_answer.specs.Answering.{Extends};
 ghost use Rattle.tko_answer.specs.Cuts.{LooksSome};
@@ -172,6 +172,17 @@ impl Outbox {
         ensures { self.new ≡ take len self.old }
     {
         self.bytes.truncate(len);
+    }
+
+    /// Drops the first `count` bytes, which were written.
+    pub fn drop_front(&mut self, count: usize)
+        ensures { self.new ≡ drop count self.old }
+    {
+        if self.bytes.len() <= count {
+            self.clear();
+        } else {
+            self.bytes.drain(..count);
+        }
     }
 
     /// Drops the replies, and the room above what an empty outbox keeps.

@@ -11,15 +11,15 @@ use Rattle.tko_links.specs.Scripted.{ScriptedState, IsPlayed}
 use Rattle.tko_prober.specs.declared.delays.Delays.{Delays}
 use Rattle.tko_backend.specs.declared.clock.FrozenClock.{FrozenClock}
 use Rattle.tko_answer.specs.declared.parts.Parts.{Parts}
-use Rattle.tko_session.specs.declared.session.Report.{Report}
+use Rattle.tko_turns.specs.declared.step.Report.{Report}
 use Rattle.tko_io.specs.declared.io.Inlet.{Ghosts as InletGhosts}
 use Rattle.tko_io.specs.declared.io.Outlet.{Ghosts as OutletGhosts}
-use Rattle.tko_session.specs.Turns.{IsRequestCut}
-use Rattle.tko_session.specs.Events.{Effects, IsEvent}
+use Rattle.tko_turns.specs.Turns.{IsRequestCut}
+use Rattle.tko_turns.specs.Events.{Effects, IsEvent}
 use Rattle.tko_backend.specs.Clocks.{IsFrozen}
 use Rattle.tko_backend.specs.Probers.{no_probers}
 use Rattle.tko_session.specs.Served.{CameTooLong, Served, context}
-use Rattle.tko_session.specs.SessionState.{probed_by, sent_by}
+use Rattle.tko_turns.specs.SessionState.{probed_by, sent_by}
 use Rattle.tko_answer.specs.TrailEvents.{Keeps}
 use Rattle.tko_pools.specs.Configs.{Configuration}
 use Rattle.tko_pools.specs.declared.fault.ConfigFault.{ConfigFault}

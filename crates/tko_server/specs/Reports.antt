@@ -7,7 +7,7 @@ use Rattle.tko_metrics.specs.declared.worker_meter.Ending.{Ending}
 use Rattle.tko_metrics.specs.declared.worker_meter.Ending.TheVariants as ending
 use Rattle.tko_session.specs.declared.fault.SessionFault.{SessionFault}
 use Rattle.tko_session.specs.declared.fault.SessionFault.TheVariants as fault
-use Rattle.tko_session.specs.declared.session.Report.{Report}
+use Rattle.tko_turns.specs.declared.step.Report.{Report}
 
 abbrev pub no_report : WorkerReport
 no_report = record { sessions = 0; faults = 0; memory = false; ledger_full = false }

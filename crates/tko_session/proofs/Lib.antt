@@ -1,4 +1,2 @@
-mod EventLemmas
 mod ServedLemmas
 mod TextFacts
-mod TurnLemmas

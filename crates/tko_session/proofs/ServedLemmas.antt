@@ -1,5 +1,6 @@
 -- Laws of a whole session: nothing yet, one delivery more, one piece more, the end.
-use Rattle.std.proofs.Common.{◌≡◌, ◌≢◌, ℕ, Bool, true, ◌+◌, ◌<◌, ◌^◌, List, [], ◌∷◌, ◌++◌, length, refl, sym, ap, subst, ◌∙◌, append_assoc, append-nil, arith, add-zero, Some, false}
+use Rattle.std.proofs.Common.{◌≡◌, ◌≢◌, ℕ, Bool, true, ◌+◌, ◌<◌, ◌^◌, List, [], ◌∷◌, ◌++◌, drop, length, refl, sym, ap, subst, ◌∙◌, append_assoc, append-nil, arith, add-zero, Some, false}
+use Rattle.std.proofs.lemmas.List.{drop_at}
 use Rattle.tko_model.proofs.RecordLemmas.{gains_append, gains_none, gains_one}
 use Rattle.tko_health.specs.declared.health.Health.{Ghosts as HealthGhosts}
 use Rattle.tko_links.specs.declared.links.Links.{Ghosts as LinksGhosts}
@@ -18,24 +19,27 @@ use Rattle.tko_text.proofs.GivesLemmas.{Gives-append, Gives-fed, Gives-none}
 use Rattle.tko_text.proofs.ReadingLemmas.{NeedsMore-failed}
 use Rattle.tko_session.specs.declared.fault.SessionFault.{SessionFault}
 use Rattle.tko_session.specs.declared.fault.SessionFault.TheVariants as fault
-use Rattle.tko_session.specs.declared.session.Progress.{Progress}
-use Rattle.tko_session.specs.declared.session.Progress.TheVariants.{More, NeedsInput, LineTooLong, Quit}
-use Rattle.tko_session.specs.declared.session.Report.{Report}
+use Rattle.tko_turns.specs.declared.step.Progress.{Progress}
+use Rattle.tko_turns.specs.declared.step.Progress.TheVariants.{More, NeedsInput, LineTooLong, Quit}
+use Rattle.tko_turns.specs.declared.step.Report.{Report}
 use Rattle.tko_io.specs.Io.{Writes, capped}
 use Rattle.tko_io.proofs.WriteLemmas.{writes_append, writes_none}
-use Rattle.tko_session.specs.Effects.{effects}
+use Rattle.tko_turns.specs.Effects.{effects}
 use Rattle.tko_session.specs.Ends.{AllDelivered, DeliveryStops, PieceStops, SessionStops}
-use Rattle.tko_session.specs.Events.{Effects, Event, IdleRound, IsRun, NoneRun, Rounded, turns_of}
+use Rattle.tko_turns.specs.Events.{Effects, Event, IdleRound, IsRun, NoneRun, Rounded, turns_of}
 use Rattle.tko_session.specs.Faults.{fault_of}
-use Rattle.tko_session.specs.SessionState.{SessionState, Snapshot, Answered, AnsweredPart, GoesOn, InSession, IsBehind, ProgressIs, fed_state, fresh, items_of, snapshot, text_of, cut_short, no_more}
+use Rattle.tko_turns.specs.SessionState.{SessionState, Snapshot, Answered, AnsweredPart, GoesOn, InSession, IsBehind, ProgressIs, fed_state, fresh, items_of, snapshot, text_of, cut_short, no_more}
 use Rattle.tko_session.specs.Served.{Context, Delivered, DeliveredPart, Delivery, EndsAt, Served, ServedSoFar, StoppedByLine, StoppedByRead, StoppedByWrite, StoppedEarly, Transcript, after_cut, at_end_of_input, at_once, at_quit, context, delivery}
-use Rattle.tko_session.proofs.EventLemmas.{idles-append, order-append}
+use Rattle.tko_turns.proofs.EventLemmas.{idles-append, order-append}
 use Rattle.tko_session.proofs.TextFacts.{open_start, reading_goes_on}
-use Rattle.tko_session.proofs.TurnLemmas.{counts_append, counts_idle, counts_none, goes_on-append, goes_on-none, in_session, in_session_of, items-append, text-append, turned_append, turned_idle, turned_none, events_in_session, events_progress, part_none, part_paid}
+use Rattle.tko_turns.proofs.TurnLemmas.{counts_append, counts_idle, counts_none, goes_on-append, goes_on-none, in_session, in_session_of, items-append, text-append, turned_append, turned_idle, turned_none, events_in_session, events_progress, part_none, part_paid}
 
 -- what an end reported in two parts, it reported as a whole
 abbrev Joins : {E : Type 0} → (E → List ℕ → E → Type 0) → Type 0
 Joins {E} moves = (x y z : E) (bytes more : List ℕ) → moves x bytes y → moves y more z → moves x (bytes ++ more) z
+
+pub drop_whole : (n : ℕ) (xs : List ℕ) → n ≡ length xs → drop n xs ≡ []
+drop_whole n xs same = ap (drop n) (sym (append-nil xs)) ∙ drop_at xs [] n (sym same)
 
 false_is_true : false ≡ true → ⊥
 false_is_true same = cc

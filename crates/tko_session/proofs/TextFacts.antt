@@ -1,11 +1,11 @@
 -- Before any byte no item is decided, and where no item is a line too long reading goes on.
-use Rattle.std.proofs.Common.{◌≡◌, ◌≢◌, ℕ, List, [], ◌∷◌, sym, ap, ◌∙◌, arith}
+use Rattle.std.proofs.Common.{◌≢◌, ℕ, List, [], ◌∷◌, sym, ap, ◌∙◌, arith}
 use Rattle.std.proofs.lemmas.List.Elements.{All-head, All-tail}
 use Rattle.tko_text.specs.declared.item.Item.{Item}
 use Rattle.tko_text.specs.Reading.{EmitsEach, Gives, NeedsMore, Never, Reading, fed, start}
 use Rattle.tko_text.proofs.NeverLemmas.{goes_on_reading}
 use Rattle.tko_text.proofs.ReadingLemmas.{NeedsMore-short}
-use Rattle.tko_session.specs.SessionState.{Continues, GoesOn}
+use Rattle.tko_turns.specs.SessionState.{Continues, GoesOn}
 
 pub open_start : NeedsMore start
 open_start = NeedsMore-short [] (λ k low high. absurd (omega arith)) (omega arith)

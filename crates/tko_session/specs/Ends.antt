@@ -5,11 +5,11 @@ use Rattle.tko_io.specs.declared.io.Inlet.{Ghosts as InletGhosts}
 use Rattle.tko_io.specs.declared.io.Outlet.{Ghosts as OutletGhosts}
 use Rattle.tko_session.specs.declared.fault.SessionFault.{SessionFault}
 use Rattle.tko_session.specs.declared.fault.SessionFault.TheVariants.{Read, Write, LineTooLong, Memory}
-use Rattle.tko_session.specs.declared.session.Progress.{Progress}
-use Rattle.tko_session.specs.declared.session.Progress.TheVariants as progress
-use Rattle.tko_session.specs.declared.session.Report.{Report}
-use Rattle.tko_session.specs.Events.{Effects}
-use Rattle.tko_session.specs.SessionState.{pause_of}
+use Rattle.tko_turns.specs.declared.step.Progress.{Progress}
+use Rattle.tko_turns.specs.declared.step.Progress.TheVariants as progress
+use Rattle.tko_turns.specs.declared.step.Report.{Report}
+use Rattle.tko_turns.specs.Events.{Effects}
+use Rattle.tko_turns.specs.SessionState.{pause_of}
 use Rattle.tko_session.specs.Served.{Context, Delivered, DeliveredPart, Delivery, Served, StoppedByLine, StoppedByRead, StoppedByWrite, StoppedEarly}
 
 -- neither end failed

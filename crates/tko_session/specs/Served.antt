@@ -8,11 +8,11 @@ use Rattle.tko_text.specs.Reading.{Reading, Reads, Emits, Gives, NeedsMore, star
 use Rattle.tko_io.specs.Io.{Writes, capped}
 use Rattle.tko_io.specs.declared.io.Inlet.{Ghosts as InletGhosts}
 use Rattle.tko_io.specs.declared.io.Outlet.{Ghosts as OutletGhosts}
-use Rattle.tko_session.specs.declared.session.Progress.{Progress}
-use Rattle.tko_session.specs.declared.session.Report.{Report}
-use Rattle.tko_session.specs.Events.{Effects, NoneShort, Event, RoundAfter, idle_rounds, owed_after, turns_of}
+use Rattle.tko_turns.specs.declared.step.Progress.{Progress}
+use Rattle.tko_turns.specs.declared.step.Report.{Report}
+use Rattle.tko_turns.specs.Events.{Effects, NoneShort, Event, RoundAfter, idle_rounds, owed_after, turns_of}
 use Rattle.tko_backend.specs.Round.{Visit}
-use Rattle.tko_session.specs.SessionState.{CountsRise, SessionState, Snapshot, Turned, EndsWith, GoesOn, InSession, ProgressIs, fresh, fed_state, line_too_long, quit, snapshot, items_of, text_of, requests_in}
+use Rattle.tko_turns.specs.SessionState.{CountsRise, SessionState, Snapshot, Turned, EndsWith, GoesOn, InSession, ProgressIs, fresh, fed_state, line_too_long, quit, snapshot, items_of, text_of, requests_in}
 
 -- what a session works on: its two ends, and the parts
 pub record Context (I O W : Type 0) : Type 0 where

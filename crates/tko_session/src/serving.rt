@@ -2,11 +2,12 @@
 ghost use Rattle.std.specs.Prelude.{◌≡◌, ◌≢◌, [], false};
 ghost use Rattle.tko_text.specs.Reading.{Never};
 ghost use Rattle.tko_backend.specs.Probers.{NoneMarked};
-ghost use Rattle.tko_session.specs.Effects.{effects};
+ghost use Rattle.tko_turns.specs.Effects.{effects};
 ghost use Rattle.tko_session.specs.Ends.{DeliveryEnds, PieceEnds, SessionEnds};
 ghost use Rattle.tko_session.specs.Served.{context, delivery};
 ghost use Rattle.tko_answer.specs.Answers.{Reaches};
-ghost use Rattle.tko_session.specs.SessionState.{fed_state};
+ghost use Rattle.tko_turns.specs.SessionState.{fed_state};
+ghost use Rattle.tko_turns.specs.declared.step.Work.TheVariants.{Between};
 
 use crate::{Parts, Progress, Report, Session, SessionFault, Trails, round};
 use std::alloc::Global;
@@ -14,6 +15,7 @@ use tko_backend::Clock;
 use tko_io::{Inlet, Outlet, Piece, piece_buffer, read_piece, write_all};
 use tko_links::{IoRuntime, Links};
 use tko_route::Health;
+use tko_turns::{answer, run_owed_round};
 
 /// Serves one client, from the first byte of its input to the end or to `quit`.
 pub fn serve<R: IoRuntime, I: Inlet, O: Outlet, H: Health, L: Links, T: Trails, C: Clock>(
@@ -75,14 +77,16 @@ fn serve_piece<R: IoRuntime, O: Outlet, H: Health, L: Links, T: Trails, C: Clock
     requires reach { Reaches H.servers L.servers parts.old }
     requires outbox { session.old.outbox ≡ [] }
     requires owes { session.old.owes ≡ false }
+    requires between { session.old.work ≡ Between }
     requires reads { session.old.reading.after ≢ Never }
     ensures ends { PieceEnds O.Outlet (effects H.Health L.Links T.Trails C.Clock)
         (delivery (fed_state session.old piece.now) parts.old writer.old written.old) result
         (delivery session.new parts.new writer.new written.new) }
     ensures begun { NoneMarked parts.old.backend.probers → NoneMarked parts.new.backend.probers }
+    ensures between { session.new.work ≡ Between }
     ensures reach { Reaches H.servers L.servers parts.new }
 {
-    session.take(piece)?;
+    session.feed(piece)?;
     for _ in rt.forever() {
         match deliver(rt, alloc, session, writer, parts, written)? {
             Progress::More => {}
@@ -108,19 +112,23 @@ fn deliver<R: IoRuntime, O: Outlet, H: Health, L: Links, T: Trails, C: Clock>(
     requires reach { Reaches H.servers L.servers parts.old }
     requires outbox { session.old.outbox ≡ [] }
     requires owes { session.old.owes ≡ false }
+    requires between { session.old.work ≡ Between }
     ensures ends { DeliveryEnds O.Outlet (effects H.Health L.Links T.Trails C.Clock)
         (delivery session.old parts.old writer.old written.old) result
         (delivery session.new parts.new writer.new written.new) }
     ensures begun { NoneMarked parts.old.backend.probers → NoneMarked parts.new.backend.probers }
+    ensures between { session.new.work ≡ Between }
     ensures reach { Reaches H.servers L.servers parts.new }
 {
-    let answered = session.answer(rt, alloc, parts);
-    let wrote = write_all(rt, writer, session.outbox(), written);
-    let rounded = session.run_owed_round(rt, parts);
+    let answered = answer(rt, alloc, session, parts);
+    let replies = session.output();
+    let count = replies.len();
+    let wrote = write_all(rt, writer, replies, written);
+    let rounded = run_owed_round(rt, session, parts);
     if !wrote {
         return Err(SessionFault::Write(*written));
     }
-    session.clear_outbox();
+    session.sent(count);
     let progress = answered?;
     rounded?;
     Ok(progress)

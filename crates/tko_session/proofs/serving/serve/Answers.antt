@@ -1,4 +1,4 @@
-use Rattle.std.proofs.Common.{◌≡◌, ◌<◌, ◌^◌, length, refl, ◌∙◌, arith}
+use Rattle.std.proofs.Common.{◌≡◌, ◌<◌, ◌^◌, ap, length, refl, ◌∙◌, arith}
 use Rattle.std.proofs.lemmas.List.{take_at}
 use Rattle.std.proofs.lemmas.Result.{err_from_is_err_and}
 use Rattle.tko_backend.proofs.BegunLemmas.{round-begun}
@@ -18,7 +18,7 @@ pub loop-init : goal.loop-init
 loop-init g c =
     let none = so_far_none c.args.reader.now c.args.writer.now c.args.parts.now
     (g.met.I.Inlet.nothing c.args.reader.now) (g.met.O.Outlet.nothing c.args.writer.now) in
-    (rw c.new-session.ensures none, refl, refl, c.requires.reach, c.in_ok-buffer.ensures, λ begun. begun)
+    (rw c.new-session.ensures none, refl, refl, c.requires.reach, c.in_ok-buffer.ensures, ap (λ s. s.work) c.new-session.ensures, λ begun. begun)
 
 pub returns-in-Failed-clause-ends : goal.returns-in-Failed-clause-ends
 returns-in-Failed-clause-ends g c =
@@ -37,6 +37,7 @@ loop-preserved-in-Continue-branch-2 g c =
       c.loop.invariant.2,
       round.reach,
       c.loop.invariant.4,
+      c.loop.invariant.5,
       λ begun. round-begun round.round,
     )
 
@@ -84,7 +85,8 @@ loop-preserved g c =
       all.calm ∙ c.loop.invariant.2,
       passed.reach,
       c.loop.invariant.4,
-      λ begun. passed.begun (c.loop.invariant.5 begun),
+      passed.between,
+      λ begun. passed.begun (c.loop.invariant.6 begun),
     )
 
 pub returns-then-quit-clause-ends : goal.returns-then-quit-clause-ends
@@ -113,3 +115,6 @@ returns-in_err-quit-in-Bytes-clause-ends g c =
     rw (p.1, p.2) (session_stopped g.met.I.Inlet.goes_on g.met.O.Outlet.goes_on c.in_err-quit-in-Bytes.field-0.0 _ _ c.loop.invariant.0
     (rw same read.piece.bytes) (omega (arith, read.idles)) (omega (arith, read.failures, c.loop.invariant.1)) c.loop.invariant.2
     c.in_err-quit-in-Bytes.ensures.ends)
+
+pub serve_piece-requires-clause-between : goal.serve_piece-requires-clause-between
+serve_piece-requires-clause-between g c = c.loop.invariant.5

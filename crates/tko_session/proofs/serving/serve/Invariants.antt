@@ -1,7 +1,8 @@
 use Rattle.std.proofs.Common.{◌≡◌, ◌<◌, vec_len}
-use Rattle.tko_session.specs.declared.session.Progress.TheVariants.{NeedsInput}
+use Rattle.tko_turns.specs.declared.step.Progress.TheVariants.{NeedsInput}
+use Rattle.tko_turns.specs.declared.step.Work.TheVariants.{Between}
 use Rattle.tko_backend.specs.Probers.{NoneMarked}
-use Rattle.tko_session.specs.Effects.{effects}
+use Rattle.tko_turns.specs.Effects.{effects}
 use Rattle.tko_answer.specs.Answers.{Reaches}
 use Rattle.tko_session.specs.Served.{ServedSoFar, context, delivery}
 use Rattle.tko_session.proofs.serving.serve.Given as goal
@@ -14,4 +15,5 @@ invariant-loop g l =
     × (g.O.Outlet.failures l.writer ≡ g.O.Outlet.failures l.fn.writer)
     × Reaches g.H.Health.servers g.L.Links.servers l.parts
     × (0 < vec_len l.buffer)
+    × (l.session.work ≡ Between)
     × (NoneMarked l.fn.parts.backend.probers → NoneMarked l.parts.backend.probers)

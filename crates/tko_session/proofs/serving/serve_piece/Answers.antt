@@ -1,20 +1,20 @@
 use Rattle.std.proofs.Common.{ap, refl, Err, ◌∙◌}
 use Rattle.std.proofs.lemmas.Result.{err_from_is_err_and}
-use Rattle.tko_session.specs.SessionState.{fed_state}
+use Rattle.tko_turns.specs.SessionState.{fed_state}
 use Rattle.tko_session.proofs.ServedLemmas.{all_append, delivered_none, delivered_append, not_delivered, not_taken, piece_stopped}
 use Rattle.tko_session.proofs.serving.serve_piece.Goals as goal
 
-pub returns-in_err-take-clause-ends : goal.returns-in_err-take-clause-ends
-returns-in_err-take-clause-ends g c =
+pub returns-in_err-feed-clause-ends : goal.returns-in_err-feed-clause-ends
+returns-in_err-feed-clause-ends g c =
     let p = err_from_is_err_and c.from_residual.result c.from_residual.ensures.1 in
-    rw (p.1, p.2) (not_taken c.in_err-take.field-0.0 (λ is. c.requires.reads (c.in_err-take.ensures.failed.0 (ap Err is)))
+    rw (p.1, p.2) (not_taken c.in_err-feed.field-0.0 (λ is. c.requires.reads (c.in_err-feed.ensures.failed.0 (ap Err is)))
     (not_delivered _ _ c.args.parts.now c.args.writer.now c.args.written.now (g.met.O.Outlet.nothing c.args.writer.now) c.requires.outbox c.requires.owes) refl)
 
 pub loop-init : goal.loop-init
 loop-init g c =
     let none = delivered_none (fed_state c.args.session.now c.args.piece.now) c.args.parts.now c.args.writer.now c.args.written.now
     (g.met.O.Outlet.nothing c.args.writer.now) c.requires.outbox c.requires.owes in
-    (rw c.in_ok-take.ensures.ok none, refl, c.requires.reach, λ begun. begun)
+    (rw c.in_ok-feed.ensures.ok none, refl, c.requires.reach, ap (λ s. s.work) c.in_ok-feed.ensures.ok ∙ c.requires.between, λ begun. begun)
 
 pub returns-in_err-deliver-clause-ends : goal.returns-in_err-deliver-clause-ends
 returns-in_err-deliver-clause-ends g c =
@@ -28,7 +28,8 @@ loop-preserved g c =
       delivered_append g.met.O.Outlet.goes_on c.loop.invariant.0 more.delivered,
       more.calm ∙ c.loop.invariant.1,
       c.in_ok-deliver.ensures.reach,
-      λ begun. c.in_ok-deliver.ensures.begun (c.loop.invariant.3 begun),
+      c.in_ok-deliver.ensures.between,
+      λ begun. c.in_ok-deliver.ensures.begun (c.loop.invariant.4 begun),
     )
 
 pub returns-in-NeedsInput-clause-ends : goal.returns-in-NeedsInput-clause-ends

@@ -1,9 +1,10 @@
 use Rattle.std.proofs.Common.{◌≡◌}
-use Rattle.tko_session.specs.declared.session.Progress.TheVariants.{More}
+use Rattle.tko_turns.specs.declared.step.Progress.TheVariants.{More}
+use Rattle.tko_turns.specs.declared.step.Work.TheVariants.{Between}
 use Rattle.tko_backend.specs.Probers.{NoneMarked}
-use Rattle.tko_session.specs.Effects.{effects}
+use Rattle.tko_turns.specs.Effects.{effects}
 use Rattle.tko_answer.specs.Answers.{Reaches}
-use Rattle.tko_session.specs.SessionState.{fed_state}
+use Rattle.tko_turns.specs.SessionState.{fed_state}
 use Rattle.tko_session.specs.Served.{Delivered, delivery}
 use Rattle.tko_session.proofs.serving.serve_piece.Given as goal
 
@@ -13,4 +14,5 @@ invariant-loop g l =
     (delivery (fed_state l.fn.session l.piece) l.fn.parts l.fn.writer l.fn.written) (delivery l.session l.parts l.writer l.written)
     × (g.O.Outlet.failures l.writer ≡ g.O.Outlet.failures l.fn.writer)
     × Reaches g.H.Health.servers g.L.Links.servers l.parts
+    × (l.session.work ≡ Between)
     × (NoneMarked l.fn.parts.backend.probers → NoneMarked l.parts.backend.probers)

@@ -1,0 +1,3 @@
+mod DrivenLemmas
+pub mod EventLemmas
+pub mod TurnLemmas

@@ -1,0 +1,11 @@
+use Rattle.tko_answer.specs.Answers.{Reaches}
+use Rattle.tko_turns.specs.Driven.{IsReady}
+use Rattle.tko_turns.specs.SessionState.{snapshot}
+use Rattle.tko_turns.proofs.DrivenLemmas.{IsOn}
+use Rattle.tko_turns.proofs.answering.answer_item.Given as goal
+
+abbrev pub invariant-loop : goal.invariant-loop
+invariant-loop g l =
+    IsOn g.H.Health g.L.Links g.T.Trails g.C.Clock (snapshot l.fn.session l.fn.parts) l.step (snapshot l.session l.parts)
+    × IsReady l.parts.config l.session
+    × Reaches g.H.Health.servers g.L.Links.servers l.parts

@@ -1,0 +1,20 @@
+-- The effects of a session on its parts, as the traits of these show them.
+use Rattle.tko_health.specs.declared.health.Health.{Ghosts as HealthGhosts}
+use Rattle.tko_links.specs.declared.links.Links.{Ghosts as LinksGhosts}
+use Rattle.tko_backend.specs.declared.clock.Clock.{Ghosts as ClockGhosts}
+use Rattle.tko_answer.specs.declared.trails.Trails.{Ghosts as TrailsGhosts}
+use Rattle.tko_answer.specs.declared.parts.Parts.{Parts}
+use Rattle.tko_turns.specs.Turns.{IsRequestCut}
+use Rattle.tko_turns.specs.Events.{Effects, IsEvent}
+use Rattle.tko_turns.specs.SessionState.{probed_by, sent_by}
+
+-- the effects on parts with this health, these links, these trails and this clock
+abbrev pub effects : {H L T C : Type 0} → HealthGhosts H → LinksGhosts L → TrailsGhosts T
+    → ClockGhosts C → Effects (Parts H L T C)
+effects health links trails clock = record {
+  step = IsEvent health.steps health.grants links.exchanges links.sent links.probed trails.records
+      clock.reads;
+  cut = IsRequestCut health.steps links.exchanges links.sent links.probed trails.records;
+  sent = sent_by links.sent;
+  probed = probed_by links.probed;
+}

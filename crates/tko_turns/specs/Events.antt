@@ -1,0 +1,113 @@
+-- What a session does, in order: it answers items, and runs rounds of its probers.
+use Rattle.std.specs.Prelude.{◌≡◌, ℕ, Bool, true, false, List, [], ◌∷◌, count_by, flat_map, MatchBool, Option, Some, None}
+use Rattle.std.specs.List.{list_any}
+use Rattle.tko_model.specs.Records.{HealthItem}
+use Rattle.tko_health.specs.declared.health.Health.{Ghosts as HealthGhosts}
+use Rattle.tko_links.specs.Links.{LinksItem}
+use Rattle.tko_links.specs.declared.links.Links.{Ghosts as LinksGhosts}
+use Rattle.tko_backend.specs.declared.clock.Clock.{Ghosts as ClockGhosts}
+use Rattle.tko_text.specs.declared.request.Request.{Request}
+use Rattle.tko_answer.specs.declared.parts.Parts.{Parts}
+use Rattle.tko_backend.specs.Round.{IsRound, Visit, ran_out}
+use Rattle.tko_answer.specs.TrailEvents.{TrailEvent}
+use Rattle.tko_turns.specs.Turns.{Turn, IsTurn, is_request}
+
+-- an item and what became of it, the round after a request, or the round at an idle turn of the
+-- reader; a round with its visit of each server
+pub data Event : Type 0 where
+  Answer : Turn → Event
+  RoundAfter : List Visit → Event
+  IdleRound : List Visit → Event
+
+abbrev pub turn_in : Event → List Turn
+turn_in (Answer turn) = turn ∷ []
+turn_in (RoundAfter visits) = []
+turn_in (IdleRound visits) = []
+
+abbrev pub visits_in : Event → List Visit
+visits_in (Answer turn) = []
+visits_in (RoundAfter visits) = visits
+visits_in (IdleRound visits) = visits
+
+abbrev pub is_idle_round : Event → Bool
+is_idle_round (Answer turn) = false
+is_idle_round (RoundAfter visits) = false
+is_idle_round (IdleRound visits) = true
+
+-- the items that were answered, and what became of each
+abbrev pub turns_of : List Event → List Turn
+turns_of events = flat_map turn_in events
+
+-- the visits of all rounds
+abbrev pub visits_of : List Event → List Visit
+visits_of events = flat_map visits_in events
+
+-- memory ran out in no visit of these rounds
+abbrev pub NoneShort : List Event → Type 0
+NoneShort events = list_any ran_out (visits_of events) ≡ false
+
+-- how many rounds were run at idle turns
+abbrev pub idle_rounds : List Event → ℕ
+idle_rounds events = count_by is_idle_round events
+
+-- whether a round is owed after an event, where one is owed before it or is not: a request owes a
+-- round, the next event is that round, and it owes none. No other event may come there.
+abbrev pub owed_then : Bool → Event → Option Bool
+owed_then false (Answer turn) = Some (is_request turn.item)
+owed_then false (IdleRound visits) = Some false
+owed_then true (RoundAfter visits) = Some false
+owed_then _ _ = None
+
+abbrev pub owed_from : Option Bool → List Event → Option Bool
+owed_from None events = None
+owed_from (Some owed) [] = Some owed
+owed_from (Some owed) (event ∷ events) = owed_from (owed_then owed event) events
+
+-- whether a round is owed after these events; none of them may come elsewhere
+abbrev pub owed_after : Bool → List Event → Option Bool
+owed_after owed events = owed_from (Some owed) events
+
+-- what an event does to the parts of a session, what a request does at which memory runs out, and
+-- how often each server was sent to and probed
+pub record Effects (W : Type 0) : Type 1 where
+  pub step : W → Event → W → Type 0
+  pub cut : Request → W → W → Type 0
+  pub sent : W → ℕ → ℕ
+  pub probed : W → ℕ → ℕ
+
+module _ {H L T C : Type 0} (steps : H → HealthItem → H → Type 0) (grants : H → ℕ → Type 0)
+    (exchanges : L → LinksItem → L → Type 0) (sent probed : L → ℕ → ℕ)
+    (records : T → TrailEvent → T → Type 0) (reads : C → ℕ → C → Type 0) where
+  -- a round with these visits, in which nothing was sent to a server but its probes
+  pub record IsRoundOf (visits : List Visit) (old new : Parts H L T C) : Type 0 where
+    pub short : Bool
+    pub round : IsRound steps grants exchanges probed reads old.backend short new.backend
+    pub visited : round.visits ≡ visits
+    pub others : new ≡ record old { backend = new.backend }
+    pub sends : (server : ℕ) → sent new.backend.links server ≡ sent old.backend.links server
+
+  -- what an event changes
+  abbrev pub IsEvent : Parts H L T C → Event → Parts H L T C → Type 0
+  IsEvent old (Answer turn) new = IsTurn steps exchanges sent records old turn new
+  IsEvent old (RoundAfter visits) new = IsRoundOf visits old new
+  IsEvent old (IdleRound visits) new = IsRoundOf visits old new
+
+-- nothing was done, for which no memory is needed
+pub record NoneRun {W : Type 0} (short : Bool) (old new : W) : Type 0 where
+  pub never_short : short ≡ false
+  pub same : new ≡ old
+
+module _ {H L T C : Type 0} (health : HealthGhosts H) (links : LinksGhosts L)
+    (clock : ClockGhosts C) where
+  -- a round was run, in which memory ran out or did not, and nothing was sent to a server but its
+  -- probes
+  pub record Rounded (short : Bool) (old new : Parts H L T C) : Type 0 where
+    pub round : IsRound health.steps health.grants links.exchanges links.probed clock.reads
+        old.backend short new.backend
+    pub others : new ≡ record old { backend = new.backend }
+    pub sends : (server : ℕ)
+        → links.sent new.backend.links server ≡ links.sent old.backend.links server
+
+  -- a round was run where one was owed, and else nothing was done; memory ran out or did not
+  pub record IsRun (owes short : Bool) (old new : Parts H L T C) : Type 0 where
+    pub ran : MatchBool owes (Rounded short old new) (NoneRun short old new)

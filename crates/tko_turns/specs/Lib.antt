@@ -1,0 +1,5 @@
+pub mod Driven
+pub mod Effects
+pub mod Events
+pub mod SessionState
+pub mod Turns

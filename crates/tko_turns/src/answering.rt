@@ -1,0 +1,154 @@
+//! A session is driven over a worker's links: what it asks for is sent, and its rounds are run.
+ghost use Rattle.std.specs.Prelude.{◌≡◌, ◌≤◌, ◌<◌, false, true, Ok, OnOk, OnErr, IfOk, is_err, length};
+ghost use Rattle.tko_text.specs.Reading.{NeedsMore};
+ghost use Rattle.tko_backend.specs.Probers.{AreQuiet, NoneMarked};
+ghost use Rattle.tko_answer.specs.Answers.{Reaches};
+ghost use Rattle.tko_answer.specs.Replies.{reply_bound};
+ghost use Rattle.tko_turns.specs.Effects.{effects};
+ghost use Rattle.tko_turns.specs.Events.{IsRun};
+ghost use Rattle.tko_turns.specs.SessionState.{Answered, AnsweredPart, snapshot};
+ghost use Rattle.tko_turns.specs.declared.step.Work.TheVariants.{Between};
+
+use crate::{Parts, Progress, Session, Step, Trails, round};
+use std::alloc::Global;
+use tko_backend::Clock;
+use tko_bytes::NoMemory;
+use tko_links::{IoRuntime, Links};
+use tko_route::Health;
+
+/// Answers the items that are decided, in order, until none is left, until the replies that wait
+/// reach their bound, or until a round is owed that may take long. The round after a request is run
+/// at once while no prober is at work.
+pub fn answer<R: IoRuntime, H: Health, L: Links, T: Trails, C: Clock>(
+    rt: &R,
+    alloc: Global,
+    session: &mut Session,
+    parts: &mut Parts<H, L, T, C>,
+) -> Result<Progress, NoMemory>
+    requires reach { Reaches H.servers L.servers parts.old }
+    requires owes { session.old.owes ≡ false }
+    requires between { session.old.work ≡ Between }
+    ensures ok { IfOk result (λ progress. Answered
+        (effects H.Health L.Links T.Trails C.Clock) progress
+        (snapshot session.old parts.old) (snapshot session.new parts.new)) }
+    ensures full { result ≡ Ok Progress.More → session.new.owes ≡ false
+        → reply_bound ≤ length session.new.outbox }
+    ensures err { OnErr result (AnsweredPart
+        (effects H.Health L.Links T.Trails C.Clock)
+        (snapshot session.old parts.old) (snapshot session.new parts.new)) }
+    ensures busy { OnOk result
+        (session.new.owes ≡ true → ¬ AreQuiet parts.new.backend.probers) }
+    ensures begun { NoneMarked parts.old.backend.probers → session.new.owes ≡ false
+        → NoneMarked parts.new.backend.probers }
+    ensures between { session.new.work ≡ Between }
+    ensures reach { Reaches H.servers L.servers parts.new }
+{
+    for _ in rt.forever() {
+        if session.owes_round() {
+            return Ok(Progress::More);
+        }
+        if session.is_full() {
+            return Ok(Progress::More);
+        }
+        match answer_next(rt, alloc, session, parts)? {
+            Progress::More => {}
+            Progress::NeedsInput => return Ok(Progress::NeedsInput),
+            Progress::LineTooLong => return Ok(Progress::LineTooLong),
+            Progress::Quit => return Ok(Progress::Quit),
+        }
+    }
+    unreachable!()
+}
+
+/// Runs the round that is owed, if one is.
+pub fn run_owed_round<R: IoRuntime, H: Health, L: Links, T, C: Clock>(
+    rt: &R,
+    session: &mut Session,
+    parts: &mut Parts<H, L, T, C>,
+) -> Result<(), NoMemory>
+    requires reach { Reaches H.servers L.servers parts.old }
+    ensures round { IsRun H.Health L.Links C.Clock session.old.owes (is_err result)
+        parts.old parts.new }
+    ensures none_owed { session.new ≡ record session.old { owes = false } }
+    ensures begun { session.old.owes ≡ true → NoneMarked parts.new.backend.probers }
+    ensures reach { Reaches H.servers L.servers parts.new }
+{
+    if !session.owes_round() {
+        return Ok(());
+    }
+    session.round_run();
+    round(rt, parts)
+}
+
+/// Answers the next item, if one is decided, and runs its round while no prober is at work.
+fn answer_next<R: IoRuntime, H: Health, L: Links, T: Trails, C: Clock>(
+    rt: &R,
+    alloc: Global,
+    session: &mut Session,
+    parts: &mut Parts<H, L, T, C>,
+) -> Result<Progress, NoMemory>
+    requires reach { Reaches H.servers L.servers parts.old }
+    requires owes { session.old.owes ≡ false }
+    requires between { session.old.work ≡ Between }
+    requires room { length session.old.outbox < reply_bound }
+    ensures ok { IfOk result (λ progress. Answered
+        (effects H.Health L.Links T.Trails C.Clock) progress
+        (snapshot session.old parts.old) (snapshot session.new parts.new)) }
+    ensures more { result ≡ Ok Progress.More → ¬ NeedsMore session.old.reading }
+    ensures err { OnErr result (AnsweredPart
+        (effects H.Health L.Links T.Trails C.Clock)
+        (snapshot session.old parts.old) (snapshot session.new parts.new)) }
+    ensures busy { OnOk result
+        (session.new.owes ≡ true → ¬ AreQuiet parts.new.backend.probers) }
+    ensures begun { NoneMarked parts.old.backend.probers → session.new.owes ≡ false
+        → NoneMarked parts.new.backend.probers }
+    ensures between { session.new.work ≡ Between }
+    ensures reach { Reaches H.servers L.servers parts.new }
+{
+    let progress = answer_item(rt, alloc, session, parts)?;
+    if !parts.backend.probers.is_quiet() {
+        return Ok(progress);
+    }
+    run_owed_round(rt, session, parts)?;
+    Ok(progress)
+}
+
+/// Answers the next item, if one is decided: sends what its answer asks for, until its reply is
+/// complete.
+fn answer_item<R: IoRuntime, H: Health, L: Links, T: Trails, C: Clock>(
+    rt: &R,
+    alloc: Global,
+    session: &mut Session,
+    parts: &mut Parts<H, L, T, C>,
+) -> Result<Progress, NoMemory>
+    requires reach { Reaches H.servers L.servers parts.old }
+    requires owes { session.old.owes ≡ false }
+    requires between { session.old.work ≡ Between }
+    requires room { length session.old.outbox < reply_bound }
+    ensures ok { IfOk result (λ progress. Answered
+        (effects H.Health L.Links T.Trails C.Clock) progress
+        (snapshot session.old parts.old) (snapshot session.new parts.new)) }
+    ensures more { result ≡ Ok Progress.More → ¬ NeedsMore session.old.reading }
+    ensures err { OnErr result (AnsweredPart
+        (effects H.Health L.Links T.Trails C.Clock)
+        (snapshot session.old parts.old) (snapshot session.new parts.new)) }
+    ensures unowed { session.new.owes ≡ false
+        → parts.new.backend.probers ≡ parts.old.backend.probers }
+    ensures between { session.new.work ≡ Between }
+    ensures reach { Reaches H.servers L.servers parts.new }
+{
+    let mut step = session.next(rt, alloc, parts)?;
+    for _ in rt.forever() {
+        match step {
+            Step::At(progress) => return Ok(progress),
+            Step::Next => step = session.next(rt, alloc, parts)?,
+            Step::Asks(clear) => {
+                match parts.backend.links.exchange(rt, clear, session.request()) {
+                    Ok(outcome) => step = session.answered(rt, parts, outcome)?,
+                    Err(fault) => return Err(session.stop(parts, fault)),
+                }
+            }
+        }
+    }
+    unreachable!()
+}

@@ -1,0 +1,408 @@
+//! One client's session as a value that is driven: bytes in, requests to be sent out, what came of
+//! each in, replies out. It sends and waits for nothing itself.
+ghost use Rattle.std.specs.Prelude.{◌≡◌, ◌≢◌, ◌≤◌, ◌↔◌, ◌++◌, false, IfNone, IfOk, IfSome, IsErrOf, IsTrue, OnErr, OnOk, drop, length};
+ghost use Rattle.tko_text.specs.Reading.{Emits, NeedsMore, Never};
+ghost use Rattle.tko_text.specs.Requests.{fault_text};
+ghost use Rattle.tko_answer.specs.Asking.{BeginsAt, HasServers, Stays, with_noted};
+ghost use Rattle.tko_answer.specs.Replies.{reply_bound};
+ghost use Rattle.tko_turns.specs.Driven.{IsAwaiting, IsOut, IsReady, KeyBegun, KeyDropped, ItemDropped, ItemRead, MayGoOn, OutcomeDropped, OutcomeTaken, RequestBegun, RequestDropped, WasDropped, WentOn, dropped, step_of, went};
+ghost use Rattle.tko_turns.specs.SessionState.{fed_state, fresh, progress_after, progress_of, snapshot};
+
+use crate::step::{Progress, Report, Step, Work};
+use crate::{Parts, Trails};
+use std::alloc::Global;
+use std::marker::Model;
+use std::mem::replace;
+use tko_answer::{Answer, Asking, OneKey, Outbox};
+use tko_bytes::NoMemory;
+use tko_links::{IoRuntime, Outcome};
+use tko_route::Health;
+use tko_text::{FeedFault, Item, Reader, Request, TextFault};
+
+/// One client's session: the reader of its bytes, the replies that wait to be written, the number
+/// of its requests, whether it owes the round after the last one, and how far the answer to a
+/// request came. It borrows nothing between two calls.
+#[derive(Drop)]
+pub struct Session {
+    reader: Reader,
+    outbox: Outbox,
+    requests: u64,
+    owes: bool,
+    work: Work,
+    /// Where the reply to the request begins in the outbox.
+    begin: usize,
+    /// The targets of the key that is asked for, and the room for those of the next one.
+    targets: Vec<usize>,
+}
+
+impl Model for Session {
+    ghost use Rattle.tko_turns.specs.SessionState.{SessionState};
+
+    ghost Value = { SessionState };
+
+    ghost view = { λ s. record {
+      reading = s.reader;
+      outbox = s.outbox;
+      requests = s.requests;
+      owes = s.owes;
+      work = s.work;
+      begin = s.begin;
+      targets = s.targets.items;
+    } };
+}
+
+impl Session {
+    pub fn new(alloc: Global) -> Session
+        ensures { result ≡ fresh }
+    {
+        Session {
+            reader: Reader::new(alloc),
+            outbox: Outbox::new(alloc),
+            requests: 0,
+            owes: false,
+            work: Work::Between,
+            begin: 0,
+            targets: Vec::new(alloc),
+        }
+    }
+
+    /// Takes the next piece of the client's bytes. After a line too long it takes none: each call
+    /// then fails with `Failed`, and none with `Memory`.
+    pub fn feed(&mut self, piece: &[u8]) -> Result<(), FeedFault>
+        ensures ok { OnOk result (self.new ≡ fed_state self.old piece.now) }
+        ensures failed { IsErrOf result FeedFault.Failed ↔ (self.old.reading.after ≡ Never) }
+        ensures err { OnErr result (self.new ≡ self.old) }
+    {
+        self.reader.feed(piece)
+    }
+
+    /// Goes on with the next key of the request that is being answered, or else with the next item,
+    /// if one is decided.
+    pub fn next<R: IoRuntime, H: Health, L, T: Trails, C>(
+        &mut self,
+        rt: &R,
+        alloc: Global,
+        parts: &mut Parts<H, L, T, C>,
+    ) -> Result<Step, NoMemory>
+        requires servers { HasServers H.servers parts.old }
+        requires ready { IsReady parts.old.config self.old }
+        requires may { MayGoOn self.old.work }
+        ensures ok { IfOk result (λ step. WentOn H.steps T.records self.old.work
+            (snapshot self.old parts.old) step (snapshot self.new parts.new)) }
+        ensures err { OnErr result (WasDropped H.steps T.records self.old.work
+            (snapshot self.old parts.old) (snapshot self.new parts.new)) }
+        ensures ready { OnOk result (IsReady parts.new.config self.new) }
+        ensures stays { Stays H.servers parts.old parts.new }
+    {
+        match self.take_work() {
+            Work::Between => self.next_item(rt, alloc, parts),
+            Work::AtKey(key) => self.begin_key(rt, alloc, parts, key),
+            Work::Awaits(_) => unreachable!(),
+        }
+    }
+
+    /// The request that may be sent, to the server that the last permission names.
+    pub fn request(&self) -> &Request
+        requires { IsAwaiting self.now.work }
+        ensures { (it : Asking) → self.now.work ≡ Work.Awaits it → result.now ≡ it.key.request }
+    {
+        match &self.work {
+            Work::Awaits(asking) => asking.request(),
+            Work::Between => unreachable!(),
+            Work::AtKey(_) => unreachable!(),
+        }
+    }
+
+    /// Records what came of the send, and goes on to the next target unless it was answered.
+    pub fn answered<R: IoRuntime, H: Health, L, T: Trails, C>(
+        &mut self,
+        rt: &R,
+        parts: &mut Parts<H, L, T, C>,
+        outcome: Outcome,
+    ) -> Result<Step, NoMemory>
+        requires servers { HasServers H.servers parts.old }
+        requires ready { IsReady parts.old.config self.old }
+        requires awaiting { IsAwaiting self.old.work }
+        ensures ok { IfOk result (λ step. (it : Asking) → self.old.work ≡ Work.Awaits it
+            → OutcomeTaken H.steps T.records outcome it
+            (snapshot self.old parts.old) step (snapshot self.new parts.new)) }
+        ensures err { OnErr result ((it : Asking) → self.old.work ≡ Work.Awaits it
+            → OutcomeDropped H.steps T.records outcome it
+            (snapshot self.old parts.old) (snapshot self.new parts.new)) }
+        ensures ready { OnOk result (IsReady parts.new.config self.new) }
+        ensures stays { Stays H.servers parts.old parts.new }
+    {
+        match self.take_work() {
+            Work::Awaits(asking) => self.take_outcome(rt, parts, asking, outcome),
+            Work::Between => unreachable!(),
+            Work::AtKey(_) => unreachable!(),
+        }
+    }
+
+    /// Drops the request where memory ran out at the send. The servers that the attempts before it
+    /// marked are going to be probed.
+    pub fn stop<H, L, T, C>(
+        &mut self,
+        parts: &mut Parts<H, L, T, C>,
+        fault: tko_links::NoMemory,
+    ) -> NoMemory
+        requires awaiting { IsAwaiting self.old.work }
+        ensures dropped { self.new ≡ dropped self.old }
+        ensures noted { (it : Asking) → self.old.work ≡ Work.Awaits it
+            → parts.new ≡ with_noted it.waiting.attempts parts.old }
+    {
+        match self.take_work() {
+            Work::Awaits(asking) => {
+                let _stopped = asking.stop(parts, fault);
+                self.drop_request()
+            }
+            Work::Between => unreachable!(),
+            Work::AtKey(_) => unreachable!(),
+        }
+    }
+
+    /// The replies that wait to be written. That to a request whose answer is under way is not
+    /// complete.
+    pub fn output(&self) -> &[u8]
+        ensures { result.now ≡ self.now.outbox }
+    {
+        self.outbox.as_slice()
+    }
+
+    /// Whether the replies reached the bound, so that they are to be written first.
+    pub fn is_full(&self) -> bool
+        ensures { IsTrue result ↔ (reply_bound ≤ length self.now.outbox) }
+    {
+        self.outbox.is_full()
+    }
+
+    /// Drops the first `count` bytes of the replies, which were written.
+    pub fn sent(&mut self, count: usize)
+        requires between { self.old.work ≡ Work.Between }
+        ensures { self.new ≡ record self.old { outbox = drop count self.old.outbox } }
+    {
+        self.outbox.drop_front(count);
+    }
+
+    /// Whether the round after the last request is still to be run.
+    pub fn owes_round(&self) -> bool
+        ensures { result ≡ self.now.owes }
+    {
+        self.owes
+    }
+
+    /// The round that was owed is run.
+    pub fn round_run(&mut self)
+        ensures { self.new ≡ record self.old { owes = false } }
+    {
+        self.owes = false;
+    }
+
+    /// What it came to, if the input ends here.
+    pub fn report(&self) -> Report
+        ensures requests { result.requests ≡ self.now.requests }
+        ensures unfinished { result.unfinished ≡ length self.now.reading.unread }
+    {
+        Report {
+            requests: self.requests,
+            unfinished: self.reader.unfinished() as u64,
+        }
+    }
+
+    /// What it came to, if `quit` ended it. What follows `quit` is no part of the session.
+    pub fn report_after_quit(&self) -> Report
+        ensures requests { result.requests ≡ self.now.requests }
+        ensures unfinished { result.unfinished ≡ 0 }
+    {
+        Report {
+            requests: self.requests,
+            unfinished: 0,
+        }
+    }
+
+    #[inline]
+    fn take_work(&mut self) -> Work
+        ensures work { result ≡ self.old.work }
+        ensures between { self.new ≡ record self.old { work = Work.Between } }
+    {
+        replace(&mut self.work, Work::Between)
+    }
+
+    /// Reads the next item, if one is decided. A fault is answered at once, a request begun.
+    fn next_item<R: IoRuntime, H: Health, L, T: Trails, C>(
+        &mut self,
+        rt: &R,
+        alloc: Global,
+        parts: &mut Parts<H, L, T, C>,
+    ) -> Result<Step, NoMemory>
+        requires servers { HasServers H.servers parts.old }
+        requires between { self.old.work ≡ Work.Between }
+        ensures ok { IfOk result (λ step. ItemRead H.steps T.records
+            (snapshot self.old parts.old) step (snapshot self.new parts.new)) }
+        ensures err { OnErr result (ItemDropped H.steps T.records
+            (snapshot self.old parts.old) (snapshot self.new parts.new)) }
+        ensures ready { OnOk result (IsReady parts.new.config self.new) }
+        ensures stays { Stays H.servers parts.old parts.new }
+    {
+        match self.read_item()? {
+            None => Ok(Step::At(Progress::NeedsInput)),
+            Some(Item::Fault(fault)) => self.answer_fault(fault),
+            Some(Item::Request(request)) => self.begin_request(rt, alloc, parts, request),
+        }
+    }
+
+    fn read_item(&mut self) -> Result<Option<Item>, NoMemory>
+        ensures item { IfOk result (λ found. IfSome found
+            (λ item. Emits self.old.reading item self.new.reading)) }
+        ensures none { IfOk result (λ found. IfNone found
+            (NeedsMore self.old.reading × (self.new ≡ self.old))) }
+        ensures others { self.new ≡ record self.old { reading = self.new.reading } }
+    {
+        self.reader.next()
+    }
+
+    /// Answers a fault.
+    fn answer_fault(&mut self, fault: TextFault) -> Result<Step, NoMemory>
+        ensures ok { OnOk result (self.new
+            ≡ record self.old { outbox = self.old.outbox ++ fault_text fault }) }
+        ensures step { IfOk result (λ step. step ≡ Step.At (progress_after fault)) }
+        ensures err { OnErr result (self.new ≡ self.old) }
+    {
+        self.outbox.append(fault.reply())?;
+        Ok(Step::At(progress_after(fault)))
+    }
+
+    /// Records a request, and begins to answer it or its first key. From here on its round is owed.
+    fn begin_request<R: IoRuntime, H: Health, L, T: Trails, C>(
+        &mut self,
+        rt: &R,
+        alloc: Global,
+        parts: &mut Parts<H, L, T, C>,
+        request: Request,
+    ) -> Result<Step, NoMemory>
+        requires servers { HasServers H.servers parts.old }
+        requires between { self.old.work ≡ Work.Between }
+        ensures ok { IfOk result (λ step. RequestBegun H.steps T.records request
+            (snapshot self.old parts.old) step (snapshot self.new parts.new)) }
+        ensures err { OnErr result (RequestDropped H.steps T.records request
+            (snapshot self.old parts.old) (snapshot self.new parts.new)) }
+        ensures ready { OnOk result (IsReady parts.new.config self.new) }
+        ensures stays { Stays H.servers parts.old parts.new }
+    {
+        self.owes = true;
+        self.begin = self.outbox.len();
+        parts.trails.request(rt, &request)?;
+        let progress = progress_of(&request);
+        let Ok(answer) = Answer::begin(rt, alloc, parts, &mut self.outbox, request) else {
+            return Err(self.drop_request());
+        };
+        match answer {
+            Answer::Next(key) => self.begin_key(rt, alloc, parts, key),
+            Answer::Done => Ok(self.go_to(Answer::Done, progress)),
+            Answer::Asks(_, _) => unreachable!(),
+        }
+    }
+
+    /// Begins a key of a request.
+    fn begin_key<R: IoRuntime, H: Health, L, T: Trails, C>(
+        &mut self,
+        rt: &R,
+        alloc: Global,
+        parts: &mut Parts<H, L, T, C>,
+        key: OneKey,
+    ) -> Result<Step, NoMemory>
+        requires servers { HasServers H.servers parts.old }
+        requires begins { BeginsAt self.old.begin key.share self.old.outbox }
+        ensures ok { IfOk result (λ step. KeyBegun H.steps T.records key
+            (snapshot self.old parts.old) step (snapshot self.new parts.new)) }
+        ensures err { OnErr result (KeyDropped H.steps T.records key
+            (snapshot self.old parts.old) (snapshot self.new parts.new)) }
+        ensures ready { OnOk result (IsReady parts.new.config self.new) }
+        ensures stays { Stays H.servers parts.old parts.new }
+    {
+        let Ok(answer) = key.begin(rt, alloc, parts, &mut self.targets, &mut self.outbox) else {
+            return Err(self.drop_request());
+        };
+        Ok(self.go_to(answer, Progress::More))
+    }
+
+    /// Records what came of a send, and goes on with its key.
+    fn take_outcome<R: IoRuntime, H: Health, L, T: Trails, C>(
+        &mut self,
+        rt: &R,
+        parts: &mut Parts<H, L, T, C>,
+        asking: Asking,
+        outcome: Outcome,
+    ) -> Result<Step, NoMemory>
+        requires servers { HasServers H.servers parts.old }
+        requires out { IsOut parts.old.config self.old asking }
+        ensures ok { IfOk result (λ step. OutcomeTaken H.steps T.records outcome asking
+            (snapshot self.old parts.old) step (snapshot self.new parts.new)) }
+        ensures err { OnErr result (OutcomeDropped H.steps T.records outcome asking
+            (snapshot self.old parts.old) (snapshot self.new parts.new)) }
+        ensures ready { OnOk result (IsReady parts.new.config self.new) }
+        ensures stays { Stays H.servers parts.old parts.new }
+    {
+        let targets = self.targets.as_slice();
+        let Ok(answer) = asking.answered(rt, parts, targets, &mut self.outbox, outcome) else {
+            return Err(self.drop_request());
+        };
+        Ok(self.go_to(answer, Progress::More))
+    }
+
+    /// Keeps how far the answer came, and says what it asks for.
+    #[inline]
+    fn go_to(&mut self, answer: Answer, progress: Progress) -> Step
+        ensures asks { result ≡ step_of progress answer }
+        ensures went { self.new ≡ went answer self.old }
+    {
+        match answer {
+            Answer::Asks(clear, asking) => {
+                self.work = Work::Awaits(asking);
+                Step::Asks(clear)
+            }
+            Answer::Next(key) => {
+                self.work = Work::AtKey(key);
+                Step::Next
+            }
+            Answer::Done => {
+                self.work = Work::Between;
+                self.requests = self.requests.saturating_add(1);
+                Step::At(progress)
+            }
+        }
+    }
+
+    /// Drops what there is of the reply to the request.
+    fn drop_request(&mut self) -> NoMemory
+        ensures { self.new ≡ dropped self.old }
+    {
+        self.work = Work::Between;
+        self.outbox.truncate(self.begin);
+        NoMemory
+    }
+}
+
+/// How far a session is once it answered this fault.
+fn progress_after(fault: TextFault) -> Progress
+    ensures { result ≡ progress_after fault }
+{
+    match fault {
+        TextFault::LineTooLong => Progress::LineTooLong,
+        TextFault::UnknownCommand
+        | TextFault::BadLine
+        | TextFault::BadKey
+        | TextFault::BadChunk
+        | TextFault::TooLarge => Progress::More,
+    }
+}
+
+/// How far a session is once it answered this request.
+fn progress_of(request: &Request) -> Progress
+    ensures { result ≡ progress_of request.now }
+{
+    match request {
+        Request::Quit => Progress::Quit,
+        _ => Progress::More,
+    }
+}

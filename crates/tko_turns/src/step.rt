@@ -1,0 +1,48 @@
+//! What a session is at, and what it asks of who drives it.
+
+use tko_answer::{Asking, OneKey};
+use tko_model::Clear;
+
+/// What a session came to, at the end of its input.
+#[derive(Clone, Copy, Debug, PartialEq, Eq)]
+pub struct Report {
+    /// How many items were no faults; the greatest number means that many or more.
+    pub requests: u64,
+    /// How many bytes came of an item that the end of input cut.
+    pub unfinished: u64,
+}
+
+/// How far a session answered what it read.
+#[derive(Clone, Copy, Debug, PartialEq, Eq)]
+pub enum Progress {
+    /// There may be more to answer, once the replies were written and the owed round was run.
+    More,
+    /// Everything that is decided was answered: the session needs the next piece.
+    NeedsInput,
+    /// The last item was a line too long, after which nothing is read.
+    LineTooLong,
+    /// The last item was `quit`: the session is over, and nothing that follows is to be answered.
+    Quit,
+}
+
+/// What a session asks for next.
+#[derive(Drop)]
+pub enum Step {
+    /// Its request is to be sent once, to the server that the permission names.
+    Asks(Clear),
+    /// It is to be called again, for the next key of the request.
+    Next,
+    /// An item was answered, or none is decided.
+    At(Progress),
+}
+
+/// How far the answer to a request came.
+#[derive(Drop)]
+pub enum Work {
+    /// No request is being answered.
+    Between,
+    /// This key is to be asked for.
+    AtKey(OneKey),
+    /// What comes of a send is awaited.
+    Awaits(Asking),
+}
