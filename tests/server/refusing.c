@@ -1,5 +1,6 @@
 /* Put before libc by LD_PRELOAD: malloc and realloc refuse the call with the number REFUSED_CALL, counted from 1, and
-   then write a byte to the descriptor REFUSED_TO. */
+   then write a byte to the descriptor REFUSED_TO. With REFUSED_FROM, calls are counted once there is a file of that
+   name. */
 #define _GNU_SOURCE
 #include <dlfcn.h>
 #include <errno.h>
@@ -10,15 +11,17 @@ static void *(*next_malloc)(size_t);
 static void *(*next_realloc)(void *, size_t);
 static long left;
 static int told;
+static const char *from;
 
 __attribute__((constructor)) static void begin(void) {
     const char *number = getenv("REFUSED_CALL"), *to = getenv("REFUSED_TO");
     left = number ? atol(number) : 0;
     told = to ? atoi(to) : -1;
+    from = getenv("REFUSED_FROM");
 }
 
 static int is_refused(void) {
-    if (left == 0 || --left > 0)
+    if (left == 0 || (from && access(from, F_OK) != 0) || --left > 0)
         return 0;
     if (write(told, "x", 1) != 1)
         abort();

@@ -5,7 +5,7 @@ import subprocess
 import tempfile
 
 from parts import PROGRAM, ServerTest, configuration, serve_words, start, stop
-from ports import free_port
+from ports import free_port, wait_until
 from talk import Client, store, values
 
 TWO = '{"pools":{"A":{"servers":["h:1","h:2"]},"B":{"servers":["h:3"]}},' \
@@ -22,10 +22,13 @@ class RefusedMemory(ServerTest):
         cls.refusing = f"{cls.folder.name}/refusing.so"
         subprocess.run(["gcc", "-shared", "-fPIC", "-o", cls.refusing, "refusing.c"], check=True)
 
-    def start_with(self, words, refused, **options):
-        """The program, of which this call for memory is refused, and a file that then has a byte."""
+    def start_with(self, words, refused, counted_from=None, **options):
+        """The program, of which this call for memory is refused, and a file that then has a byte. The calls are counted
+        once there is the file `counted_from`, where it is given."""
         told, tells = os.pipe()
         env = {**os.environ, "LD_PRELOAD": self.refusing, "REFUSED_CALL": str(refused), "REFUSED_TO": str(tells)}
+        if counted_from:
+            env["REFUSED_FROM"] = counted_from
         try:
             options = {"stdout": subprocess.PIPE, "stderr": subprocess.PIPE, **options}
             return start(words, env=env, pass_fds=[tells], **options), os.fdopen(told, "rb")
@@ -119,3 +122,32 @@ class RefusedMemory(ServerTest):
                 self.assertIn(b" clients sessions=1 faults=1\n", errors, f"call {call}")
         self.assertEqual((reply, status), (whole, 0))
         self.assertGreater(noted, 0)
+
+    def test_a_probe(self):
+        """The first answer to a probe is too long for the memory that there is: the session ends, and no probe is lost."""
+        probed = f"{self.folder.name}/probed"
+
+        def behave(_, request):
+            if request != b"version\r\n":
+                return b"END\r\n" if os.path.exists(probed) else b""
+            with open(probed, "wb"):
+                return b"VERSION " + b"1" * 3000 + b"\r\n"
+
+        port = free_port()
+        options = {"connections": 2, "threads": 1, "failures": 1, "first_delay": 20, "greatest_delay": 40}
+        process, told = self.start_with(serve_words(port, configuration(only=[self.fake(behave)]), options), 1,
+                                        counted_from=probed)
+        with told:
+            self.assertEqual(process.stdout.readline(), b"ready\n")
+            with Client(port) as client:
+                self.assertEqual(client.ask(b"get a\r\n"), b"SERVER_ERROR no server\r\n")
+                self.assertEqual(client.socket.recv(1), b"")
+            with Client(port) as client:
+                wait_until(lambda: client.ask(b"get a\r\n") == b"END\r\n", 10, "the server is probed again")
+                client.send(b"quit\r\n")
+            _, errors = process.communicate()
+            stop(process)
+            self.assertEqual(told.read(), b"x")
+        self.assertEqual(process.returncode, 0)
+        self.assertIn(b" clients sessions=2 faults=1\n", errors)
+        self.assertTrue(errors.endswith(b"note: memory ran out in a session or in a round\n"), errors)
