@@ -134,7 +134,7 @@ class RefusedMemory(ServerTest):
                 return b"VERSION " + b"1" * 3000 + b"\r\n"
 
         port = free_port()
-        options = {"connections": 2, "threads": 1, "failures": 1, "first_delay": 20, "greatest_delay": 40}
+        options = {"connections": 2, "threads": 1, "failures": 1, "first_delay": 300, "greatest_delay": 300}
         process, told = self.start_with(serve_words(port, configuration(only=[self.fake(behave)]), options), 1,
                                         counted_from=probed)
         with told:
