@@ -31,7 +31,9 @@ use Rattle.tko_steps.specs.Core.{owner_of, CoreState, Shared, abstract_of, is_ca
 use Rattle.tko_steps.specs.Steps.{is_done, kind_of, kind_of_exchange, place_of, word_after}
 use Rattle.tko_steps.specs.Invariant.{IsCore, IsFoundBy, IsOwnOrUp, held_at}
 use Rattle.tko_steps.specs.Table.{action_of, same_mark, same_server, same_slots}
-use Rattle.tko_steps.proofs.CoreLemmas.{CanAct-at, enrolled-le, knows_at, one-le-held, stamp-fits, group-there}
+use Rattle.tko_steps.proofs.CoreLemmas.{group-there}
+use Rattle.tko_steps.proofs.PhaseLemmas.{knows_at, one-le-held}
+use Rattle.tko_steps.proofs.RoomLemmas.{CanAct-at, enrolled-le, stamp-fits}
 use Rattle.tko_steps.proofs.LegalLemmas.{Knows}
 use Rattle.tko_steps.proofs.TableLemmas.{eq-same_server, same_server-true, same_slots-true}
 use Rattle.tko_steps.proofs.ThreadLemmas.{number-lt}

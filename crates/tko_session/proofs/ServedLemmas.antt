@@ -1,5 +1,5 @@
 -- Laws of a whole session: nothing yet, one delivery more, one piece more, the end.
-use Rattle.std.proofs.Common.{◌≡◌, ◌≢◌, ℕ, Bool, true, ◌+◌, ◌<◌, ◌^◌, List, [], ◌∷◌, ◌++◌, drop, length, refl, sym, ap, subst, ◌∙◌, append_assoc, append-nil, arith, add-zero, Some, false}
+use Rattle.std.proofs.Common.{◌≡◌, ◌≢◌, ℕ, Bool, true, ◌+◌, ◌<◌, ◌^◌, List, [], ◌∷◌, ◌++◌, drop, length, refl, sym, ap, subst, ◌∙◌, append_assoc, append-nil, arith, add-zero, Some, false, Result, Ok, Err}
 use Rattle.std.proofs.lemmas.List.{drop_at}
 use Rattle.tko_model.proofs.RecordLemmas.{gains_append, gains_none, gains_one}
 use Rattle.tko_health.specs.declared.health.Health.{Ghosts as HealthGhosts}
@@ -24,7 +24,9 @@ use Rattle.tko_turns.specs.declared.step.Progress.TheVariants.{More, NeedsInput,
 use Rattle.tko_turns.specs.declared.step.Report.{Report}
 use Rattle.tko_io.specs.Io.{Writes, capped}
 use Rattle.tko_io.proofs.WriteLemmas.{writes_append, writes_none}
+use Rattle.tko_bytes.specs.declared.memory.NoMemory.{NoMemory}
 use Rattle.tko_turns.specs.Effects.{effects}
+use Rattle.tko_turns.specs.Ends.{AnsweringEnds}
 use Rattle.tko_session.specs.Ends.{AllDelivered, DeliveryStops, PieceStops, SessionStops}
 use Rattle.tko_turns.specs.Events.{Effects, Event, IdleRound, IsRun, NoneRun, Rounded, turns_of}
 use Rattle.tko_session.specs.Faults.{fault_of}
@@ -521,3 +523,16 @@ module _ {O H L T C : Type 0} {outlet : OutletGhosts O} {health : HealthGhosts H
       → DeliveredPart outlet (effects health links trails clock) 0 old new
   err_delivered front unwritten part run empty split wrote =
       part_delivered front unwritten part (ends_paid {trails = trails} part.behind run) empty split wrote
+
+  -- the same, whichever it was
+  pub ends_delivered : {short : Bool} {old new : Delivery O (Parts H L T C)} (mid : Snapshot (Parts H L T C))
+      → (front unwritten : List ℕ) (answered : Result Progress NoMemory)
+      → AnsweringEnds (effects health links trails clock) old.session answered mid
+      → IsRun health links clock mid.state.owes short mid.parts new.session.parts
+      → old.session.state.outbox ≡ [] → mid.state.outbox ≡ front ++ unwritten
+      → Writes outlet.takes old.writer front new.writer old.written new.written
+      → DeliveredPart outlet (effects health links trails clock) 0 old new
+  ends_delivered mid front unwritten (Ok progress) all run empty split wrote =
+      ok_delivered front unwritten all run empty split wrote
+  ends_delivered mid front unwritten (Err fault) part run empty split wrote =
+      err_delivered front unwritten part run empty split wrote

@@ -1,8 +1,10 @@
 //! One session over its two ends: a thin loop that moves bytes.
-ghost use Rattle.std.specs.Prelude.{◌≡◌, ◌≢◌, [], false};
+ghost use Rattle.std.specs.Prelude.{◌≡◌, ◌≢◌, ◌<◌, [], IfErr, OnErr, OnOk};
 ghost use Rattle.tko_text.specs.Reading.{Never};
 ghost use Rattle.tko_backend.specs.Probers.{NoneMarked};
+ghost use Rattle.tko_io.specs.Io.{Writes, WritesPart, capped};
 ghost use Rattle.tko_turns.specs.Effects.{effects};
+ghost use Rattle.tko_turns.specs.Ends.{IsSettled};
 ghost use Rattle.tko_session.specs.Ends.{DeliveryEnds, PieceEnds, SessionEnds};
 ghost use Rattle.tko_session.specs.Served.{context, delivery};
 ghost use Rattle.tko_answer.specs.Answers.{Reaches};
@@ -75,9 +77,8 @@ fn serve_piece<R: IoRuntime, O: Outlet, H: Health, L: Links, T: Trails, C: Clock
     written: &mut u64,
 ) -> Result<bool, SessionFault>
     requires reach { Reaches H.servers L.servers parts.old }
+    requires settled { IsSettled session.old }
     requires outbox { session.old.outbox ≡ [] }
-    requires owes { session.old.owes ≡ false }
-    requires between { session.old.work ≡ Between }
     requires reads { session.old.reading.after ≢ Never }
     ensures ends { PieceEnds O.Outlet (effects H.Health L.Links T.Trails C.Clock)
         (delivery (fed_state session.old piece.now) parts.old writer.old written.old) result
@@ -110,9 +111,8 @@ fn deliver<R: IoRuntime, O: Outlet, H: Health, L: Links, T: Trails, C: Clock>(
     written: &mut u64,
 ) -> Result<Progress, SessionFault>
     requires reach { Reaches H.servers L.servers parts.old }
+    requires settled { IsSettled session.old }
     requires outbox { session.old.outbox ≡ [] }
-    requires owes { session.old.owes ≡ false }
-    requires between { session.old.work ≡ Between }
     ensures ends { DeliveryEnds O.Outlet (effects H.Health L.Links T.Trails C.Clock)
         (delivery session.old parts.old writer.old written.old) result
         (delivery session.new parts.new writer.new written.new) }
@@ -121,15 +121,38 @@ fn deliver<R: IoRuntime, O: Outlet, H: Health, L: Links, T: Trails, C: Clock>(
     ensures reach { Reaches H.servers L.servers parts.new }
 {
     let answered = answer(rt, alloc, session, parts);
-    let replies = session.output();
-    let count = replies.len();
-    let wrote = write_all(rt, writer, replies, written);
+    let wrote = write_replies(rt, session, writer, written);
     let rounded = run_owed_round(rt, session, parts);
-    if !wrote {
-        return Err(SessionFault::Write(*written));
-    }
-    session.sent(count);
+    wrote?;
     let progress = answered?;
     rounded?;
     Ok(progress)
+}
+
+/// Writes the replies that wait. Where the writer fails they stay, and the fault has the number of
+/// bytes of the session that were written.
+fn write_replies<R: IoRuntime, O: Outlet>(
+    rt: &R,
+    session: &mut Session,
+    writer: &mut O,
+    written: &mut u64,
+) -> Result<(), SessionFault>
+    requires between { session.old.work ≡ Between }
+    ensures taken { OnOk result (session.new ≡ record session.old { outbox = [] }) }
+    ensures all { OnOk result (Writes O.takes
+        writer.old session.old.outbox writer.new written.old written.new) }
+    ensures calm { OnOk result (O.failures writer.new ≡ O.failures writer.old) }
+    ensures kept { OnErr result (session.new ≡ session.old) }
+    ensures part { OnErr result (WritesPart O.takes
+        writer.old session.old.outbox writer.new written.old written.new) }
+    ensures failed { OnErr result (O.failures writer.old < O.failures writer.new) }
+    ensures fault { IfErr result (λ fault. fault ≡ SessionFault.Write (capped written.new)) }
+{
+    let replies = session.output();
+    let count = replies.len();
+    if !write_all(rt, writer, replies, written) {
+        return Err(SessionFault::Write(*written));
+    }
+    session.sent(count);
+    Ok(())
 }

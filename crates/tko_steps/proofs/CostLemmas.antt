@@ -22,7 +22,7 @@ use Rattle.tko_steps.specs.Invariant.{IsFoundBy, IsThread}
 use Rattle.tko_steps.specs.Steps.{answer_of, begun_by, decided_by, place_of}
 use Rattle.tko_steps.specs.Runs.{InEveryRun, OwnStep, World, calls_of}
 use Rattle.tko_steps.specs.Table.{action_of, goes, lost_try, same_server, same_slots}
-use Rattle.tko_steps.proofs.CoreLemmas.{knows_at}
+use Rattle.tko_steps.proofs.PhaseLemmas.{knows_at}
 use Rattle.tko_steps.proofs.EveryCallLemmas.{InFamily-run}
 use Rattle.tko_steps.proofs.FamilyLemmas.{Follows, act_own}
 use Rattle.tko_steps.proofs.StartLemmas.{CanLoosen, CanRead, from_start-is}

@@ -27,7 +27,9 @@ use Rattle.tko_steps.specs.Invariant.{IsCore, holds_at, holds_in, is_loose_at, i
 use Rattle.tko_steps.specs.Legal.{IsQuiet}
 use Rattle.tko_steps.specs.Table.{action_of, goes, lost_try, same_server, same_slots}
 use Rattle.tko_steps.proofs.CountLemmas.{bit, holds-own, loose-own, unread}
-use Rattle.tko_steps.proofs.CoreLemmas.{knows_at, loose-le-holds, own-group, written}
+use Rattle.tko_steps.proofs.SoftMarkLemmas.{loose-le-holds}
+use Rattle.tko_steps.proofs.CoreLemmas.{own-group}
+use Rattle.tko_steps.proofs.PhaseLemmas.{knows_at, written}
 use Rattle.tko_steps.proofs.LegalLemmas.{IsNotNewer, IsSoundCall, Knows, Knows-kept, Told, done-before, done-write, open_call, sound-answered, sound-open, still_quiet, told-full, told-limit, told-lost, told-start, with_decision}
 use Rattle.tko_steps.proofs.OwnLemmas.{act_step, exchange_step}
 use Rattle.tko_steps.proofs.AlongLemmas.{AtAct, AtBegin, AtEnrol, along-turn, along-turns}

@@ -1,5 +1,6 @@
 pub mod AloneLemmas
 pub mod AlongLemmas
+pub mod BeginLemmas
 pub mod CallLemmas
 pub mod ChainLemmas
 pub mod CoreLemmas
@@ -9,6 +10,7 @@ pub mod EveryCallLemmas
 pub mod FamilyLemmas
 pub mod JoinedLemmas
 pub mod KindLemmas
+pub mod KnownLemmas
 pub mod LegalLemmas
 pub mod LoserLemmas
 pub mod LostLemmas
@@ -18,7 +20,10 @@ pub mod OwnLemmas
 pub mod OwnedLemmas
 pub mod OwnerLemmas
 pub mod PackedLemmas
+pub mod PhaseLemmas
+pub mod RoomLemmas
 pub mod RunLemmas
+pub mod SoftMarkLemmas
 pub mod SoloLemmas
 pub mod StartLemmas
 pub mod StepLemmas

@@ -25,7 +25,8 @@ use Rattle.tko_steps.specs.Invariant.{IsCore}
 use Rattle.tko_steps.specs.Lost.{IsChangedSince}
 use Rattle.tko_steps.specs.Table.{action_of, same_server, same_slots}
 use Rattle.tko_steps.proofs.CountLemmas.{unread}
-use Rattle.tko_steps.proofs.CoreLemmas.{CanAct-at, written}
+use Rattle.tko_steps.proofs.PhaseLemmas.{written}
+use Rattle.tko_steps.proofs.RoomLemmas.{CanAct-at}
 use Rattle.tko_steps.proofs.EveryCallLemmas.{HoldsBoth}
 use Rattle.tko_steps.proofs.EveryCallLemmas.{InFamily-run}
 use Rattle.tko_steps.proofs.FamilyLemmas.{Follows, InFamily, act_own}

@@ -19,7 +19,8 @@ use Rattle.tko_steps.specs.Invariant.{IsThread}
 use Rattle.tko_steps.specs.Steps.{kind_of_exchange, owned_after, owns_after, place_of}
 use Rattle.tko_steps.specs.Table.{action_of, same_server}
 use Rattle.tko_steps.proofs.CountLemmas.{unread}
-use Rattle.tko_steps.proofs.CoreLemmas.{IsFreeFor, free-found, free-fresh, owners-written, written}
+use Rattle.tko_steps.proofs.KnownLemmas.{IsFreeFor}
+use Rattle.tko_steps.proofs.PhaseLemmas.{free-found, free-fresh, owners-written, written}
 use Rattle.tko_steps.proofs.TableLemmas.{same_server-true}
 use Rattle.tko_steps.proofs.TryLemmas.{by_exchange}
 

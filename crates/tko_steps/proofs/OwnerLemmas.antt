@@ -24,7 +24,7 @@ use Rattle.tko_steps.specs.Legal.{IsOwnersAnswer}
 use Rattle.tko_steps.specs.Runs.{InEveryRun, Moment, OwnStep, Took, World, calls_of, owns}
 use Rattle.tko_steps.specs.Steps.{is_server, owns_after}
 use Rattle.tko_steps.specs.Table.{goes, lost_try, same_server, same_slots}
-use Rattle.tko_steps.proofs.CoreLemmas.{knows_at}
+use Rattle.tko_steps.proofs.PhaseLemmas.{knows_at}
 use Rattle.tko_steps.proofs.EveryCallLemmas.{InFamily-run}
 use Rattle.tko_steps.proofs.FamilyLemmas.{Follows, act_own}
 use Rattle.tko_steps.proofs.StartLemmas.{from_start-is, is_plain, plain≢}

@@ -15,7 +15,7 @@ use Rattle.tko_steps.specs.declared.phase.ThreadState.TheVariants.{NotEnrolled, 
 use Rattle.tko_steps.specs.Core.{CoreState, number_of, thread_at}
 use Rattle.tko_steps.specs.Steps.{begun_by, in_call}
 use Rattle.tko_steps.specs.Invariant.{IsCore}
-use Rattle.tko_steps.proofs.CoreLemmas.{IsCore-after_begin}
+use Rattle.tko_steps.proofs.BeginLemmas.{IsCore-after_begin}
 use Rattle.tko_model.specs.Tracker.{server_at}
 use Rattle.tko_table.specs.declared.pass.Pass.{Pass}
 use Rattle.tko_table.specs.History.{Begins, changes_in}

@@ -17,7 +17,7 @@ use Rattle.tko_steps.specs.declared.phase.ThreadState.TheVariants.{NotEnrolled, 
 use Rattle.tko_steps.specs.Core.{Shared, has_number, number_of, owner_of, no_slots, slots_at, slots_in}
 use Rattle.tko_steps.specs.Invariant.{holds_in}
 use Rattle.tko_steps.specs.Steps.{is_marked_state}
-use Rattle.tko_steps.proofs.CoreLemmas.{enrolled-le}
+use Rattle.tko_steps.proofs.RoomLemmas.{enrolled-le}
 use Rattle.tko_steps.proofs.CountLemmas.{bit}
 use Rattle.tko_table.specs.declared.pass.Change.{Change}
 use Rattle.tko_table.specs.declared.pass.Pass.{Pass}

@@ -18,7 +18,8 @@ use Rattle.tko_steps.specs.declared.phase.ThreadState.{ThreadState}
 use Rattle.tko_steps.specs.declared.phase.ThreadState.TheVariants.{NotEnrolled, Idle, InCall}
 use Rattle.tko_steps.specs.Core.{CoreState, Shared, after_enrol, is_enrolled, number_of, owner_of, thread_at}
 use Rattle.tko_steps.specs.Invariant.{IsCore}
-use Rattle.tko_steps.proofs.CoreLemmas.{IsCore-after_enrol, enrolled-le}
+use Rattle.tko_steps.proofs.BeginLemmas.{IsCore-after_enrol}
+use Rattle.tko_steps.proofs.RoomLemmas.{enrolled-le}
 use Rattle.tko_steps.proofs.CountLemmas.{bit}
 use Rattle.tko_steps.proofs.ThreadLemmas.{enrolled-lt}
 use Rattle.tko_table.specs.declared.pass.Change.{Change}

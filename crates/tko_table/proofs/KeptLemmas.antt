@@ -24,7 +24,8 @@ use Rattle.tko_steps.proofs.OwnedLemmas.{own-step}
 use Rattle.tko_steps.specs.Steps.{is_done, state_after}
 use Rattle.tko_steps.specs.Invariant.{IsCore, IsPhase}
 use Rattle.tko_steps.specs.Table.{action_of, next_of}
-use Rattle.tko_steps.proofs.CoreLemmas.{IsCore-after_act, enrolled-le, knows_at}
+use Rattle.tko_steps.proofs.PhaseLemmas.{IsCore-after_act, knows_at}
+use Rattle.tko_steps.proofs.RoomLemmas.{enrolled-le}
 use Rattle.tko_steps.proofs.ThreadLemmas.{number-lt, number-once}
 use Rattle.tko_table.specs.declared.pass.Change.{Change}
 use Rattle.tko_table.specs.declared.pass.Pass.{Pass}

@@ -9,7 +9,7 @@ use Rattle.tko_word.specs.Words.{IsWord, firm_in, held_in, server_in}
 use Rattle.tko_steps.specs.declared.phase.ThreadState.TheVariants.{NotEnrolled}
 use Rattle.tko_steps.specs.Core.{Shared, opened_core, opened_words, no_slots, slots_in}
 use Rattle.tko_steps.specs.Invariant.{IsCore}
-use Rattle.tko_steps.proofs.CoreLemmas.{IsCore-opened_core}
+use Rattle.tko_steps.proofs.BeginLemmas.{IsCore-opened_core}
 use Rattle.tko_table.specs.declared.pass.Change.{Change}
 use Rattle.tko_table.specs.declared.pass.Pass.{Pass}
 use Rattle.tko_table.specs.History.{Begins}

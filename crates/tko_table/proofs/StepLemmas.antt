@@ -25,7 +25,9 @@ use Rattle.tko_steps.specs.declared.table.Action.TheVariants as action
 use Rattle.tko_steps.specs.declared.table.Observed.TheVariants as read
 use Rattle.tko_steps.specs.Core.{CanAct, CanShift, CanShiftIn, Shared, owner_of, seen_by, shared_after, slots_at, slots_in, thread_at}
 use Rattle.tko_steps.specs.Table.{action_of, same_server, same_slots}
-use Rattle.tko_steps.proofs.CoreLemmas.{CanAct-at, enrolled-le, group-there, knows_at, own-group}
+use Rattle.tko_steps.proofs.CoreLemmas.{group-there, own-group}
+use Rattle.tko_steps.proofs.PhaseLemmas.{knows_at}
+use Rattle.tko_steps.proofs.RoomLemmas.{CanAct-at, enrolled-le}
 use Rattle.tko_table.specs.declared.pass.Pass.{Pass}
 use Rattle.tko_table.specs.Rule.{IsKept, core_in, health_in, health_place, joined, shared_in, soft_place, states_of}
 use Rattle.tko_table.specs.Steps.{IsSoundWord, IsWithinLimit, read_in}

@@ -35,6 +35,7 @@ use Rattle.tko_answer.proofs.HeldLemmas.{AwaitsAt, HoldsAt, goes_awaits, goes_he
 use Rattle.tko_turns.specs.Driven.{IsOut, IsReady, IsReadyFor, ItemDropped, ItemRead, KeyBegun, KeyDropped, OutcomeDropped, OutcomeTaken, RequestBegun, RequestDropped, WasDropped, WentOn, begun_at, course_of, dropped, requests_after, step_of, went, work_of}
 use Rattle.tko_turns.specs.Driven as driven
 use Rattle.tko_turns.specs.Effects.{effects}
+use Rattle.tko_turns.specs.Ends.{IsSettled}
 use Rattle.tko_turns.specs.SessionState.{Answered, AnsweredPart, Replied, SessionState, Snapshot, progress_after, progress_of, snapshot}
 use Rattle.tko_turns.specs.Turns as turn
 use Rattle.tko_turns.specs.declared.step.Progress.{Progress}
@@ -43,13 +44,6 @@ use Rattle.tko_turns.specs.declared.step.Step.{Step}
 use Rattle.tko_turns.specs.declared.step.Step.TheVariants as step
 use Rattle.tko_turns.specs.declared.step.Work.TheVariants as work
 use Rattle.tko_turns.proofs.TurnLemmas.{answered_fault, answered_open, answered_request, part_cut, part_none}
-
--- what a call leaves for the next one
-pub ready_at : (config : Configuration) (state : SessionState) (at : Answer) → HoldsAt state.begin at state.outbox
-    → AwaitsAt config state.targets at → IsReady config (went at state)
-ready_at config state answer.Done held awaits = tt
-ready_at config state (answer.Next one) held awaits = held
-ready_at config state (answer.Asks clear it) held awaits = record { begins = held; sent = awaits }
 
 pub owed_or_not : {owes : Bool} → owes ≡ true → owes ≡ false → ⊥
 owed_or_not owed unowed = cc
@@ -74,7 +68,7 @@ first_some request waiting one (begins.of_several key left true is e) = subst (�
 first_some request waiting one (begins.of_several key left false is e) = subst (λ r. 0 < length (request_keys r)) (sym is) (omega arith)
 
 -- nothing but the reply is dropped
-taken : {xs ys : List ℕ} {n : ℕ} → Extends xs ys → n ≡ length xs → take n ys ≡ xs
+pub taken : {xs ys : List ℕ} {n : ℕ} → Extends xs ys → n ≡ length xs → take n ys ≡ xs
 taken {xs} {ys} {n} more same = ap (take n) more.is ∙ take_at xs more.more n (sym same)
 
 -- a request that is not answered yet goes on
@@ -111,11 +105,32 @@ module _ {H L T C : Type 0} (health : HealthGhosts H) (links : LinksGhosts L) (t
     pub unowed : now.state.owes ≡ false → now.parts.backend.probers ≡ old.parts.backend.probers
     pub between : now.state.work ≡ work.Between
 
+  -- memory ran out at the next item, and nothing of its reply is left
+  pub record IsCut (old new : Snapshot (Parts H L T C)) : Type 0 where
+    pub part : AnsweredPart (effects health links trails clock) old new
+    pub unowed : new.state.owes ≡ false → new.parts.backend.probers ≡ old.parts.backend.probers
+    pub between : new.state.work ≡ work.Between
+
+  -- a key of the next item is to be asked for
+  pub record IsAtKey (old now : Snapshot (Parts H L T C)) : Type 0 where
+    pub one : OneKey
+    pub at : now.state.work ≡ work.AtKey one
+    pub under : IsUnder health links trails progress.More old (answer.Next one) now
+
+  -- a send for it is out
+  pub record IsOutFor (old : Snapshot (Parts H L T C)) (clear : ℕ) (now : Snapshot (Parts H L T C)) : Type 0 where
+    pub it : Asking
+    pub at : now.state.work ≡ work.Awaits it
+    pub under : IsUnder health links trails progress.More old (answer.Asks clear it) now
+
   -- how far the next item was answered, where the session asks for this
-  abbrev pub IsOn : Snapshot (Parts H L T C) → Step → Snapshot (Parts H L T C) → Type 0
-  IsOn old (step.At at) now = IsOver at old now
-  IsOn old step.Next now = (one : OneKey) × (now.state.work ≡ work.AtKey one) × IsUnder health links trails progress.More old (answer.Next one) now
-  IsOn old (step.Asks clear) now = (it : Asking) × (now.state.work ≡ work.Awaits it) × IsUnder health links trails progress.More old (answer.Asks clear it) now
+  abbrev pub IsOnAt : Snapshot (Parts H L T C) → Step → Snapshot (Parts H L T C) → Type 0
+  IsOnAt old (step.At at) now = IsOver at old now
+  IsOnAt old step.Next now = IsAtKey old now
+  IsOnAt old (step.Asks clear) now = IsOutFor old clear now
+
+  pub record IsOn (old : Snapshot (Parts H L T C)) (wanted : Step) (now : Snapshot (Parts H L T C)) : Type 0 where
+    pub on : IsOnAt old wanted now
 
 module _ {H L T C : Type 0} (health : HealthGhosts H) (links : LinksGhosts L) (trails : TrailsGhosts T) (clock : ClockGhosts C) where
   -- the reply is complete
@@ -145,15 +160,31 @@ module _ {H L T C : Type 0} (health : HealthGhosts H) (links : LinksGhosts L) (t
         between = refl;
       }
 
+  -- the session goes on, as what is under way says
+  paused : {at : Progress} {to : Answer} {old mid : Snapshot (Parts H L T C)} → at ≡ progress.More
+      → requests_after to mid.state.requests ≡ mid.state.requests → IsUnder health links trails at old to mid
+      → IsUnder health links trails progress.More old to (snapshot (went to mid.state) mid.parts)
+  paused pause same under = record {
+    it = under.it;
+    told = under.told;
+    emits = under.emits;
+    recorded = under.recorded;
+    stands = under.stands;
+    begin = under.begin;
+    requests = same ∙ under.requests;
+    owes = under.owes;
+    then = under.then ∙ pause;
+  }
+
   -- a call of the session led to this answer
   lands : {at : Progress} {old mid : Snapshot (Parts H L T C)} (to : Answer) → old.state.owes ≡ false → length old.state.outbox < reply_bound
       → MayPause at to → IsUnder health links trails at old to mid
       → IsOn health links trails clock old (step_of at to) (snapshot (went to mid.state) mid.parts)
-  lands answer.Done none room pause under = complete none room under
+  lands answer.Done none room pause under = record { on = complete none room under }
   lands {at} {old} {mid} (answer.Next one) none room pause under =
-      (one, refl, record { it = under.it; told = under.told; emits = under.emits; recorded = under.recorded; stands = under.stands; begin = under.begin; requests = under.requests; owes = under.owes; then = under.then ∙ pause })
+      record { on = record { one = one; at = refl; under = paused pause refl under } }
   lands {at} {old} {mid} (answer.Asks clear it) none room pause under =
-      (it, refl, record { it = under.it; told = under.told; emits = under.emits; recorded = under.recorded; stands = under.stands; begin = under.begin; requests = under.requests; owes = under.owes; then = under.then ∙ pause })
+      record { on = record { it = it; at = refl; under = paused pause refl under } }
 
   landed : {at : Progress} {old mid : Snapshot (Parts H L T C)} {wanted : Step} {new : SessionState} (to : Answer) → old.state.owes ≡ false
       → length old.state.outbox < reply_bound → MayPause at to → IsUnder health links trails at old to mid
@@ -163,7 +194,7 @@ module _ {H L T C : Type 0} (health : HealthGhosts H) (links : LinksGhosts L) (t
       (subst (λ s. IsOn health links trails clock old (step_of at to) (snapshot s mid.parts)) (sym is) (lands to none room pause under))
 
   -- a key was asked for
-  pub key_on : {old now new : Snapshot (Parts H L T C)} {one : OneKey} {wanted : Step} → old.state.owes ≡ false → length old.state.outbox < reply_bound
+  key_on : {old now new : Snapshot (Parts H L T C)} {one : OneKey} {wanted : Step} → old.state.owes ≡ false → length old.state.outbox < reply_bound
       → IsUnder health links trails progress.More old (answer.Next one) now → KeyBegun health.steps trails.records one now wanted new
       → IsOn health links trails clock old wanted new
   key_on {old} {now} {new} none room under key =
@@ -180,6 +211,12 @@ module _ {H L T C : Type 0} (health : HealthGhosts H) (links : LinksGhosts L) (t
         owes = under.owes;
         then = under.then;
       }) key.asks key.state
+
+  pub went_on : {old now : Snapshot (Parts H L T C)} (wanted : Step) (new : Snapshot (Parts H L T C)) → old.state.owes ≡ false → length old.state.outbox < reply_bound
+      → IsAtKey health links trails clock old now → WentOn health.steps trails.records now.state.work now wanted new
+      → IsOn health links trails clock old wanted new
+  went_on {old} {now} wanted new none room key went =
+      key_on none room key.under (subst (λ w. WentOn health.steps trails.records w now wanted new) key.at went)
 
   -- the first key of a request is to be asked for
   first_under : {old : Snapshot (Parts H L T C)} {it : Request} {one : OneKey} {told : T} {to : Reading} → Emits old.state.reading (item.Request it) to
@@ -201,30 +238,32 @@ module _ {H L T C : Type 0} (health : HealthGhosts H) (links : LinksGhosts L) (t
   }
 
   -- the next item was read
-  pub read_on : {servers : H → ℕ} {old new : Snapshot (Parts H L T C)} {wanted : Step} → old.state.owes ≡ false → old.state.work ≡ work.Between
+  item_on : {servers : H → ℕ} {old new : Snapshot (Parts H L T C)} {wanted : Step} → IsSettled old.state
       → length old.state.outbox < reply_bound → Stays servers old.parts new.parts
       → ItemRead health.steps trails.records old wanted new → IsOn health links trails clock old wanted new
   unfolding NeedsMore
-  read_on {servers} {old} {new} {wanted} none between room stays (driven.none needs is same) =
+  item_on {servers} {old} {new} {wanted} settled room stays (driven.none needs is same) =
       let over : IsOver health links trails clock progress.NeedsInput old old = record {
         answered = answered_open old.state old.state old.parts needs refl;
         more = λ is. cc;
         unowed = λ no. refl;
-        between = between;
+        between = settled.between;
       } in
-      subst (λ s. IsOn health links trails clock old s new) (sym is) (subst (λ to. IsOver health links trails clock progress.NeedsInput old to) (sym same) over)
-  read_on {servers} {old} {new} {wanted} none between room stays (driven.refused fault emits is same) =
+      subst (λ s. IsOn health links trails clock old s new) (sym is)
+      (record { on = subst (λ to. IsOver health links trails clock progress.NeedsInput old to) (sym same) over })
+  item_on {servers} {old} {new} {wanted} settled room stays (driven.refused fault emits is same) =
       let read : SessionState = record old.state { reading = new.state.reading } in
       let then : SessionState = record read { outbox = old.state.outbox ++ fault_text fault } in
       let over : IsOver health links trails clock (progress_after fault) old (snapshot then old.parts) = record {
-        answered = answered_fault health links trails clock old.state read then old.parts fault (progress_after fault) emits refl refl refl none room;
+        answered = answered_fault health links trails clock old.state read then old.parts fault (progress_after fault) emits refl refl refl settled.unowed room;
         more = λ is needs. needs _ _ emits;
         unowed = λ no. refl;
-        between = between;
+        between = settled.between;
       } in
-      subst (λ s. IsOn health links trails clock old s new) (sym is) (subst (λ to. IsOver health links trails clock (progress_after fault) old to) (sym same) over)
-  read_on {servers} {old} {new} {wanted} none between room stays (driven.asked it emits (driven.itself told text recorded itself asks is)) =
-      landed {mid = snapshot (record old.state { reading = new.state.reading; outbox = old.state.outbox ++ text; begin = length old.state.outbox; owes = true }) new.parts} answer.Done none room tt
+      subst (λ s. IsOn health links trails clock old s new) (sym is)
+      (record { on = subst (λ to. IsOver health links trails clock (progress_after fault) old to) (sym same) over })
+  item_on {servers} {old} {new} {wanted} settled room stays (driven.asked it emits (driven.itself told text recorded itself asks is)) =
+      landed {mid = snapshot (record old.state { reading = new.state.reading; outbox = old.state.outbox ++ text; begin = length old.state.outbox; owes = true }) new.parts} answer.Done settled.unowed room tt
       (record {
         it = it;
         told = told;
@@ -238,8 +277,14 @@ module _ {H L T C : Type 0} (health : HealthGhosts H) (links : LinksGhosts L) (t
         owes = refl;
         then = refl;
       }) asks is
-  read_on none between room stays (driven.asked it emits (driven.by_key told one recorded first key)) =
-      key_on none room (first_under emits recorded first) key
+  item_on settled room stays (driven.asked it emits (driven.by_key told one recorded first key)) =
+      key_on settled.unowed room (first_under emits recorded first) key
+
+  pub read_on : {servers : H → ℕ} (old : Snapshot (Parts H L T C)) (wanted : Step) (new : Snapshot (Parts H L T C)) → IsSettled old.state
+      → length old.state.outbox < reply_bound → Stays servers old.parts new.parts
+      → WentOn health.steps trails.records old.state.work old wanted new → IsOn health links trails clock old wanted new
+  read_on old wanted new settled room stays went =
+      item_on settled room stays (subst (λ w. WentOn health.steps trails.records w old wanted new) settled.between went)
 
   -- what came of a send was recorded
   pub outcome_on : {old now new : Snapshot (Parts H L T C)} {clear : ℕ} {it : Asking} {wanted : Step} {after : L} {got : Outcome} → old.state.owes ≡ false
@@ -266,362 +311,109 @@ module _ {H L T C : Type 0} (health : HealthGhosts H) (links : LinksGhosts L) (t
       }) outcome.asks outcome.state
 
   -- the request was dropped
-  drop_part : {at : Progress} {to : Answer} {old now new : Snapshot (Parts H L T C)} → old.state.owes ≡ false → (under : IsUnder health links trails at old to now)
+  drop_cut : {at : Progress} {to : Answer} {old now new : Snapshot (Parts H L T C)} → old.state.owes ≡ false → (under : IsUnder health links trails at old to now)
       → Extends old.state.outbox now.state.outbox
       → IsAnswerCut health.steps links.exchanges links.sent links.probed trails.records under.it (record old.parts { trails = under.told }) new.parts
-      → new.state.outbox ≡ take now.state.begin now.state.outbox → new.state.owes ≡ now.state.owes
-      → AnsweredPart (effects health links trails clock) old new
-  drop_part {at} {to} {old} {now} {new} none under more cut left owes =
-      part_cut old.state new.state under.it now.state.reading old.parts new.parts under.emits (turn.recorded under.told under.recorded cut)
-      (left ∙ taken more under.begin) none (owes ∙ under.owes)
+      → new.state.outbox ≡ take now.state.begin now.state.outbox → new.state.owes ≡ now.state.owes → new.state.work ≡ work.Between
+      → IsCut health links trails clock old new
+  drop_cut {at} {to} {old} {now} {new} none under more cut left owes between = record {
+    part =
+        part_cut old.state new.state under.it now.state.reading old.parts new.parts under.emits (turn.recorded under.told under.recorded cut)
+        (left ∙ taken more under.begin) none (owes ∙ under.owes);
+    unowed = λ no. absurd (owed_or_not (owes ∙ under.owes) no);
+    between = between;
+  }
 
   -- where a key was asked for
-  pub key_part : {old now new : Snapshot (Parts H L T C)} {one : OneKey} → old.state.owes ≡ false
+  key_dropped : {old now new : Snapshot (Parts H L T C)} {one : OneKey} → old.state.owes ≡ false
       → IsUnder health links trails progress.More old (answer.Next one) now → KeyDropped health.steps trails.records one now new
-      → AnsweredPart (effects health links trails clock) old new
-  key_part none under key =
+      → IsCut health links trails clock old new
+  key_dropped none under key =
       let it = under.stands in
-      drop_part none under (at_extends it.1) (begun_in it.1 (key.cut it.0 (keyed it.1))) (ap (λ s. s.outbox) key.state) (ap (λ s. s.owes) key.state)
+      drop_cut none under (at_extends it.1) (begun_in it.1 (key.cut it.0 (keyed it.1))) (ap (λ s. s.outbox) key.state) (ap (λ s. s.owes) key.state)
+      (ap (λ s. s.work) key.state)
+
+  pub key_cut : {old now : Snapshot (Parts H L T C)} (new : Snapshot (Parts H L T C)) → old.state.owes ≡ false
+      → IsAtKey health links trails clock old now → WasDropped health.steps trails.records now.state.work now new
+      → IsCut health links trails clock old new
+  key_cut {old} {now} new none key lost =
+      key_dropped none key.under (subst (λ w. WasDropped health.steps trails.records w now new) key.at lost)
 
   -- where the outcome was recorded
-  pub outcome_part : {old now new : Snapshot (Parts H L T C)} {clear : ℕ} {it : Asking} {after : L} {got : Outcome} → old.state.owes ≡ false
+  pub outcome_cut : {old now : Snapshot (Parts H L T C)} {clear : ℕ} {it : Asking} {after : L} {got : Outcome} (new : Snapshot (Parts H L T C)) → old.state.owes ≡ false
       → IsUnder health links trails progress.More old (answer.Asks clear it) now
       → IsExchange (upstream health links) now.parts.backend.links (record { server = clear; request = it.key.request; result = Ok got }) after
       → ((server : ℕ) → links.probed after server ≡ links.probed now.parts.backend.links server)
       → OutcomeDropped health.steps trails.records got it (snapshot now.state (record now.parts { backend = record now.parts.backend { links = after } })) new
-      → AnsweredPart (effects health links trails clock) old new
-  outcome_part none under exchange unprobed outcome =
+      → IsCut health links trails clock old new
+  outcome_cut new none under exchange unprobed outcome =
       let sending = under.stands in
-      drop_part none under (at_extends sending.at)
+      drop_cut none under (at_extends sending.at)
       (gone_on_cut sending exchange unprobed _ refl
       (outcome.cut (without_noreply sending.first.request) sending.calls (ap (λ (o : OneKey). o.request) sending.keeps) sending.run.reached.2))
-      (ap (λ s. s.outbox) outcome.state) (ap (λ s. s.owes) outcome.state)
+      (ap (λ s. s.outbox) outcome.state) (ap (λ s. s.owes) outcome.state) (ap (λ s. s.work) outcome.state)
 
   -- at the send
-  pub stop_part : {old now new : Snapshot (Parts H L T C)} {clear : ℕ} {it : Asking} {after : L} {was_sent : Bool} → old.state.owes ≡ false
+  pub stop_cut : {old now : Snapshot (Parts H L T C)} {clear : ℕ} {it : Asking} {after : L} {was_sent : Bool} (new : Snapshot (Parts H L T C)) → old.state.owes ≡ false
       → IsUnder health links trails progress.More old (answer.Asks clear it) now
       → IsExchange (upstream health links) now.parts.backend.links (record { server = clear; request = it.key.request; result = Err (record { sent = was_sent }) }) after
       → ((server : ℕ) → links.probed after server ≡ links.probed now.parts.backend.links server)
       → new.state ≡ dropped now.state
       → new.parts ≡ with_noted it.waiting.attempts (record now.parts { backend = record now.parts.backend { links = after } })
-      → AnsweredPart (effects health links trails clock) old new
-  stop_part {old} {now} {new} none under exchange unprobed left noted =
+      → IsCut health links trails clock old new
+  stop_cut {old} {now} new none under exchange unprobed left noted =
       let sending = under.stands in
-      drop_part none under (at_extends sending.at)
+      drop_cut none under (at_extends sending.at)
       (subst (λ p. IsAnswerCut health.steps links.exchanges links.sent links.probed trails.records under.it (record old.parts { trails = under.told }) p) (sym noted)
       (sent_cut sending exchange unprobed))
-      (ap (λ s. s.outbox) left) (ap (λ s. s.owes) left)
+      (ap (λ s. s.outbox) left) (ap (λ s. s.owes) left) (ap (λ s. s.work) left)
 
 module _ {H L T C : Type 0} (health : HealthGhosts H) (links : LinksGhosts L) (trails : TrailsGhosts T) (clock : ClockGhosts C) where
-  -- memory ran out where the next item was read
-  pub read_part : {old new : Snapshot (Parts H L T C)} → old.state.owes ≡ false → ItemDropped health.steps trails.records old new
-      → AnsweredPart (effects health links trails clock) old new
-  read_part {old} {new} none (driven.unanswered is same) =
-      subst (λ p. AnsweredPart (effects health links trails clock) old (snapshot new.state p)) (sym same)
-      (part_none old.state new.state old.parts (ap (λ s. s.outbox) is) none (ap (λ s. s.owes) is ∙ none))
-  read_part {old} {new} none (driven.cut it emits (driven.unrecorded parts is)) =
-      part_cut old.state new.state it new.state.reading old.parts new.parts emits (turn.unrecorded parts) (ap (λ s. s.outbox) is) none (ap (λ s. s.owes) is)
-  read_part {old} {new} none (driven.cut it emits (driven.recorded told recorded cut is)) =
-      part_cut old.state new.state it new.state.reading old.parts new.parts emits (turn.recorded told recorded (begin_cut cut)) (ap (λ s. s.outbox) is) none
-      (ap (λ s. s.owes) is)
-  read_part none (driven.cut it emits (driven.at_key told one recorded first lost)) =
-      key_part health links trails clock none (first_under health links trails clock emits recorded first) lost
-
-next_same : (one other : OneKey) → answer.Next one ≡ answer.Next other → one ≡ other
-next_same one other same = cc
-
-not_both : (at : Answer) (one : OneKey) → at ≡ answer.Next one → at ≡ answer.Done → ⊥
-not_both at one next done = cc
-
-module _ {H L T C : Type 0} {steps : H → HealthItem → H → Type 0} where
-  begins_first : {old mid : SessionState} {told : Parts H L T C} {to : Parts H L T C × List ℕ} {request : Request} {at : Answer} {one : OneKey}
-      → mid ≡ old → at ≡ answer.Next one → Begins steps request (told, mid.outbox) at to
-      → IsFirst request (length old.outbox) one × (to ≡ (told, old.outbox))
-  begins_first same is (begins.answered text done itself more) = absurd (not_both _ _ is done)
-  begins_first {old} {mid} {told} {to} {request} {at} {one} same is (begins.keyed (other, at', first) kept) =
-      let with_outbox : SessionState → Parts H L T C × List ℕ = λ s. (told, s.outbox) in
-      let key : one ≡ other = next_same one other (sym is ∙ at') in (
-        subst (λ (s : SessionState). IsFirst request (length s.outbox) one) same (subst (IsFirst request (length mid.outbox)) (sym key) first),
-        kept ∙ ap with_outbox same,
-      )
-
-  -- a request began with its first key, and nothing else was done
-  pub first_at : {old mid : SessionState} {told after : Parts H L T C} {outbox : List ℕ} {begin : ℕ} {request : Request} {at : Answer} {one : OneKey}
-      → mid ≡ old → begin ≡ length mid.outbox → at ≡ answer.Next one → Begins steps request (told, mid.outbox) at (after, outbox)
-      → IsFirst request (length old.outbox) one
-      × (snapshot (record mid { outbox = outbox; owes = true; begin = begin }) after ≡ snapshot (begun_at old) told)
-  first_at {old} {mid} {told} {after} {outbox} {begin} same at is began =
-      let it = begins_first same is began in (
-        it.0,
-        ap (λ (s : SessionState). snapshot (record s { outbox = outbox; owes = true; begin = begin }) after) same
-            ∙ ap (λ n. snapshot (record old { outbox = outbox; owes = true; begin = n }) after) (at ∙ ap (λ (s : SessionState). length s.outbox) same)
-            ∙ ap (λ (w : Parts H L T C × List ℕ). snapshot (record (begun_at old) { outbox = w.1 }) w.0) it.1,
-      )
-
-module _ {H L T C : Type 0} {steps : H → HealthItem → H → Type 0} {records : T → TrailEvent → T → Type 0} where
-  pub by_first : {old : SessionState} {told : T} {parts : Parts H L T C} {request : Request} {wanted : Step} {from new : Snapshot (Parts H L T C)} (one : OneKey)
-      → records parts.trails (Asked request) told
-      → IsFirst request (length old.outbox) one × (from ≡ snapshot (begun_at old) (record parts { trails = told }))
-      → KeyBegun steps records one from wanted new → RequestBegun steps records request (snapshot old parts) wanted new
-  by_first {old} {told} {parts} {request} {wanted} {from} {new} one recorded (first, same) key =
-      driven.by_key told one recorded first (subst (λ s. KeyBegun steps records one s wanted new) same key)
-
-  pub first_lost : {old : SessionState} {told : T} {parts : Parts H L T C} {request : Request} {from new : Snapshot (Parts H L T C)} (one : OneKey)
-      → records parts.trails (Asked request) told
-      → IsFirst request (length old.outbox) one × (from ≡ snapshot (begun_at old) (record parts { trails = told }))
-      → KeyDropped steps records one from new → RequestDropped steps records request (snapshot old parts) new
-  first_lost {old} {told} {parts} {request} {from} {new} one recorded (first, same) lost =
-      driven.at_key told one recorded first (subst (λ s. KeyDropped steps records one s new) same lost)
-
-  -- the proxy answered a request itself
-  pub by_itself : {old mid new : SessionState} {told : T} {parts after : Parts H L T C} {outbox : List ℕ} {begin : ℕ} {request : Request} {at : Answer} {progress : Progress} {wanted : Step}
-      → records parts.trails (Asked request) told → mid ≡ old → begin ≡ length mid.outbox → at ≡ answer.Done
-      → Begins steps request (record parts { trails = told }, mid.outbox) at (after, outbox)
-      → progress ≡ progress_of request → wanted ≡ step.At progress
-      → new ≡ went answer.Done (record mid { outbox = outbox; owes = true; begin = begin })
-      → RequestBegun steps records request (snapshot old parts) wanted (snapshot new after)
-  by_itself {old} {mid} {new} {told} {parts} {after} {outbox} {begin} recorded same from is (begins.answered text done itself more) then asks went' =
-      driven.itself told text recorded itself (asks ∙ ap step.At then)
-      (
-      went'
-      ∙ ap (λ (s : SessionState). went answer.Done (record s { outbox = outbox; owes = true; begin = begin })) same
-      ∙ ap (λ n. went answer.Done (record old { outbox = outbox; owes = true; begin = n })) (from ∙ ap (λ (s : SessionState). length s.outbox) same)
-      ∙ ap (λ xs. went answer.Done (record (begun_at old) { outbox = xs })) (more ∙ ap (λ (s : SessionState). s.outbox ++ text) same)
-      )
-  by_itself recorded same from is (begins.keyed (one, at, first) kept) then asks went' = absurd (not_both _ one at is)
-
--- a request was dropped where it began
-pub dropped_begun : (old : SessionState) (reading : Reading) (outbox : List ℕ) (requests : ℕ) (owes : Bool) (begin : ℕ) (targets : List ℕ)
-    → begin ≡ length old.outbox → Extends old.outbox outbox → old.work ≡ work.Between → reading ≡ old.reading → requests ≡ old.requests → owes ≡ true
-    → targets ≡ old.targets
-    → record { reading = reading; outbox = take begin outbox; requests = requests; owes = owes; work = work.Between; begin = begin; targets = targets } ≡ begun_at old
-dropped_begun old reading outbox requests owes begin targets begins more between reads counts owed aims =
-    rw (taken more begins, begins, between, reads, counts, owed, aims) refl
-
--- the session after a call, field by field
-abbrev is_went : Answer → Reading → List ℕ → ℕ → Bool → ℕ → List ℕ → SessionState
-is_went at reading outbox requests owes begin targets = record {
-  reading = reading;
-  outbox = outbox;
-  requests = requests_after at requests;
-  owes = owes;
-  work = work_of at;
-  begin = begin;
-  targets = targets;
-}
-
-pub ready_went : {new : SessionState} (config : Configuration) (at : Answer) (reading : Reading) (outbox : List ℕ) (requests : ℕ) (owes : Bool) (begin : ℕ) (targets : List ℕ)
-    → new ≡ is_went at reading outbox requests owes begin targets → HoldsAt begin at outbox → AwaitsAt config targets at → IsReady config new
-ready_went config at reading outbox requests owes begin targets is held awaits =
-    let state : SessionState =
-    record { reading = reading; outbox = outbox; requests = requests; owes = owes; work = work.Between; begin = begin; targets = targets } in
-    subst (IsReady config) (sym is) (ready_at config state at held awaits)
-
-module _ {H L T C : Type 0} {steps : H → HealthItem → H → Type 0} {records : T → TrailEvent → T → Type 0} where
-  -- a key was asked for
-  pub key_begun : {old new : SessionState} {parts parts' : Parts H L T C} {wanted : Step} (one : OneKey) (at : Answer)
-      (front : List ℕ) (reading : Reading) (outbox : List ℕ) (requests : ℕ) (owes : Bool) (begin : ℕ) (targets : List ℕ)
-      → Goes steps records (course_of parts.config targets one (without_noreply one.request)) (λ more. more) (parts, front) at (parts', outbox)
-      → ((key : List ℕ) → request_keys one.request ≡ key ∷ [] → targets ≡ targets_of parts.config key)
-      → wanted ≡ step_of progress.More at → new ≡ is_went at reading outbox requests owes begin targets
-      → front ≡ old.outbox → reading ≡ old.reading → requests ≡ old.requests → owes ≡ old.owes → begin ≡ old.begin
-      → KeyBegun steps records one (snapshot old parts) wanted (snapshot new parts')
-  key_begun {old} {new} {parts} {parts'} one at front reading outbox requests owes begin targets goes aims asks is waits reads counts owed begins =
-      let o : new.outbox ≡ outbox = ap (λ (s : SessionState). s.outbox) is in
-      let t : new.targets ≡ targets = ap (λ (s : SessionState). s.targets) is in
-      let P : List ℕ → List ℕ → List ℕ → Type 0 = λ xs ts ys.
-      Goes steps records (course_of parts.config ts one (without_noreply one.request)) (λ more. more) (parts, xs) at (parts', ys) in
-      record {
-        at = at;
-        goes = subst (λ xs. P xs new.targets new.outbox) waits (subst (λ ts. P front ts new.outbox) (sym t) (subst (λ ys. P front targets ys) (sym o) goes));
-        targets = λ key keys. t ∙ aims key keys;
-        asks = asks;
-        state = is ∙ rw (reads, counts, owed, begins, o, t) refl;
+  -- a request was read and begun, and memory ran out
+  begun_cut : {old new : Snapshot (Parts H L T C)} (it : Request) → IsSettled old.state → Emits old.state.reading (item.Request it) new.state.reading
+      → turn.IsRequestCut health.steps links.exchanges links.sent links.probed trails.records it old.parts new.parts
+      → new.state ≡ begun_at (record old.state { reading = new.state.reading })
+      → IsCut health links trails clock old new
+  begun_cut {old} {new} it settled emits cut is =
+      let owed = ap (λ (s : SessionState). s.owes) is in record {
+        part =
+            part_cut old.state new.state it new.state.reading old.parts new.parts emits cut (ap (λ (s : SessionState). s.outbox) is)
+            settled.unowed owed;
+        unowed = λ no. absurd (owed_or_not owed no);
+        between = ap (λ (s : SessionState). s.work) is ∙ settled.between;
       }
 
-  -- what came of a send was recorded
-  pub outcome_taken : {old new : SessionState} {parts parts' : Parts H L T C} {wanted : Step} (outcome : Outcome) (it : Asking) (at : Answer)
-      (aimed front : List ℕ) (reading : Reading) (outbox : List ℕ) (requests : ℕ) (owes : Bool) (begin : ℕ) (targets : List ℕ)
-      → ((original : Request) (calls : List Call) → it.key.request ≡ form_at parts.config.failover_exptime original (length it.waiting.attempts)
-      → FindsUp (form_at parts.config.failover_exptime original) calls it.waiting.attempts it.waiting.server
-      → Goes steps records (course_of parts.config aimed it.key original) (λ more. calls ++ came it.waiting.server it.key.request (Ok outcome) ∷ more)
-      (parts, front) at (parts', outbox))
-      → wanted ≡ step_of progress.More at → new ≡ is_went at reading outbox requests owes begin targets
-      → aimed ≡ old.targets → front ≡ old.outbox → reading ≡ old.reading → requests ≡ old.requests → owes ≡ old.owes → begin ≡ old.begin
-      → targets ≡ old.targets → OutcomeTaken steps records outcome it (snapshot old parts) wanted (snapshot new parts')
-  outcome_taken {old} {new} {parts} {parts'} outcome it at aimed front reading outbox requests owes begin targets goes asks is aims waits reads counts owed begins same =
-      let o : new.outbox ≡ outbox = ap (λ (s : SessionState). s.outbox) is in
-      let P : Request → List Call → List ℕ → List ℕ → List ℕ → Type 0 = λ original calls ts xs ys.
-      Goes steps records (course_of parts.config ts it.key original) (λ more. calls ++ came it.waiting.server it.key.request (Ok outcome) ∷ more)
-      (parts, xs) at (parts', ys) in
-      record {
-        at = at;
-        goes = λ original calls form found.
-            subst (λ ts. P original calls ts old.outbox new.outbox) aims
-            (subst (λ xs. P original calls aimed xs new.outbox) waits (subst (λ ys. P original calls aimed front ys) (sym o) (goes original calls form found)));
-        asks = asks;
-        state = is ∙ rw (reads, counts, owed, begins, same, o) refl;
-      }
-
-  -- where it was, the session is ready for the next call
-  pub outcome_ready : {outcome : Outcome} {it : Asking} {old new : Snapshot (Parts H L T C)} {wanted : Step} → IsOut old.parts.config old.state it
-      → OutcomeTaken steps records outcome it old wanted new → new.parts.config ≡ old.parts.config → IsReady new.parts.config new.state
-  outcome_ready {outcome} {it} {old} {new} out outcome' same =
-      let sent = out.sent in
-      let goes = outcome'.goes sent.original sent.calls sent.form sent.found in
-      let state : SessionState = record old.state { outbox = new.state.outbox } in
-      subst (λ config. IsReady config new.state) (sym same)
-      (subst (IsReady old.parts.config) (sym outcome'.state)
-      (ready_at old.parts.config state outcome'.at (goes_held old.state.begin out.begins goes) (goes_awaits old.parts.config sent.original sent.within goes)))
-
-  -- memory ran out there
-  pub outcome_lost : {old new : SessionState} {parts parts' : Parts H L T C} (outcome : Outcome) (it : Asking) (aimed : List ℕ)
-      → ((original : Request) (calls : List Call) → it.key.request ≡ form_at parts.config.failover_exptime original (length it.waiting.attempts)
-      → FindsUp (form_at parts.config.failover_exptime original) calls it.waiting.attempts it.waiting.server
-      → GoesCut steps records (course_of parts.config aimed it.key original) (λ more. calls ++ came it.waiting.server it.key.request (Ok outcome) ∷ more)
-      parts parts')
-      → aimed ≡ old.targets → new ≡ dropped old → OutcomeDropped steps records outcome it (snapshot old parts) (snapshot new parts')
-  outcome_lost {old} {new} {parts} {parts'} outcome it aimed cut aims is = record {
-    cut = λ original calls form found.
-        subst (λ ts. GoesCut steps records (course_of parts.config ts it.key original) (λ more. calls ++ came it.waiting.server it.key.request (Ok outcome) ∷ more) parts parts')
-        aims (cut original calls form found);
-    state = is;
+  item_cut : {old new : Snapshot (Parts H L T C)} → IsSettled old.state → ItemDropped health.steps trails.records old new
+      → IsCut health links trails clock old new
+  item_cut {old} {new} settled (driven.unanswered is same) = record {
+    part =
+        subst (λ p. AnsweredPart (effects health links trails clock) old (snapshot new.state p)) (sym same)
+        (part_none old.state new.state old.parts (ap (λ s. s.outbox) is) settled.unowed (ap (λ s. s.owes) is ∙ settled.unowed));
+    unowed = λ no. ap (λ p. p.backend.probers) same;
+    between = ap (λ s. s.work) is ∙ settled.between;
   }
+  item_cut settled (driven.cut it emits (driven.unrecorded parts is)) = begun_cut it settled emits (turn.unrecorded parts) is
+  item_cut settled (driven.cut it emits (driven.recorded told recorded cut is)) =
+      begun_cut it settled emits (turn.recorded told recorded (begin_cut cut)) is
+  item_cut settled (driven.cut it emits (driven.at_key told one recorded first lost)) =
+      key_dropped health links trails clock settled.unowed (first_under health links trails clock emits recorded first) lost
 
--- a request was dropped at one of its keys
-pub dropped_again : (old : SessionState) (reading : Reading) (outbox : List ℕ) (requests : ℕ) (owes : Bool) (begin : ℕ) (targets : List ℕ)
-    → take begin outbox ≡ take old.begin old.outbox → reading ≡ old.reading → requests ≡ old.requests → owes ≡ old.owes → begin ≡ old.begin
-    → record { reading = reading; outbox = take begin outbox; requests = requests; owes = owes; work = work.Between; begin = begin; targets = targets }
-    ≡ record (dropped old) { targets = targets }
-dropped_again old reading outbox requests owes begin targets left reads counts owed begins = rw (left, reads, counts, owed, begins) refl
+  -- memory ran out where the next item was read
+  pub read_cut : (old new : Snapshot (Parts H L T C)) → IsSettled old.state → WasDropped health.steps trails.records old.state.work old new
+      → IsCut health links trails clock old new
+  read_cut old new settled lost =
+      item_cut settled (subst (λ w. WasDropped health.steps trails.records w old new) settled.between lost)
 
-module _ {H L T C : Type 0} {steps : H → HealthItem → H → Type 0} {records : T → TrailEvent → T → Type 0} {parts : Parts H L T C} where
-  -- a fault was read and answered
-  pub fault_read : {old read new : SessionState} {wanted : Step} (fault : TextFault) → Emits old.reading (item.Fault fault) read.reading
-      → read ≡ record old { reading = read.reading } → new ≡ record read { outbox = read.outbox ++ fault_text fault }
-      → wanted ≡ step.At (progress_after fault) → ItemRead steps records (snapshot old parts) wanted (snapshot new parts)
-  fault_read {old} {read} {new} {wanted} fault told others is asks =
-      let same : new ≡ record old { reading = read.reading; outbox = old.outbox ++ fault_text fault } =
-      is ∙ ap (λ (s : SessionState). record s { outbox = s.outbox ++ fault_text fault }) others in
-      subst (λ (s : SessionState). ItemRead steps records (snapshot old parts) wanted (snapshot s parts)) (sym same)
-      (driven.refused fault told asks refl)
+module _ {H L T C : Type 0} {health : HealthGhosts H} {links : LinksGhosts L} {trails : TrailsGhosts T} {clock : ClockGhosts C} {old now : Snapshot (Parts H L T C)} {wanted : Step} where
+  -- what a session is at that asks for this
+  pub on_at : {at : Progress} → wanted ≡ step.At at → IsOn health links trails clock old wanted now → IsOver health links trails clock at old now
+  on_at is it = subst (λ s. IsOnAt health links trails clock old s now) is it.on
 
-  begun_reading : {it : Request} {read : SessionState} {wanted : Step} {new : Snapshot (Parts H L T C)}
-      → RequestBegun steps records it (snapshot read parts) wanted new → new.state.reading ≡ read.reading
-  begun_reading (driven.itself told text recorded itself asks is) = ap (λ (s : SessionState). s.reading) is
-  begun_reading (driven.by_key told one recorded first key) = ap (λ (s : SessionState). s.reading) key.state
+  pub on_next : wanted ≡ step.Next → IsOn health links trails clock old wanted now → IsAtKey health links trails clock old now
+  on_next is it = subst (λ s. IsOnAt health links trails clock old s now) is it.on
 
-  -- a request was read and begun
-  pub request_read : {old read : SessionState} {new : Snapshot (Parts H L T C)} {wanted : Step} (it : Request) → Emits old.reading (item.Request it) read.reading
-      → read ≡ record old { reading = read.reading } → RequestBegun steps records it (snapshot read parts) wanted new
-      → ItemRead steps records (snapshot old parts) wanted new
-  request_read {old} {read} {new} {wanted} it told others begun =
-      let to : new.state.reading ≡ read.reading = begun_reading begun in
-      let same : read ≡ record old { reading = new.state.reading } = others ∙ ap (λ r. record old { reading = r }) (sym to) in
-      driven.asked it (subst (λ r. Emits old.reading (item.Request it) r) (sym to) told)
-      (subst (λ (s : SessionState). RequestBegun steps records it (snapshot s parts) wanted new) same begun)
-
-  lost_reading : {it : Request} {read : SessionState} {new : Snapshot (Parts H L T C)} → RequestDropped steps records it (snapshot read parts) new
-      → new.state.reading ≡ read.reading
-  lost_reading (driven.unrecorded same is) = ap (λ (s : SessionState). s.reading) is
-  lost_reading (driven.recorded told recorded cut is) = ap (λ (s : SessionState). s.reading) is
-  lost_reading (driven.at_key told one recorded first lost) = ap (λ (s : SessionState). s.reading) lost.state
-
-  -- a request was read and dropped
-  pub request_lost : {old read : SessionState} {new : Snapshot (Parts H L T C)} (it : Request) → Emits old.reading (item.Request it) read.reading
-      → read ≡ record old { reading = read.reading } → RequestDropped steps records it (snapshot read parts) new
-      → ItemDropped steps records (snapshot old parts) new
-  request_lost {old} {read} {new} it told others lost =
-      let to : new.state.reading ≡ read.reading = lost_reading lost in
-      let same : read ≡ record old { reading = new.state.reading } = others ∙ ap (λ r. record old { reading = r }) (sym to) in
-      driven.cut it (subst (λ r. Emits old.reading (item.Request it) r) (sym to) told)
-      (subst (λ (s : SessionState). RequestDropped steps records it (snapshot s parts) new) same lost)
-
--- one send is out
-awaits_same : (it other : Asking) → work.Awaits it ≡ work.Awaits other → it ≡ other
-awaits_same it other same = cc
-
-pub out_between : {config : Configuration} {old mid : SessionState} {it : Asking} → IsReady config old → old.work ≡ work.Awaits it
-    → mid ≡ record old { work = work.Between } → IsOut config mid it
-out_between {config} {old} {mid} {it} ready at same =
-    let out : IsOut config old it = subst (IsReadyFor config old) at ready in
-    subst (λ (s : SessionState). IsOut config s it) (sym same) (record { begins = out.begins; sent = out.sent })
-
-pub begins_between : {old mid : SessionState} {one : OneKey} (config : Configuration) → IsReady config old → old.work ≡ work.AtKey one
-    → mid ≡ record old { work = work.Between } → BeginsAt mid.begin one.share mid.outbox
-begins_between {old} {mid} {one} config ready at same =
-    let begins : BeginsAt old.begin one.share old.outbox = subst (IsReadyFor config old) at ready in
-    subst (λ (s : SessionState). BeginsAt s.begin one.share s.outbox) (sym same) begins
-
-nothing_taken : {old mid : SessionState} → old.work ≡ work.Between → mid ≡ record old { work = work.Between } → mid ≡ old
-nothing_taken {old} at same = same ∙ ap (λ w. record old { work = w }) (sym at)
-
-module _ {H L T C : Type 0} {steps : H → HealthItem → H → Type 0} {records : T → TrailEvent → T → Type 0} {parts : Parts H L T C} {new : Snapshot (Parts H L T C)} where
-  -- what was at work was taken out of the session, and then it went on
-  pub went_item : {old mid : SessionState} {wanted : Step} → old.work ≡ work.Between → mid ≡ record old { work = work.Between }
-      → ItemRead steps records (snapshot mid parts) wanted new → WentOn steps records old.work (snapshot old parts) wanted new
-  went_item {old} {mid} {wanted} at same read =
-      subst (λ w. WentOn steps records w (snapshot old parts) wanted new) (sym at)
-      (subst (λ (s : SessionState). ItemRead steps records (snapshot s parts) wanted new) (nothing_taken at same) read)
-
-  pub dropped_item : {old mid : SessionState} → old.work ≡ work.Between → mid ≡ record old { work = work.Between }
-      → ItemDropped steps records (snapshot mid parts) new → WasDropped steps records old.work (snapshot old parts) new
-  dropped_item {old} {mid} at same lost =
-      subst (λ w. WasDropped steps records w (snapshot old parts) new) (sym at)
-      (subst (λ (s : SessionState). ItemDropped steps records (snapshot s parts) new) (nothing_taken at same) lost)
-
-  pub went_key : {old mid : SessionState} {wanted : Step} (one : OneKey) → old.work ≡ work.AtKey one → mid ≡ record old { work = work.Between }
-      → KeyBegun steps records one (snapshot mid parts) wanted new → WentOn steps records old.work (snapshot old parts) wanted new
-  went_key {old} {mid} {wanted} one at same key =
-      let from : KeyBegun steps records one (snapshot (record old { work = work.Between }) parts) wanted new =
-      subst (λ (s : SessionState). KeyBegun steps records one (snapshot s parts) wanted new) same key in
-      let to : KeyBegun steps records one (snapshot old parts) wanted new =
-      record { at = from.at; goes = from.goes; targets = from.targets; asks = from.asks; state = from.state } in
-      subst (λ w. WentOn steps records w (snapshot old parts) wanted new) (sym at) to
-
-  pub dropped_key : {old mid : SessionState} (one : OneKey) → old.work ≡ work.AtKey one → mid ≡ record old { work = work.Between }
-      → KeyDropped steps records one (snapshot mid parts) new → WasDropped steps records old.work (snapshot old parts) new
-  dropped_key {old} {mid} one at same lost =
-      let from : KeyDropped steps records one (snapshot (record old { work = work.Between }) parts) new =
-      subst (λ (s : SessionState). KeyDropped steps records one (snapshot s parts) new) same lost in
-      let to : KeyDropped steps records one (snapshot old parts) new = record { cut = from.cut; state = from.state } in
-      subst (λ w. WasDropped steps records w (snapshot old parts) new) (sym at) to
-
-  pub taken_between : {old mid : SessionState} {wanted : Step} {outcome : Outcome} {asking it : Asking} → mid ≡ record old { work = work.Between }
-      → work.Awaits asking ≡ work.Awaits it → OutcomeTaken steps records outcome asking (snapshot mid parts) wanted new
-      → OutcomeTaken steps records outcome it (snapshot old parts) wanted new
-  taken_between {old} {mid} {wanted} {outcome} {asking} {it} same one outcome' =
-      let from : OutcomeTaken steps records outcome asking (snapshot (record old { work = work.Between }) parts) wanted new =
-      subst (λ (s : SessionState). OutcomeTaken steps records outcome asking (snapshot s parts) wanted new) same outcome' in
-      let to : OutcomeTaken steps records outcome asking (snapshot old parts) wanted new =
-      record { at = from.at; goes = from.goes; asks = from.asks; state = from.state } in
-      subst (λ a. OutcomeTaken steps records outcome a (snapshot old parts) wanted new) (awaits_same asking it one) to
-
-  pub lost_between : {old mid : SessionState} {outcome : Outcome} {asking it : Asking} → mid ≡ record old { work = work.Between }
-      → work.Awaits asking ≡ work.Awaits it → OutcomeDropped steps records outcome asking (snapshot mid parts) new
-      → OutcomeDropped steps records outcome it (snapshot old parts) new
-  lost_between {old} {mid} {outcome} {asking} {it} same one lost =
-      let from : OutcomeDropped steps records outcome asking (snapshot (record old { work = work.Between }) parts) new =
-      subst (λ (s : SessionState). OutcomeDropped steps records outcome asking (snapshot s parts) new) same lost in
-      let to : OutcomeDropped steps records outcome asking (snapshot old parts) new = record { cut = from.cut; state = from.state } in
-      subst (λ a. OutcomeDropped steps records outcome a (snapshot old parts) new) (awaits_same asking it one) to
-
--- after an item that was dropped nothing is at work
-pub item_between : {H L T C : Type 0} {steps : H → HealthItem → H → Type 0} {records : T → TrailEvent → T → Type 0} {old new : Snapshot (Parts H L T C)}
-    → old.state.work ≡ work.Between → ItemDropped steps records old new → new.state.work ≡ work.Between
-item_between between (driven.unanswered is same) = ap (λ (s : SessionState). s.work) is ∙ between
-item_between between (driven.cut it emits (driven.unrecorded same is)) = ap (λ (s : SessionState). s.work) is ∙ between
-item_between between (driven.cut it emits (driven.recorded told recorded cut is)) = ap (λ (s : SessionState). s.work) is ∙ between
-item_between between (driven.cut it emits (driven.at_key told one recorded first lost)) = ap (λ (s : SessionState). s.work) lost.state
+  pub on_asks : {clear : ℕ} → wanted ≡ step.Asks clear → IsOn health links trails clock old wanted now → IsOutFor health links trails clock old clear now
+  on_asks is it = subst (λ s. IsOnAt health links trails clock old s now) is it.on
 
 pub same_ok : {E : Type 0} (at other : Progress) (result : Result Progress E) → result ≡ Ok at → result ≡ Ok other → at ≡ other
 same_ok at other result is same = cc
-
--- it changed nothing of the probers unless its round is owed
-pub item_unowed : {H L T C : Type 0} {steps : H → HealthItem → H → Type 0} {records : T → TrailEvent → T → Type 0} {old new : Snapshot (Parts H L T C)}
-    → ItemDropped steps records old new → new.state.owes ≡ false → new.parts.backend.probers ≡ old.parts.backend.probers
-item_unowed (driven.unanswered is same) unowed = ap (λ p. p.backend.probers) same
-item_unowed (driven.cut it emits (driven.unrecorded same is)) unowed = absurd (owed_or_not (ap (λ (s : SessionState). s.owes) is) unowed)
-item_unowed (driven.cut it emits (driven.recorded told recorded cut is)) unowed = absurd (owed_or_not (ap (λ (s : SessionState). s.owes) is) unowed)
-item_unowed (driven.cut it emits (driven.at_key told one recorded first lost)) unowed =
-    absurd (owed_or_not (ap (λ (s : SessionState). s.owes) lost.state) unowed)

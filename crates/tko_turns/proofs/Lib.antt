@@ -1,3 +1,4 @@
+mod CallLemmas
 mod DrivenLemmas
 pub mod EventLemmas
 pub mod TurnLemmas

@@ -205,28 +205,10 @@ module _ {W : Type 0} {does : Effects W} where
     probes = λ server. omega (arith, front.probes server, back.probes server, probes-append server events more);
   }
 
-  -- memory ran out before any event
-  pub part_none : (old new : SessionState) (world : W) → new.outbox ≡ old.outbox → old.owes ≡ false → new.owes ≡ false
-      → AnsweredPart does (snapshot old world) (snapshot new world)
-  part_none old new world same before after = record {
-    events = [];
-    left = old.reading;
-    reached = world;
-    gives = Gives-none old.reading;
-    gains = gains_none world;
-    counts = counts_none world;
-    order = ap Some before;
-    idles = refl;
-    in_session = in_session_of [] goes_on-none;
-    outbox = same ∙ sym (append-nil old.outbox);
-    behind = no_more refl after;
-  }
-
-  -- memory ran out in the first request
-  pub part_cut : (old new : SessionState) (it : Request) (to : Reading) (before after : W) → Emits old.reading (item.Request it) to
-      → does.cut it before after → new.outbox ≡ old.outbox → old.owes ≡ false → new.owes ≡ true
-      → AnsweredPart does (snapshot old before) (snapshot new after)
-  part_cut old new it to before after emits is same none owed = record {
+  -- memory ran out before the first event was complete
+  part_behind : (old new : SessionState) {before after : W} → new.outbox ≡ old.outbox → old.owes ≡ false
+      → IsBehind does.cut [] old.reading before (snapshot new after) → AnsweredPart does (snapshot old before) (snapshot new after)
+  part_behind old new {before} {after} same none behind = record {
     events = [];
     left = old.reading;
     reached = before;
@@ -237,8 +219,19 @@ module _ {W : Type 0} {does : Effects W} where
     idles = refl;
     in_session = in_session_of [] goes_on-none;
     outbox = same ∙ sym (append-nil old.outbox);
-    behind = cut_short it to goes_on-none emits is owed;
+    behind = behind;
   }
+
+  -- memory ran out before any event
+  pub part_none : (old new : SessionState) (world : W) → new.outbox ≡ old.outbox → old.owes ≡ false → new.owes ≡ false
+      → AnsweredPart does (snapshot old world) (snapshot new world)
+  part_none old new world same before after = part_behind old new same before (no_more refl after)
+
+  -- memory ran out in the first request
+  pub part_cut : (old new : SessionState) (it : Request) (to : Reading) (before after : W) → Emits old.reading (item.Request it) to
+      → does.cut it before after → new.outbox ≡ old.outbox → old.owes ≡ false → new.owes ≡ true
+      → AnsweredPart does (snapshot old before) (snapshot new after)
+  part_cut old new it to before after emits is same none owed = part_behind old new same none (cut_short it to goes_on-none emits is owed)
 
   pub turned_none : (here : Snapshot W) → Turned does here [] here
   turned_none here = record {

@@ -1,5 +1,6 @@
 pub mod Driven
 pub mod Effects
+pub mod Ends
 pub mod Events
 pub mod SessionState
 pub mod Turns

@@ -1,12 +1,13 @@
 //! A session is driven over a worker's links: what it asks for is sent, and its rounds are run.
-ghost use Rattle.std.specs.Prelude.{◌≡◌, ◌≤◌, ◌<◌, false, true, Ok, OnOk, OnErr, IfOk, is_err, length};
+ghost use Rattle.std.specs.Prelude.{◌≡◌, ◌≤◌, ◌<◌, false, true, Ok, OnOk, is_err, length};
 ghost use Rattle.tko_text.specs.Reading.{NeedsMore};
 ghost use Rattle.tko_backend.specs.Probers.{AreQuiet, NoneMarked};
 ghost use Rattle.tko_answer.specs.Answers.{Reaches};
 ghost use Rattle.tko_answer.specs.Replies.{reply_bound};
 ghost use Rattle.tko_turns.specs.Effects.{effects};
+ghost use Rattle.tko_turns.specs.Ends.{AnsweringEnds, IsSettled, ItemEnds};
 ghost use Rattle.tko_turns.specs.Events.{IsRun};
-ghost use Rattle.tko_turns.specs.SessionState.{Answered, AnsweredPart, snapshot};
+ghost use Rattle.tko_turns.specs.SessionState.{snapshot};
 ghost use Rattle.tko_turns.specs.declared.step.Work.TheVariants.{Between};
 
 use crate::{Parts, Progress, Session, Step, Trails, round};
@@ -26,16 +27,11 @@ pub fn answer<R: IoRuntime, H: Health, L: Links, T: Trails, C: Clock>(
     parts: &mut Parts<H, L, T, C>,
 ) -> Result<Progress, NoMemory>
     requires reach { Reaches H.servers L.servers parts.old }
-    requires owes { session.old.owes ≡ false }
-    requires between { session.old.work ≡ Between }
-    ensures ok { IfOk result (λ progress. Answered
-        (effects H.Health L.Links T.Trails C.Clock) progress
-        (snapshot session.old parts.old) (snapshot session.new parts.new)) }
+    requires settled { IsSettled session.old }
+    ensures ends { AnsweringEnds (effects H.Health L.Links T.Trails C.Clock)
+        (snapshot session.old parts.old) result (snapshot session.new parts.new) }
     ensures full { result ≡ Ok Progress.More → session.new.owes ≡ false
         → reply_bound ≤ length session.new.outbox }
-    ensures err { OnErr result (AnsweredPart
-        (effects H.Health L.Links T.Trails C.Clock)
-        (snapshot session.old parts.old) (snapshot session.new parts.new)) }
     ensures busy { OnOk result
         (session.new.owes ≡ true → ¬ AreQuiet parts.new.backend.probers) }
     ensures begun { NoneMarked parts.old.backend.probers → session.new.owes ≡ false
@@ -88,16 +84,11 @@ fn answer_next<R: IoRuntime, H: Health, L: Links, T: Trails, C: Clock>(
     parts: &mut Parts<H, L, T, C>,
 ) -> Result<Progress, NoMemory>
     requires reach { Reaches H.servers L.servers parts.old }
-    requires owes { session.old.owes ≡ false }
-    requires between { session.old.work ≡ Between }
+    requires settled { IsSettled session.old }
     requires room { length session.old.outbox < reply_bound }
-    ensures ok { IfOk result (λ progress. Answered
-        (effects H.Health L.Links T.Trails C.Clock) progress
-        (snapshot session.old parts.old) (snapshot session.new parts.new)) }
+    ensures ends { AnsweringEnds (effects H.Health L.Links T.Trails C.Clock)
+        (snapshot session.old parts.old) result (snapshot session.new parts.new) }
     ensures more { result ≡ Ok Progress.More → ¬ NeedsMore session.old.reading }
-    ensures err { OnErr result (AnsweredPart
-        (effects H.Health L.Links T.Trails C.Clock)
-        (snapshot session.old parts.old) (snapshot session.new parts.new)) }
     ensures busy { OnOk result
         (session.new.owes ≡ true → ¬ AreQuiet parts.new.backend.probers) }
     ensures begun { NoneMarked parts.old.backend.probers → session.new.owes ≡ false
@@ -122,20 +113,11 @@ fn answer_item<R: IoRuntime, H: Health, L: Links, T: Trails, C: Clock>(
     parts: &mut Parts<H, L, T, C>,
 ) -> Result<Progress, NoMemory>
     requires reach { Reaches H.servers L.servers parts.old }
-    requires owes { session.old.owes ≡ false }
-    requires between { session.old.work ≡ Between }
+    requires settled { IsSettled session.old }
     requires room { length session.old.outbox < reply_bound }
-    ensures ok { IfOk result (λ progress. Answered
-        (effects H.Health L.Links T.Trails C.Clock) progress
-        (snapshot session.old parts.old) (snapshot session.new parts.new)) }
+    ensures ends { ItemEnds H.Health L.Links T.Trails C.Clock
+        (snapshot session.old parts.old) result (snapshot session.new parts.new) }
     ensures more { result ≡ Ok Progress.More → ¬ NeedsMore session.old.reading }
-    ensures err { OnErr result (AnsweredPart
-        (effects H.Health L.Links T.Trails C.Clock)
-        (snapshot session.old parts.old) (snapshot session.new parts.new)) }
-    ensures unowed { session.new.owes ≡ false
-        → parts.new.backend.probers ≡ parts.old.backend.probers }
-    ensures between { session.new.work ≡ Between }
-    ensures reach { Reaches H.servers L.servers parts.new }
 {
     let mut step = session.next(rt, alloc, parts)?;
     for _ in rt.forever() {

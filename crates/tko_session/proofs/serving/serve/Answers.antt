@@ -67,6 +67,9 @@ returns-then-ended-clause-ends g c =
       record { reads = omega (arith, read.failures, c.loop.invariant.1); writes = c.loop.invariant.2 },
     )
 
+pub serve_piece-requires-clause-settled : goal.serve_piece-requires-clause-settled
+serve_piece-requires-clause-settled g c = record { between = c.loop.invariant.5; unowed = c.loop.invariant.0.delivered.owes }
+
 pub serve_piece-requires-clause-reads : goal.serve_piece-requires-clause-reads
 serve_piece-requires-clause-reads g c = so_far_reads c.loop.invariant.0
 
@@ -115,6 +118,3 @@ returns-in_err-quit-in-Bytes-clause-ends g c =
     rw (p.1, p.2) (session_stopped g.met.I.Inlet.goes_on g.met.O.Outlet.goes_on c.in_err-quit-in-Bytes.field-0.0 _ _ c.loop.invariant.0
     (rw same read.piece.bytes) (omega (arith, read.idles)) (omega (arith, read.failures, c.loop.invariant.1)) c.loop.invariant.2
     c.in_err-quit-in-Bytes.ensures.ends)
-
-pub serve_piece-requires-clause-between : goal.serve_piece-requires-clause-between
-serve_piece-requires-clause-between g c = c.loop.invariant.5

@@ -8,13 +8,16 @@ pub returns-in_err-feed-clause-ends : goal.returns-in_err-feed-clause-ends
 returns-in_err-feed-clause-ends g c =
     let p = err_from_is_err_and c.from_residual.result c.from_residual.ensures.1 in
     rw (p.1, p.2) (not_taken c.in_err-feed.field-0.0 (λ is. c.requires.reads (c.in_err-feed.ensures.failed.0 (ap Err is)))
-    (not_delivered _ _ c.args.parts.now c.args.writer.now c.args.written.now (g.met.O.Outlet.nothing c.args.writer.now) c.requires.outbox c.requires.owes) refl)
+    (not_delivered _ _ c.args.parts.now c.args.writer.now c.args.written.now (g.met.O.Outlet.nothing c.args.writer.now) c.requires.outbox c.requires.settled.unowed) refl)
 
 pub loop-init : goal.loop-init
 loop-init g c =
     let none = delivered_none (fed_state c.args.session.now c.args.piece.now) c.args.parts.now c.args.writer.now c.args.written.now
-    (g.met.O.Outlet.nothing c.args.writer.now) c.requires.outbox c.requires.owes in
-    (rw c.in_ok-feed.ensures.ok none, refl, c.requires.reach, ap (λ s. s.work) c.in_ok-feed.ensures.ok ∙ c.requires.between, λ begun. begun)
+    (g.met.O.Outlet.nothing c.args.writer.now) c.requires.outbox c.requires.settled.unowed in
+    (rw c.in_ok-feed.ensures.ok none, refl, c.requires.reach, ap (λ s. s.work) c.in_ok-feed.ensures.ok ∙ c.requires.settled.between, λ begun. begun)
+
+pub deliver-requires-clause-settled : goal.deliver-requires-clause-settled
+deliver-requires-clause-settled g c = record { between = c.loop.invariant.3; unowed = c.loop.invariant.0.owes }
 
 pub returns-in_err-deliver-clause-ends : goal.returns-in_err-deliver-clause-ends
 returns-in_err-deliver-clause-ends g c =

@@ -1,7 +1,7 @@
 use Rattle.std.proofs.Common.{subst, sym}
 use Rattle.tko_steps.specs.Core.{CoreState, after_enrol}
 use Rattle.tko_steps.specs.Invariant.{IsCore}
-use Rattle.tko_steps.proofs.CoreLemmas.{IsCore-after_enrol}
+use Rattle.tko_steps.proofs.BeginLemmas.{IsCore-after_enrol}
 use Rattle.tko_steps.proofs.atomic.Core.enrol.Goals as goal
 
 pub invariant_of-self : goal.invariant_of-self

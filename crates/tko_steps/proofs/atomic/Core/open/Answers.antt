@@ -4,7 +4,7 @@ use Rattle.tko_steps.specs.declared.phase.ThreadState.{ThreadState}
 use Rattle.tko_steps.specs.declared.phase.ThreadState.TheVariants.{NotEnrolled}
 use Rattle.tko_steps.specs.Core.{opened_words}
 use Rattle.tko_steps.specs.Invariant.{IsCore}
-use Rattle.tko_steps.proofs.CoreLemmas.{IsCore-opened_core}
+use Rattle.tko_steps.proofs.BeginLemmas.{IsCore-opened_core}
 use Rattle.std.proofs.lemmas.Result.{err_from_is_err_and}
 use Rattle.tko_steps.proofs.atomic.Core.open.Goals as goal
 

@@ -1,6 +1,6 @@
 use Rattle.std.proofs.Common.{sym, ◌∙◌}
 use Rattle.tko_answer.proofs.ResultLemmas.{both_ok, on_errs}
-use Rattle.tko_turns.proofs.DrivenLemmas.{lost_between, out_between, taken_between}
+use Rattle.tko_turns.proofs.CallLemmas.{lost_between, out_between, taken_between}
 use Rattle.tko_turns.proofs.session.Session.answered.Goals as goal
 
 pub take_outcome-requires-clause-out : goal.take_outcome-requires-clause-out

@@ -5,7 +5,7 @@ use Rattle.tko_answer.specs.Asking.{BeginsAt, Goes}
 use Rattle.tko_turns.specs.Driven.{course_of}
 use Rattle.tko_answer.proofs.HeldLemmas.{goes_awaits, goes_held}
 use Rattle.tko_turns.specs.SessionState.{SessionState}
-use Rattle.tko_turns.proofs.DrivenLemmas.{key_begun, ready_went}
+use Rattle.tko_turns.proofs.CallLemmas.{key_begun, ready_went}
 use Rattle.tko_turns.proofs.session.Session.begin_key.Goals as goal
 
 pub returns-clause-ok : goal.returns-clause-ok

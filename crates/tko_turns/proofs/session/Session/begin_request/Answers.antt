@@ -3,7 +3,7 @@ use Rattle.tko_answer.specs.Answering.{Extends}
 use Rattle.tko_turns.specs.Driven.{recorded}
 use Rattle.tko_turns.specs.SessionState.{SessionState}
 use Rattle.tko_answer.proofs.ResultLemmas.{both_ok, on_errs}
-use Rattle.tko_turns.proofs.DrivenLemmas.{by_first, by_itself, dropped_begun, first_at, first_lost}
+use Rattle.tko_turns.proofs.CallLemmas.{by_first, by_itself, dropped_begun, first_at, first_lost}
 use Rattle.tko_turns.proofs.session.Session.begin_request.Goals as goal
 
 pub returns-in_default-clause-err : goal.returns-in_default-clause-err

@@ -1,7 +1,7 @@
 use Rattle.std.proofs.Common.{ap, sym, ◌∙◌}
 use Rattle.tko_answer.proofs.ResultLemmas.{both_ok, on_errs}
 use Rattle.tko_turns.specs.SessionState.{SessionState}
-use Rattle.tko_turns.proofs.DrivenLemmas.{begins_between, dropped_item, dropped_key, went_item, went_key}
+use Rattle.tko_turns.proofs.CallLemmas.{begins_between, dropped_item, dropped_key, went_item, went_key}
 use Rattle.tko_turns.proofs.session.Session.next.Goals as goal
 
 pub next_item-requires-clause-between : goal.next_item-requires-clause-between

@@ -1,5 +1,5 @@
 use Rattle.tko_answer.proofs.ResultLemmas.{both_ok, on_errs}
-use Rattle.tko_turns.proofs.DrivenLemmas.{fault_read, request_lost, request_read}
+use Rattle.tko_turns.proofs.CallLemmas.{fault_read, request_lost, request_read}
 use Rattle.tko_turns.proofs.session.Session.next_item.Goals as goal
 
 pub returns-in-Some-Fault-clause-ok : goal.returns-in-Some-Fault-clause-ok

@@ -3,7 +3,7 @@ use Rattle.tko_answer.specs.Asking.{BeginsAt}
 use Rattle.tko_answer.proofs.HeldLemmas.{front_stays}
 use Rattle.tko_turns.specs.Driven.{dropped}
 use Rattle.tko_turns.specs.SessionState.{SessionState}
-use Rattle.tko_turns.proofs.DrivenLemmas.{dropped_again, outcome_lost, outcome_ready, outcome_taken}
+use Rattle.tko_turns.proofs.CallLemmas.{dropped_again, outcome_lost, outcome_ready, outcome_taken}
 use Rattle.tko_turns.proofs.session.Session.take_outcome.Goals as goal
 
 pub returns-in_default-clause-err : goal.returns-in_default-clause-err

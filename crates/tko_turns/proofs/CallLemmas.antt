@@ -1,0 +1,333 @@
+-- What each call of a session makes of its fields.
+use Rattle.std.proofs.Common.{◌≡◌, ◌<◌, ℕ, Bool, true, false, List, [], ◌∷◌, ◌++◌, length, take, Result, Ok, Err, refl, sym, ap, subst, ◌∙◌, arith}
+use Rattle.std.proofs.lemmas.List.{take_at}
+use Rattle.tko_model.specs.Records.{HealthItem}
+use Rattle.tko_health.specs.declared.health.Health.{Ghosts as HealthGhosts}
+use Rattle.tko_links.specs.declared.links.Links.{Ghosts as LinksGhosts}
+use Rattle.tko_links.specs.declared.links.Outcome.{Outcome}
+use Rattle.tko_backend.specs.declared.clock.Clock.{Ghosts as ClockGhosts}
+use Rattle.tko_text.specs.Reading.{Emits, NeedsMore, Reading}
+use Rattle.tko_text.specs.Requests.{fault_text}
+use Rattle.tko_text.specs.SentRequests.{without_noreply}
+use Rattle.tko_text.specs.declared.fault.TextFault.{TextFault}
+use Rattle.tko_text.specs.declared.item.Item.TheVariants as item
+use Rattle.tko_text.specs.declared.request.Request.{Request}
+use Rattle.tko_text.specs.declared.request.Request.TheVariants as asked
+use Rattle.tko_pools.specs.Configs.{Configuration, targets_of}
+use Rattle.tko_route.specs.Calls.{Call, IsExchange, came, upstream}
+use Rattle.tko_route.specs.Routing.{FindsUp}
+use Rattle.tko_route.specs.Trail.{form_at}
+use Rattle.tko_answer.specs.Answering.{AnsweredInto, Extends}
+use Rattle.tko_answer.specs.Answers.{request_keys}
+use Rattle.tko_answer.specs.Asking.{Begins, BeginsAt, Goes, GoesCut, IsFirst, Stays, with_noted}
+use Rattle.tko_answer.specs.Asking as begins
+use Rattle.tko_answer.specs.Cuts.{IsAnswerCut}
+use Rattle.tko_answer.specs.Replies.{reply_bound}
+use Rattle.tko_answer.specs.TrailEvents.{Asked, TrailEvent}
+use Rattle.tko_answer.specs.declared.asking.Answer.{Answer}
+use Rattle.tko_answer.specs.declared.asking.Answer.TheVariants as answer
+use Rattle.tko_answer.specs.declared.asking.Asking.{Asking}
+use Rattle.tko_answer.specs.declared.asking.OneKey.{OneKey}
+use Rattle.tko_answer.specs.declared.parts.Parts.{Parts}
+use Rattle.tko_answer.specs.declared.trails.Trails.{Ghosts as TrailsGhosts}
+use Rattle.tko_answer.proofs.DrivingLemmas.{Stands, at_extends, begin_cut, begun, begun_in, gone_on, gone_on_cut, keyed, sent_cut, stands}
+use Rattle.tko_answer.proofs.HeldLemmas.{AwaitsAt, HoldsAt, goes_awaits, goes_held}
+use Rattle.tko_turns.specs.Driven.{IsOut, IsReady, IsReadyFor, ItemDropped, ItemRead, KeyBegun, KeyDropped, OutcomeDropped, OutcomeTaken, RequestBegun, RequestDropped, WasDropped, WentOn, begun_at, course_of, dropped, requests_after, step_of, went, work_of}
+use Rattle.tko_turns.specs.Driven as driven
+use Rattle.tko_turns.specs.Effects.{effects}
+use Rattle.tko_turns.specs.Ends.{IsSettled}
+use Rattle.tko_turns.specs.SessionState.{Answered, AnsweredPart, Replied, SessionState, Snapshot, progress_after, progress_of, snapshot}
+use Rattle.tko_turns.specs.Turns as turn
+use Rattle.tko_turns.specs.declared.step.Progress.{Progress}
+use Rattle.tko_turns.specs.declared.step.Progress.TheVariants as progress
+use Rattle.tko_turns.specs.declared.step.Step.{Step}
+use Rattle.tko_turns.specs.declared.step.Step.TheVariants as step
+use Rattle.tko_turns.specs.declared.step.Work.TheVariants as work
+use Rattle.tko_turns.proofs.TurnLemmas.{answered_fault, answered_open, answered_request, part_cut, part_none}
+use Rattle.tko_turns.proofs.DrivenLemmas.{taken}
+
+-- what a call leaves for the next one
+ready_at : (config : Configuration) (state : SessionState) (at : Answer) → HoldsAt state.begin at state.outbox
+    → AwaitsAt config state.targets at → IsReady config (went at state)
+ready_at config state answer.Done held awaits = tt
+ready_at config state (answer.Next one) held awaits = held
+ready_at config state (answer.Asks clear it) held awaits = record { begins = held; sent = awaits }
+
+next_same : (one other : OneKey) → answer.Next one ≡ answer.Next other → one ≡ other
+next_same one other same = cc
+
+not_both : (at : Answer) (one : OneKey) → at ≡ answer.Next one → at ≡ answer.Done → ⊥
+not_both at one next done = cc
+
+module _ {H L T C : Type 0} {steps : H → HealthItem → H → Type 0} where
+  begins_first : {old mid : SessionState} {told : Parts H L T C} {to : Parts H L T C × List ℕ} {request : Request} {at : Answer} {one : OneKey}
+      → mid ≡ old → at ≡ answer.Next one → Begins steps request (told, mid.outbox) at to
+      → IsFirst request (length old.outbox) one × (to ≡ (told, old.outbox))
+  begins_first same is (begins.answered text done itself more) = absurd (not_both _ _ is done)
+  begins_first {old} {mid} {told} {to} {request} {at} {one} same is (begins.keyed (other, at', first) kept) =
+      let with_outbox : SessionState → Parts H L T C × List ℕ = λ s. (told, s.outbox) in
+      let key : one ≡ other = next_same one other (sym is ∙ at') in (
+        subst (λ (s : SessionState). IsFirst request (length s.outbox) one) same (subst (IsFirst request (length mid.outbox)) (sym key) first),
+        kept ∙ ap with_outbox same,
+      )
+
+  -- a request began with its first key, and nothing else was done
+  pub first_at : {old mid : SessionState} {told after : Parts H L T C} {outbox : List ℕ} {begin : ℕ} {request : Request} {at : Answer} {one : OneKey}
+      → mid ≡ old → begin ≡ length mid.outbox → at ≡ answer.Next one → Begins steps request (told, mid.outbox) at (after, outbox)
+      → IsFirst request (length old.outbox) one
+      × (snapshot (record mid { outbox = outbox; owes = true; begin = begin }) after ≡ snapshot (begun_at old) told)
+  first_at {old} {mid} {told} {after} {outbox} {begin} same at is began =
+      let it = begins_first same is began in (
+        it.0,
+        ap (λ (s : SessionState). snapshot (record s { outbox = outbox; owes = true; begin = begin }) after) same
+            ∙ ap (λ n. snapshot (record old { outbox = outbox; owes = true; begin = n }) after) (at ∙ ap (λ (s : SessionState). length s.outbox) same)
+            ∙ ap (λ (w : Parts H L T C × List ℕ). snapshot (record (begun_at old) { outbox = w.1 }) w.0) it.1,
+      )
+
+module _ {H L T C : Type 0} {steps : H → HealthItem → H → Type 0} {records : T → TrailEvent → T → Type 0} where
+  pub by_first : {old : SessionState} {told : T} {parts : Parts H L T C} {request : Request} {wanted : Step} {from new : Snapshot (Parts H L T C)} (one : OneKey)
+      → records parts.trails (Asked request) told
+      → IsFirst request (length old.outbox) one × (from ≡ snapshot (begun_at old) (record parts { trails = told }))
+      → KeyBegun steps records one from wanted new → RequestBegun steps records request (snapshot old parts) wanted new
+  by_first {old} {told} {parts} {request} {wanted} {from} {new} one recorded (first, same) key =
+      driven.by_key told one recorded first (subst (λ s. KeyBegun steps records one s wanted new) same key)
+
+  pub first_lost : {old : SessionState} {told : T} {parts : Parts H L T C} {request : Request} {from new : Snapshot (Parts H L T C)} (one : OneKey)
+      → records parts.trails (Asked request) told
+      → IsFirst request (length old.outbox) one × (from ≡ snapshot (begun_at old) (record parts { trails = told }))
+      → KeyDropped steps records one from new → RequestDropped steps records request (snapshot old parts) new
+  first_lost {old} {told} {parts} {request} {from} {new} one recorded (first, same) lost =
+      driven.at_key told one recorded first (subst (λ s. KeyDropped steps records one s new) same lost)
+
+  -- the proxy answered a request itself
+  pub by_itself : {old mid new : SessionState} {told : T} {parts after : Parts H L T C} {outbox : List ℕ} {begin : ℕ} {request : Request} {at : Answer} {progress : Progress} {wanted : Step}
+      → records parts.trails (Asked request) told → mid ≡ old → begin ≡ length mid.outbox → at ≡ answer.Done
+      → Begins steps request (record parts { trails = told }, mid.outbox) at (after, outbox)
+      → progress ≡ progress_of request → wanted ≡ step.At progress
+      → new ≡ went answer.Done (record mid { outbox = outbox; owes = true; begin = begin })
+      → RequestBegun steps records request (snapshot old parts) wanted (snapshot new after)
+  by_itself {old} {mid} {new} {told} {parts} {after} {outbox} {begin} recorded same from is (begins.answered text done itself more) then asks went' =
+      driven.itself told text recorded itself (asks ∙ ap step.At then)
+      (
+      went'
+      ∙ ap (λ (s : SessionState). went answer.Done (record s { outbox = outbox; owes = true; begin = begin })) same
+      ∙ ap (λ n. went answer.Done (record old { outbox = outbox; owes = true; begin = n })) (from ∙ ap (λ (s : SessionState). length s.outbox) same)
+      ∙ ap (λ xs. went answer.Done (record (begun_at old) { outbox = xs })) (more ∙ ap (λ (s : SessionState). s.outbox ++ text) same)
+      )
+  by_itself recorded same from is (begins.keyed (one, at, first) kept) then asks went' = absurd (not_both _ one at is)
+
+-- a request was dropped where it began
+pub dropped_begun : (old : SessionState) (reading : Reading) (outbox : List ℕ) (requests : ℕ) (owes : Bool) (begin : ℕ) (targets : List ℕ)
+    → begin ≡ length old.outbox → Extends old.outbox outbox → old.work ≡ work.Between → reading ≡ old.reading → requests ≡ old.requests → owes ≡ true
+    → targets ≡ old.targets
+    → record { reading = reading; outbox = take begin outbox; requests = requests; owes = owes; work = work.Between; begin = begin; targets = targets } ≡ begun_at old
+dropped_begun old reading outbox requests owes begin targets begins more between reads counts owed aims =
+    rw (taken more begins, begins, between, reads, counts, owed, aims) refl
+
+-- the session after a call, field by field
+abbrev is_went : Answer → Reading → List ℕ → ℕ → Bool → ℕ → List ℕ → SessionState
+is_went at reading outbox requests owes begin targets = record {
+  reading = reading;
+  outbox = outbox;
+  requests = requests_after at requests;
+  owes = owes;
+  work = work_of at;
+  begin = begin;
+  targets = targets;
+}
+
+pub ready_went : {new : SessionState} (config : Configuration) (at : Answer) (reading : Reading) (outbox : List ℕ) (requests : ℕ) (owes : Bool) (begin : ℕ) (targets : List ℕ)
+    → new ≡ is_went at reading outbox requests owes begin targets → HoldsAt begin at outbox → AwaitsAt config targets at → IsReady config new
+ready_went config at reading outbox requests owes begin targets is held awaits =
+    let state : SessionState =
+    record { reading = reading; outbox = outbox; requests = requests; owes = owes; work = work.Between; begin = begin; targets = targets } in
+    subst (IsReady config) (sym is) (ready_at config state at held awaits)
+
+module _ {H L T C : Type 0} {steps : H → HealthItem → H → Type 0} {records : T → TrailEvent → T → Type 0} where
+  -- a key was asked for
+  pub key_begun : {old new : SessionState} {parts parts' : Parts H L T C} {wanted : Step} (one : OneKey) (at : Answer)
+      (front : List ℕ) (reading : Reading) (outbox : List ℕ) (requests : ℕ) (owes : Bool) (begin : ℕ) (targets : List ℕ)
+      → Goes steps records (course_of parts.config targets one (without_noreply one.request)) (λ more. more) (parts, front) at (parts', outbox)
+      → ((key : List ℕ) → request_keys one.request ≡ key ∷ [] → targets ≡ targets_of parts.config key)
+      → wanted ≡ step_of progress.More at → new ≡ is_went at reading outbox requests owes begin targets
+      → front ≡ old.outbox → reading ≡ old.reading → requests ≡ old.requests → owes ≡ old.owes → begin ≡ old.begin
+      → KeyBegun steps records one (snapshot old parts) wanted (snapshot new parts')
+  key_begun {old} {new} {parts} {parts'} one at front reading outbox requests owes begin targets goes aims asks is waits reads counts owed begins =
+      let o : new.outbox ≡ outbox = ap (λ (s : SessionState). s.outbox) is in
+      let t : new.targets ≡ targets = ap (λ (s : SessionState). s.targets) is in
+      let P : List ℕ → List ℕ → List ℕ → Type 0 = λ xs ts ys.
+      Goes steps records (course_of parts.config ts one (without_noreply one.request)) (λ more. more) (parts, xs) at (parts', ys) in
+      record {
+        at = at;
+        goes = subst (λ xs. P xs new.targets new.outbox) waits (subst (λ ts. P front ts new.outbox) (sym t) (subst (λ ys. P front targets ys) (sym o) goes));
+        targets = λ key keys. t ∙ aims key keys;
+        asks = asks;
+        state = is ∙ rw (reads, counts, owed, begins, o, t) refl;
+      }
+
+  -- what came of a send was recorded
+  pub outcome_taken : {old new : SessionState} {parts parts' : Parts H L T C} {wanted : Step} (outcome : Outcome) (it : Asking) (at : Answer)
+      (aimed front : List ℕ) (reading : Reading) (outbox : List ℕ) (requests : ℕ) (owes : Bool) (begin : ℕ) (targets : List ℕ)
+      → ((original : Request) (calls : List Call) → it.key.request ≡ form_at parts.config.failover_exptime original (length it.waiting.attempts)
+      → FindsUp (form_at parts.config.failover_exptime original) calls it.waiting.attempts it.waiting.server
+      → Goes steps records (course_of parts.config aimed it.key original) (λ more. calls ++ came it.waiting.server it.key.request (Ok outcome) ∷ more)
+      (parts, front) at (parts', outbox))
+      → wanted ≡ step_of progress.More at → new ≡ is_went at reading outbox requests owes begin targets
+      → aimed ≡ old.targets → front ≡ old.outbox → reading ≡ old.reading → requests ≡ old.requests → owes ≡ old.owes → begin ≡ old.begin
+      → targets ≡ old.targets → OutcomeTaken steps records outcome it (snapshot old parts) wanted (snapshot new parts')
+  outcome_taken {old} {new} {parts} {parts'} outcome it at aimed front reading outbox requests owes begin targets goes asks is aims waits reads counts owed begins same =
+      let o : new.outbox ≡ outbox = ap (λ (s : SessionState). s.outbox) is in
+      let P : Request → List Call → List ℕ → List ℕ → List ℕ → Type 0 = λ original calls ts xs ys.
+      Goes steps records (course_of parts.config ts it.key original) (λ more. calls ++ came it.waiting.server it.key.request (Ok outcome) ∷ more)
+      (parts, xs) at (parts', ys) in
+      record {
+        at = at;
+        goes = λ original calls form found.
+            subst (λ ts. P original calls ts old.outbox new.outbox) aims
+            (subst (λ xs. P original calls aimed xs new.outbox) waits (subst (λ ys. P original calls aimed front ys) (sym o) (goes original calls form found)));
+        asks = asks;
+        state = is ∙ rw (reads, counts, owed, begins, same, o) refl;
+      }
+
+  -- where it was, the session is ready for the next call
+  pub outcome_ready : {outcome : Outcome} {it : Asking} {old new : Snapshot (Parts H L T C)} {wanted : Step} → IsOut old.parts.config old.state it
+      → OutcomeTaken steps records outcome it old wanted new → new.parts.config ≡ old.parts.config → IsReady new.parts.config new.state
+  outcome_ready {outcome} {it} {old} {new} out outcome' same =
+      let sent = out.sent in
+      let goes = outcome'.goes sent.original sent.calls sent.form sent.found in
+      let state : SessionState = record old.state { outbox = new.state.outbox } in
+      subst (λ config. IsReady config new.state) (sym same)
+      (subst (IsReady old.parts.config) (sym outcome'.state)
+      (ready_at old.parts.config state outcome'.at (goes_held old.state.begin out.begins goes) (goes_awaits old.parts.config sent.original sent.within goes)))
+
+  -- memory ran out there
+  pub outcome_lost : {old new : SessionState} {parts parts' : Parts H L T C} (outcome : Outcome) (it : Asking) (aimed : List ℕ)
+      → ((original : Request) (calls : List Call) → it.key.request ≡ form_at parts.config.failover_exptime original (length it.waiting.attempts)
+      → FindsUp (form_at parts.config.failover_exptime original) calls it.waiting.attempts it.waiting.server
+      → GoesCut steps records (course_of parts.config aimed it.key original) (λ more. calls ++ came it.waiting.server it.key.request (Ok outcome) ∷ more)
+      parts parts')
+      → aimed ≡ old.targets → new ≡ dropped old → OutcomeDropped steps records outcome it (snapshot old parts) (snapshot new parts')
+  outcome_lost {old} {new} {parts} {parts'} outcome it aimed cut aims is = record {
+    cut = λ original calls form found.
+        subst (λ ts. GoesCut steps records (course_of parts.config ts it.key original) (λ more. calls ++ came it.waiting.server it.key.request (Ok outcome) ∷ more) parts parts')
+        aims (cut original calls form found);
+    state = is;
+  }
+
+-- a request was dropped at one of its keys
+pub dropped_again : (old : SessionState) (reading : Reading) (outbox : List ℕ) (requests : ℕ) (owes : Bool) (begin : ℕ) (targets : List ℕ)
+    → take begin outbox ≡ take old.begin old.outbox → reading ≡ old.reading → requests ≡ old.requests → owes ≡ old.owes → begin ≡ old.begin
+    → record { reading = reading; outbox = take begin outbox; requests = requests; owes = owes; work = work.Between; begin = begin; targets = targets }
+    ≡ record (dropped old) { targets = targets }
+dropped_again old reading outbox requests owes begin targets left reads counts owed begins = rw (left, reads, counts, owed, begins) refl
+
+module _ {H L T C : Type 0} {steps : H → HealthItem → H → Type 0} {records : T → TrailEvent → T → Type 0} {parts : Parts H L T C} where
+  -- a fault was read and answered
+  pub fault_read : {old read new : SessionState} {wanted : Step} (fault : TextFault) → Emits old.reading (item.Fault fault) read.reading
+      → read ≡ record old { reading = read.reading } → new ≡ record read { outbox = read.outbox ++ fault_text fault }
+      → wanted ≡ step.At (progress_after fault) → ItemRead steps records (snapshot old parts) wanted (snapshot new parts)
+  fault_read {old} {read} {new} {wanted} fault told others is asks =
+      let same : new ≡ record old { reading = read.reading; outbox = old.outbox ++ fault_text fault } =
+      is ∙ ap (λ (s : SessionState). record s { outbox = s.outbox ++ fault_text fault }) others in
+      subst (λ (s : SessionState). ItemRead steps records (snapshot old parts) wanted (snapshot s parts)) (sym same)
+      (driven.refused fault told asks refl)
+
+  begun_reading : {it : Request} {read : SessionState} {wanted : Step} {new : Snapshot (Parts H L T C)}
+      → RequestBegun steps records it (snapshot read parts) wanted new → new.state.reading ≡ read.reading
+  begun_reading (driven.itself told text recorded itself asks is) = ap (λ (s : SessionState). s.reading) is
+  begun_reading (driven.by_key told one recorded first key) = ap (λ (s : SessionState). s.reading) key.state
+
+  -- a request was read and begun
+  pub request_read : {old read : SessionState} {new : Snapshot (Parts H L T C)} {wanted : Step} (it : Request) → Emits old.reading (item.Request it) read.reading
+      → read ≡ record old { reading = read.reading } → RequestBegun steps records it (snapshot read parts) wanted new
+      → ItemRead steps records (snapshot old parts) wanted new
+  request_read {old} {read} {new} {wanted} it told others begun =
+      let to : new.state.reading ≡ read.reading = begun_reading begun in
+      let same : read ≡ record old { reading = new.state.reading } = others ∙ ap (λ r. record old { reading = r }) (sym to) in
+      driven.asked it (subst (λ r. Emits old.reading (item.Request it) r) (sym to) told)
+      (subst (λ (s : SessionState). RequestBegun steps records it (snapshot s parts) wanted new) same begun)
+
+  lost_reading : {it : Request} {read : SessionState} {new : Snapshot (Parts H L T C)} → RequestDropped steps records it (snapshot read parts) new
+      → new.state.reading ≡ read.reading
+  lost_reading (driven.unrecorded same is) = ap (λ (s : SessionState). s.reading) is
+  lost_reading (driven.recorded told recorded cut is) = ap (λ (s : SessionState). s.reading) is
+  lost_reading (driven.at_key told one recorded first lost) = ap (λ (s : SessionState). s.reading) lost.state
+
+  -- a request was read and dropped
+  pub request_lost : {old read : SessionState} {new : Snapshot (Parts H L T C)} (it : Request) → Emits old.reading (item.Request it) read.reading
+      → read ≡ record old { reading = read.reading } → RequestDropped steps records it (snapshot read parts) new
+      → ItemDropped steps records (snapshot old parts) new
+  request_lost {old} {read} {new} it told others lost =
+      let to : new.state.reading ≡ read.reading = lost_reading lost in
+      let same : read ≡ record old { reading = new.state.reading } = others ∙ ap (λ r. record old { reading = r }) (sym to) in
+      driven.cut it (subst (λ r. Emits old.reading (item.Request it) r) (sym to) told)
+      (subst (λ (s : SessionState). RequestDropped steps records it (snapshot s parts) new) same lost)
+
+-- one send is out
+awaits_same : (it other : Asking) → work.Awaits it ≡ work.Awaits other → it ≡ other
+awaits_same it other same = cc
+
+pub out_between : {config : Configuration} {old mid : SessionState} {it : Asking} → IsReady config old → old.work ≡ work.Awaits it
+    → mid ≡ record old { work = work.Between } → IsOut config mid it
+out_between {config} {old} {mid} {it} ready at same =
+    let out : IsOut config old it = subst (IsReadyFor config old) at ready in
+    subst (λ (s : SessionState). IsOut config s it) (sym same) (record { begins = out.begins; sent = out.sent })
+
+pub begins_between : {old mid : SessionState} {one : OneKey} (config : Configuration) → IsReady config old → old.work ≡ work.AtKey one
+    → mid ≡ record old { work = work.Between } → BeginsAt mid.begin one.share mid.outbox
+begins_between {old} {mid} {one} config ready at same =
+    let begins : BeginsAt old.begin one.share old.outbox = subst (IsReadyFor config old) at ready in
+    subst (λ (s : SessionState). BeginsAt s.begin one.share s.outbox) (sym same) begins
+
+nothing_taken : {old mid : SessionState} → old.work ≡ work.Between → mid ≡ record old { work = work.Between } → mid ≡ old
+nothing_taken {old} at same = same ∙ ap (λ w. record old { work = w }) (sym at)
+
+module _ {H L T C : Type 0} {steps : H → HealthItem → H → Type 0} {records : T → TrailEvent → T → Type 0} {parts : Parts H L T C} {new : Snapshot (Parts H L T C)} where
+  -- what was at work was taken out of the session, and then it went on
+  pub went_item : {old mid : SessionState} {wanted : Step} → old.work ≡ work.Between → mid ≡ record old { work = work.Between }
+      → ItemRead steps records (snapshot mid parts) wanted new → WentOn steps records old.work (snapshot old parts) wanted new
+  went_item {old} {mid} {wanted} at same read =
+      subst (λ w. WentOn steps records w (snapshot old parts) wanted new) (sym at)
+      (subst (λ (s : SessionState). ItemRead steps records (snapshot s parts) wanted new) (nothing_taken at same) read)
+
+  pub dropped_item : {old mid : SessionState} → old.work ≡ work.Between → mid ≡ record old { work = work.Between }
+      → ItemDropped steps records (snapshot mid parts) new → WasDropped steps records old.work (snapshot old parts) new
+  dropped_item {old} {mid} at same lost =
+      subst (λ w. WasDropped steps records w (snapshot old parts) new) (sym at)
+      (subst (λ (s : SessionState). ItemDropped steps records (snapshot s parts) new) (nothing_taken at same) lost)
+
+  pub went_key : {old mid : SessionState} {wanted : Step} (one : OneKey) → old.work ≡ work.AtKey one → mid ≡ record old { work = work.Between }
+      → KeyBegun steps records one (snapshot mid parts) wanted new → WentOn steps records old.work (snapshot old parts) wanted new
+  went_key {old} {mid} {wanted} one at same key =
+      let from : KeyBegun steps records one (snapshot (record old { work = work.Between }) parts) wanted new =
+      subst (λ (s : SessionState). KeyBegun steps records one (snapshot s parts) wanted new) same key in
+      let to : KeyBegun steps records one (snapshot old parts) wanted new =
+      record { at = from.at; goes = from.goes; targets = from.targets; asks = from.asks; state = from.state } in
+      subst (λ w. WentOn steps records w (snapshot old parts) wanted new) (sym at) to
+
+  pub dropped_key : {old mid : SessionState} (one : OneKey) → old.work ≡ work.AtKey one → mid ≡ record old { work = work.Between }
+      → KeyDropped steps records one (snapshot mid parts) new → WasDropped steps records old.work (snapshot old parts) new
+  dropped_key {old} {mid} one at same lost =
+      let from : KeyDropped steps records one (snapshot (record old { work = work.Between }) parts) new =
+      subst (λ (s : SessionState). KeyDropped steps records one (snapshot s parts) new) same lost in
+      let to : KeyDropped steps records one (snapshot old parts) new = record { cut = from.cut; state = from.state } in
+      subst (λ w. WasDropped steps records w (snapshot old parts) new) (sym at) to
+
+  pub taken_between : {old mid : SessionState} {wanted : Step} {outcome : Outcome} {asking it : Asking} → mid ≡ record old { work = work.Between }
+      → work.Awaits asking ≡ work.Awaits it → OutcomeTaken steps records outcome asking (snapshot mid parts) wanted new
+      → OutcomeTaken steps records outcome it (snapshot old parts) wanted new
+  taken_between {old} {mid} {wanted} {outcome} {asking} {it} same one outcome' =
+      let from : OutcomeTaken steps records outcome asking (snapshot (record old { work = work.Between }) parts) wanted new =
+      subst (λ (s : SessionState). OutcomeTaken steps records outcome asking (snapshot s parts) wanted new) same outcome' in
+      let to : OutcomeTaken steps records outcome asking (snapshot old parts) wanted new =
+      record { at = from.at; goes = from.goes; asks = from.asks; state = from.state } in
+      subst (λ a. OutcomeTaken steps records outcome a (snapshot old parts) wanted new) (awaits_same asking it one) to
+
+  pub lost_between : {old mid : SessionState} {outcome : Outcome} {asking it : Asking} → mid ≡ record old { work = work.Between }
+      → work.Awaits asking ≡ work.Awaits it → OutcomeDropped steps records outcome asking (snapshot mid parts) new
+      → OutcomeDropped steps records outcome it (snapshot old parts) new
+  lost_between {old} {mid} {outcome} {asking} {it} same one lost =
+      let from : OutcomeDropped steps records outcome asking (snapshot (record old { work = work.Between }) parts) new =
+      subst (λ (s : SessionState). OutcomeDropped steps records outcome asking (snapshot s parts) new) same lost in
+      let to : OutcomeDropped steps records outcome asking (snapshot old parts) new = record { cut = from.cut; state = from.state } in
+      subst (λ a. OutcomeDropped steps records outcome a (snapshot old parts) new) (awaits_same asking it one) to
