@@ -1,13 +1,14 @@
 -- The answer to one request as a value: how its calls begin and end a key. What came of a send is
 -- passed to it, and other calls of the servers' health may stand between two calls of the value. So
 -- each call says what it adds to the calls of its key, whatever calls stood before.
-use Rattle.std.specs.Prelude.{◌≡◌, ◌≤◌, ℕ, Bool, List, [], ◌∷◌, ◌++◌, IsSome, length, take, unwrap_or, if◌then◌else◌}
+use Rattle.std.specs.Prelude.{◌≡◌, ◌≤◌, ℕ, Bool, List, [], ◌∷◌, ◌++◌, IsSome, length, take, unwrap_or, if◌then◌else◌, Ok}
 use Rattle.tko_model.specs.Records.{HealthItem}
 use Rattle.tko_text.specs.declared.request.Request.{Request}
 use Rattle.tko_text.specs.declared.request.Request.TheVariants.{StatsTko}
 use Rattle.tko_text.specs.SentRequests.{is_silent}
 use Rattle.tko_pools.specs.Configs.{AreServers, Configuration}
-use Rattle.tko_route.specs.Calls.{Call}
+use Rattle.tko_links.specs.declared.links.Outcome.{Outcome}
+use Rattle.tko_route.specs.Calls.{Call, came}
 use Rattle.tko_route.specs.Routing.{FindsUp, GoesOn, IsAwaited, Reached, last_place}
 use Rattle.tko_route.specs.Trail.{answer_of, form_at}
 use Rattle.tko_route.specs.declared.attempt.Attempt.{Attempt}
@@ -182,6 +183,24 @@ pub record Course : Type 0 where
   pub targets : List ℕ
   pub form : ℕ → Request
   pub share : Share
+
+-- the request of a key over these targets, in the form of each place
+abbrev pub course_of : Configuration → List ℕ → OneKey → Request → Course
+course_of config targets one original = record {
+  targets = targets;
+  form = form_at config.failover_exptime original;
+  share = one.share;
+}
+
+-- what holds of a request and the calls of its key where the send came to this, whatever calls stood
+-- before: the request is in the form of its place, and those calls found its server up
+abbrev pub AfterSend : Configuration → Asking → Outcome
+    → (Request → (List Call → List Call) → Type 0) → Type 0
+AfterSend config it outcome Holds = (original : Request) (calls : List Call)
+    → it.key.request ≡ form_at config.failover_exptime original (length it.waiting.attempts)
+    → FindsUp (form_at config.failover_exptime original) calls
+    it.waiting.attempts it.waiting.server
+    → Holds original (λ more. calls ++ came it.waiting.server it.key.request (Ok outcome) ∷ more)
 
 module _ {H L T C : Type 0} (steps : H → HealthItem → H → Type 0)
     (records : T → TrailEvent → T → Type 0) where

@@ -1,15 +1,12 @@
 //! The answer to one request as a value that sends nothing itself: its caller sends. The keys of a
 //! request, values that are joined, a silent request and the status are its states.
-ghost use Rattle.std.specs.Prelude.{◌≡◌, ◌∷◌, ◌++◌, [], ℕ, List, IfOk, OnOk, OnErr, Ok, length};
+ghost use Rattle.std.specs.Prelude.{◌≡◌, ◌∷◌, [], ℕ, List, IfOk, OnOk, OnErr, length};
 ghost use Rattle.tko_answer.specs.Answering.{Extends, retrieval};
 ghost use Rattle.tko_answer.specs.Answers.{request_keys};
-ghost use Rattle.tko_answer.specs.Asking.{Begins, Goes, GoesCut, BeginsKeys, HasFront, HasServers, IsBeginCut, IsFirst, IsKeyBeginCut, Stays, front_of, with_noted};
+ghost use Rattle.tko_answer.specs.Asking.{AfterSend, Begins, Goes, GoesCut, BeginsKeys, HasFront, HasServers, IsBeginCut, IsFirst, IsKeyBeginCut, Stays, course_of, front_of, with_noted};
 ghost use Rattle.tko_pools.specs.Configs.{AreServers, targets_of};
-ghost use Rattle.tko_route.specs.Calls.{Call, came};
-ghost use Rattle.tko_route.specs.Routing.{FindsUp, IsAwaited};
-ghost use Rattle.tko_route.specs.Trail.{form_at};
+ghost use Rattle.tko_route.specs.Routing.{IsAwaited};
 ghost use Rattle.tko_text.specs.SentRequests.{without_noreply};
-ghost use Rattle.tko_text.specs.declared.request.Request.{Request};
 
 use crate::ending::settle;
 use crate::keys_left::KeysLeft;
@@ -139,18 +136,14 @@ impl OneKey {
     ) -> Result<Answer, NoMemory>
         requires servers { HasServers H.servers parts.old }
         requires front { HasFront self.share outbox.old }
-        ensures ok { IfOk result (λ answer. Goes H.steps T.records (record {
-          targets = targets.new.items;
-          form = form_at parts.old.config.failover_exptime (without_noreply self.request);
-          share = self.share;
-        }) (λ more. more) (parts.old, outbox.old) answer (parts.new, outbox.new)) }
+        ensures ok { IfOk result (λ answer. Goes H.steps T.records
+            (course_of parts.old.config targets.new.items self (without_noreply self.request))
+            (λ more. more) (parts.old, outbox.old) answer (parts.new, outbox.new)) }
         ensures err { OnErr result (Extends (front_of self.share outbox.old) outbox.new) }
         ensures cut { OnErr result ((key : List ℕ) → request_keys self.request ≡ key ∷ []
-            → IsKeyBeginCut H.steps T.records (record {
-              targets = targets_of parts.old.config key;
-              form = form_at parts.old.config.failover_exptime (without_noreply self.request);
-              share = self.share;
-            }) parts.old parts.new) }
+            → IsKeyBeginCut H.steps T.records (course_of
+            parts.old.config (targets_of parts.old.config key) self (without_noreply self.request))
+            parts.old parts.new) }
         ensures stays { Stays H.servers parts.old parts.new }
         ensures targets { OnOk result ((key : List ℕ) → request_keys self.request ≡ key ∷ []
             → targets.new.items ≡ targets_of parts.old.config key) }
@@ -183,29 +176,15 @@ impl Asking {
         requires front { HasFront self.key.share outbox.old }
         requires within { AreServers parts.old.config targets.now }
         requires awaited { IsAwaited targets.now self.waiting }
-        ensures ok { IfOk result (λ answer. (original : Request) (calls : List Call)
-            → self.key.request ≡ form_at parts.old.config.failover_exptime original
-            (length self.waiting.attempts)
-            → FindsUp (form_at parts.old.config.failover_exptime original) calls
-            self.waiting.attempts self.waiting.server
-            → Goes H.steps T.records (record {
-              targets = targets.now;
-              form = form_at parts.old.config.failover_exptime original;
-              share = self.key.share;
-            }) (λ more. calls ++ came self.waiting.server self.key.request (Ok outcome) ∷ more)
-            (parts.old, outbox.old) answer (parts.new, outbox.new)) }
+        ensures ok { IfOk result (λ answer. AfterSend parts.old.config self outcome
+            (λ original calls. Goes H.steps T.records
+            (course_of parts.old.config targets.now self.key original) calls
+            (parts.old, outbox.old) answer (parts.new, outbox.new))) }
         ensures err { OnErr result (Extends (front_of self.key.share outbox.old) outbox.new) }
-        ensures cut { OnErr result ((original : Request) (calls : List Call)
-            → self.key.request ≡ form_at parts.old.config.failover_exptime original
-            (length self.waiting.attempts)
-            → FindsUp (form_at parts.old.config.failover_exptime original) calls
-            self.waiting.attempts self.waiting.server
-            → GoesCut H.steps T.records (record {
-              targets = targets.now;
-              form = form_at parts.old.config.failover_exptime original;
-              share = self.key.share;
-            }) (λ more. calls ++ came self.waiting.server self.key.request (Ok outcome) ∷ more)
-            parts.old parts.new) }
+        ensures cut { OnErr result (AfterSend parts.old.config self outcome
+            (λ original calls. GoesCut H.steps T.records
+            (course_of parts.old.config targets.now self.key original) calls
+            parts.old parts.new)) }
         ensures stays { Stays H.servers parts.old parts.new }
     {
         let Asking { waiting, mut key } = self;

@@ -1,49 +1,37 @@
 -- What each call of a session makes of its fields.
-use Rattle.std.proofs.Common.{◌≡◌, ◌<◌, ℕ, Bool, true, false, List, [], ◌∷◌, ◌++◌, length, take, Result, Ok, Err, refl, sym, ap, subst, ◌∙◌, arith}
-use Rattle.std.proofs.lemmas.List.{take_at}
+use Rattle.std.proofs.Common.{◌≡◌, ℕ, Bool, true, List, [], ◌∷◌, ◌++◌, length, take, Ok, refl, sym, ap, subst, ◌∙◌}
 use Rattle.tko_model.specs.Records.{HealthItem}
-use Rattle.tko_health.specs.declared.health.Health.{Ghosts as HealthGhosts}
-use Rattle.tko_links.specs.declared.links.Links.{Ghosts as LinksGhosts}
 use Rattle.tko_links.specs.declared.links.Outcome.{Outcome}
-use Rattle.tko_backend.specs.declared.clock.Clock.{Ghosts as ClockGhosts}
-use Rattle.tko_text.specs.Reading.{Emits, NeedsMore, Reading}
+use Rattle.tko_text.specs.Reading.{Emits, Reading}
 use Rattle.tko_text.specs.Requests.{fault_text}
 use Rattle.tko_text.specs.SentRequests.{without_noreply}
 use Rattle.tko_text.specs.declared.fault.TextFault.{TextFault}
 use Rattle.tko_text.specs.declared.item.Item.TheVariants as item
 use Rattle.tko_text.specs.declared.request.Request.{Request}
-use Rattle.tko_text.specs.declared.request.Request.TheVariants as asked
 use Rattle.tko_pools.specs.Configs.{Configuration, targets_of}
-use Rattle.tko_route.specs.Calls.{Call, IsExchange, came, upstream}
+use Rattle.tko_route.specs.Calls.{Call, came}
 use Rattle.tko_route.specs.Routing.{FindsUp}
 use Rattle.tko_route.specs.Trail.{form_at}
-use Rattle.tko_answer.specs.Answering.{AnsweredInto, Extends}
+use Rattle.tko_answer.specs.Answering.{Extends}
 use Rattle.tko_answer.specs.Answers.{request_keys}
-use Rattle.tko_answer.specs.Asking.{Begins, BeginsAt, Goes, GoesCut, IsFirst, Stays, with_noted}
+use Rattle.tko_answer.specs.Asking.{Begins, BeginsAt, Goes, GoesCut, IsFirst, Stays, with_noted, AfterSend, course_of}
 use Rattle.tko_answer.specs.Asking as begins
-use Rattle.tko_answer.specs.Cuts.{IsAnswerCut}
-use Rattle.tko_answer.specs.Replies.{reply_bound}
 use Rattle.tko_answer.specs.TrailEvents.{Asked, TrailEvent}
 use Rattle.tko_answer.specs.declared.asking.Answer.{Answer}
 use Rattle.tko_answer.specs.declared.asking.Answer.TheVariants as answer
 use Rattle.tko_answer.specs.declared.asking.Asking.{Asking}
 use Rattle.tko_answer.specs.declared.asking.OneKey.{OneKey}
 use Rattle.tko_answer.specs.declared.parts.Parts.{Parts}
-use Rattle.tko_answer.specs.declared.trails.Trails.{Ghosts as TrailsGhosts}
-use Rattle.tko_answer.proofs.DrivingLemmas.{Stands, at_extends, begin_cut, begun, begun_in, gone_on, gone_on_cut, keyed, sent_cut, stands}
+use Rattle.tko_answer.proofs.DrivingLemmas.{begun}
 use Rattle.tko_answer.proofs.HeldLemmas.{AwaitsAt, HoldsAt, goes_awaits, goes_held}
-use Rattle.tko_turns.specs.Driven.{IsOut, IsReady, IsReadyFor, ItemDropped, ItemRead, KeyBegun, KeyDropped, OutcomeDropped, OutcomeTaken, RequestBegun, RequestDropped, WasDropped, WentOn, begun_at, course_of, dropped, requests_after, step_of, went, work_of}
+use Rattle.tko_turns.specs.Driven.{IsOut, IsReady, IsReadyFor, ItemDropped, ItemRead, KeyBegun, KeyDropped, OutcomeDropped, OutcomeTaken, RequestBegun, RequestDropped, WasDropped, WentOn, begun_at, dropped, requests_after, step_of, went, work_of}
 use Rattle.tko_turns.specs.Driven as driven
-use Rattle.tko_turns.specs.Effects.{effects}
-use Rattle.tko_turns.specs.Ends.{IsSettled}
-use Rattle.tko_turns.specs.SessionState.{Answered, AnsweredPart, Replied, SessionState, Snapshot, progress_after, progress_of, snapshot}
-use Rattle.tko_turns.specs.Turns as turn
+use Rattle.tko_turns.specs.SessionState.{SessionState, Snapshot, progress_after, progress_of, snapshot}
 use Rattle.tko_turns.specs.declared.step.Progress.{Progress}
 use Rattle.tko_turns.specs.declared.step.Progress.TheVariants as progress
 use Rattle.tko_turns.specs.declared.step.Step.{Step}
 use Rattle.tko_turns.specs.declared.step.Step.TheVariants as step
 use Rattle.tko_turns.specs.declared.step.Work.TheVariants as work
-use Rattle.tko_turns.proofs.TurnLemmas.{answered_fault, answered_open, answered_request, part_cut, part_none}
 use Rattle.tko_turns.proofs.DrivenLemmas.{taken}
 
 -- what a call leaves for the next one
@@ -168,23 +156,19 @@ module _ {H L T C : Type 0} {steps : H → HealthItem → H → Type 0} {records
   -- what came of a send was recorded
   pub outcome_taken : {old new : SessionState} {parts parts' : Parts H L T C} {wanted : Step} (outcome : Outcome) (it : Asking) (at : Answer)
       (aimed front : List ℕ) (reading : Reading) (outbox : List ℕ) (requests : ℕ) (owes : Bool) (begin : ℕ) (targets : List ℕ)
-      → ((original : Request) (calls : List Call) → it.key.request ≡ form_at parts.config.failover_exptime original (length it.waiting.attempts)
-      → FindsUp (form_at parts.config.failover_exptime original) calls it.waiting.attempts it.waiting.server
-      → Goes steps records (course_of parts.config aimed it.key original) (λ more. calls ++ came it.waiting.server it.key.request (Ok outcome) ∷ more)
-      (parts, front) at (parts', outbox))
+      → AfterSend parts.config it outcome (λ original calls. Goes steps records (course_of parts.config aimed it.key original) calls (parts, front) at (parts', outbox))
       → wanted ≡ step_of progress.More at → new ≡ is_went at reading outbox requests owes begin targets
       → aimed ≡ old.targets → front ≡ old.outbox → reading ≡ old.reading → requests ≡ old.requests → owes ≡ old.owes → begin ≡ old.begin
       → targets ≡ old.targets → OutcomeTaken steps records outcome it (snapshot old parts) wanted (snapshot new parts')
   outcome_taken {old} {new} {parts} {parts'} outcome it at aimed front reading outbox requests owes begin targets goes asks is aims waits reads counts owed begins same =
       let o : new.outbox ≡ outbox = ap (λ (s : SessionState). s.outbox) is in
-      let P : Request → List Call → List ℕ → List ℕ → List ℕ → Type 0 = λ original calls ts xs ys.
-      Goes steps records (course_of parts.config ts it.key original) (λ more. calls ++ came it.waiting.server it.key.request (Ok outcome) ∷ more)
-      (parts, xs) at (parts', ys) in
+      let P : List ℕ → List ℕ → List ℕ → Type 0 = λ ts xs ys.
+      AfterSend parts.config it outcome (λ original calls. Goes steps records (course_of parts.config ts it.key original) calls (parts, xs) at (parts', ys)) in
       record {
         at = at;
-        goes = λ original calls form found.
-            subst (λ ts. P original calls ts old.outbox new.outbox) aims
-            (subst (λ xs. P original calls aimed xs new.outbox) waits (subst (λ ys. P original calls aimed front ys) (sym o) (goes original calls form found)));
+        goes =
+            subst (λ ts. P ts old.outbox new.outbox) aims
+            (subst (λ xs. P aimed xs new.outbox) waits (subst (λ ys. P aimed front ys) (sym o) goes));
         asks = asks;
         state = is ∙ rw (reads, counts, owed, begins, same, o) refl;
       }
@@ -202,15 +186,12 @@ module _ {H L T C : Type 0} {steps : H → HealthItem → H → Type 0} {records
 
   -- memory ran out there
   pub outcome_lost : {old new : SessionState} {parts parts' : Parts H L T C} (outcome : Outcome) (it : Asking) (aimed : List ℕ)
-      → ((original : Request) (calls : List Call) → it.key.request ≡ form_at parts.config.failover_exptime original (length it.waiting.attempts)
-      → FindsUp (form_at parts.config.failover_exptime original) calls it.waiting.attempts it.waiting.server
-      → GoesCut steps records (course_of parts.config aimed it.key original) (λ more. calls ++ came it.waiting.server it.key.request (Ok outcome) ∷ more)
-      parts parts')
+      → AfterSend parts.config it outcome (λ original calls. GoesCut steps records (course_of parts.config aimed it.key original) calls parts parts')
       → aimed ≡ old.targets → new ≡ dropped old → OutcomeDropped steps records outcome it (snapshot old parts) (snapshot new parts')
   outcome_lost {old} {new} {parts} {parts'} outcome it aimed cut aims is = record {
-    cut = λ original calls form found.
-        subst (λ ts. GoesCut steps records (course_of parts.config ts it.key original) (λ more. calls ++ came it.waiting.server it.key.request (Ok outcome) ∷ more) parts parts')
-        aims (cut original calls form found);
+    cut =
+        subst (λ ts. AfterSend parts.config it outcome (λ original calls. GoesCut steps records (course_of parts.config ts it.key original) calls parts parts'))
+        aims cut;
     state = is;
   }
 
@@ -279,23 +260,16 @@ begins_between {old} {mid} {one} config ready at same =
     let begins : BeginsAt old.begin one.share old.outbox = subst (IsReadyFor config old) at ready in
     subst (λ (s : SessionState). BeginsAt s.begin one.share s.outbox) (sym same) begins
 
-nothing_taken : {old mid : SessionState} → old.work ≡ work.Between → mid ≡ record old { work = work.Between } → mid ≡ old
-nothing_taken {old} at same = same ∙ ap (λ w. record old { work = w }) (sym at)
-
 module _ {H L T C : Type 0} {steps : H → HealthItem → H → Type 0} {records : T → TrailEvent → T → Type 0} {parts : Parts H L T C} {new : Snapshot (Parts H L T C)} where
+  pub went_item : {old : SessionState} {wanted : Step} → old.work ≡ work.Between
+      → ItemRead steps records (snapshot old parts) wanted new → WentOn steps records old.work (snapshot old parts) wanted new
+  went_item {old} {wanted} at read = subst (λ w. WentOn steps records w (snapshot old parts) wanted new) (sym at) read
+
+  pub dropped_item : {old : SessionState} → old.work ≡ work.Between
+      → ItemDropped steps records (snapshot old parts) new → WasDropped steps records old.work (snapshot old parts) new
+  dropped_item {old} at lost = subst (λ w. WasDropped steps records w (snapshot old parts) new) (sym at) lost
+
   -- what was at work was taken out of the session, and then it went on
-  pub went_item : {old mid : SessionState} {wanted : Step} → old.work ≡ work.Between → mid ≡ record old { work = work.Between }
-      → ItemRead steps records (snapshot mid parts) wanted new → WentOn steps records old.work (snapshot old parts) wanted new
-  went_item {old} {mid} {wanted} at same read =
-      subst (λ w. WentOn steps records w (snapshot old parts) wanted new) (sym at)
-      (subst (λ (s : SessionState). ItemRead steps records (snapshot s parts) wanted new) (nothing_taken at same) read)
-
-  pub dropped_item : {old mid : SessionState} → old.work ≡ work.Between → mid ≡ record old { work = work.Between }
-      → ItemDropped steps records (snapshot mid parts) new → WasDropped steps records old.work (snapshot old parts) new
-  dropped_item {old} {mid} at same lost =
-      subst (λ w. WasDropped steps records w (snapshot old parts) new) (sym at)
-      (subst (λ (s : SessionState). ItemDropped steps records (snapshot s parts) new) (nothing_taken at same) lost)
-
   pub went_key : {old mid : SessionState} {wanted : Step} (one : OneKey) → old.work ≡ work.AtKey one → mid ≡ record old { work = work.Between }
       → KeyBegun steps records one (snapshot mid parts) wanted new → WentOn steps records old.work (snapshot old parts) wanted new
   went_key {old} {mid} {wanted} one at same key =

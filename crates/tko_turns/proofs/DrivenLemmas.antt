@@ -1,7 +1,6 @@
 -- Laws of a session that is driven: how far its next item came, and what each call adds to that.
-use Rattle.std.proofs.Common.{◌≡◌, ◌<◌, ℕ, Bool, true, false, List, [], ◌∷◌, ◌++◌, length, take, Result, Ok, Err, refl, sym, ap, subst, ◌∙◌, arith}
+use Rattle.std.proofs.Common.{◌≡◌, ◌<◌, ℕ, Bool, true, false, List, ◌++◌, length, take, Result, Ok, Err, refl, sym, ap, subst, ◌∙◌, arith}
 use Rattle.std.proofs.lemmas.List.{take_at}
-use Rattle.tko_model.specs.Records.{HealthItem}
 use Rattle.tko_health.specs.declared.health.Health.{Ghosts as HealthGhosts}
 use Rattle.tko_links.specs.declared.links.Links.{Ghosts as LinksGhosts}
 use Rattle.tko_links.specs.declared.links.Outcome.{Outcome}
@@ -9,21 +8,17 @@ use Rattle.tko_backend.specs.declared.clock.Clock.{Ghosts as ClockGhosts}
 use Rattle.tko_text.specs.Reading.{Emits, NeedsMore, Reading}
 use Rattle.tko_text.specs.Requests.{fault_text}
 use Rattle.tko_text.specs.SentRequests.{without_noreply}
-use Rattle.tko_text.specs.declared.fault.TextFault.{TextFault}
 use Rattle.tko_text.specs.declared.item.Item.TheVariants as item
 use Rattle.tko_text.specs.declared.request.Request.{Request}
 use Rattle.tko_text.specs.declared.request.Request.TheVariants as asked
-use Rattle.tko_pools.specs.Configs.{Configuration, targets_of}
-use Rattle.tko_route.specs.Calls.{Call, IsExchange, came, upstream}
-use Rattle.tko_route.specs.Routing.{FindsUp}
-use Rattle.tko_route.specs.Trail.{form_at}
+use Rattle.tko_route.specs.Calls.{IsExchange, upstream}
 use Rattle.tko_answer.specs.Answering.{AnsweredInto, Extends}
 use Rattle.tko_answer.specs.Answers.{request_keys}
-use Rattle.tko_answer.specs.Asking.{Begins, BeginsAt, Goes, GoesCut, IsFirst, Stays, with_noted}
+use Rattle.tko_answer.specs.Asking.{Begins, BeginsAt, Goes, GoesCut, IsFirst, Stays, with_noted, AfterSend, course_of}
 use Rattle.tko_answer.specs.Asking as begins
 use Rattle.tko_answer.specs.Cuts.{IsAnswerCut}
 use Rattle.tko_answer.specs.Replies.{reply_bound}
-use Rattle.tko_answer.specs.TrailEvents.{Asked, TrailEvent}
+use Rattle.tko_answer.specs.TrailEvents.{Asked}
 use Rattle.tko_answer.specs.declared.asking.Answer.{Answer}
 use Rattle.tko_answer.specs.declared.asking.Answer.TheVariants as answer
 use Rattle.tko_answer.specs.declared.asking.Asking.{Asking}
@@ -31,8 +26,7 @@ use Rattle.tko_answer.specs.declared.asking.OneKey.{OneKey}
 use Rattle.tko_answer.specs.declared.parts.Parts.{Parts}
 use Rattle.tko_answer.specs.declared.trails.Trails.{Ghosts as TrailsGhosts}
 use Rattle.tko_answer.proofs.DrivingLemmas.{Stands, at_extends, begin_cut, begun, begun_in, gone_on, gone_on_cut, keyed, sent_cut, stands}
-use Rattle.tko_answer.proofs.HeldLemmas.{AwaitsAt, HoldsAt, goes_awaits, goes_held}
-use Rattle.tko_turns.specs.Driven.{IsOut, IsReady, IsReadyFor, ItemDropped, ItemRead, KeyBegun, KeyDropped, OutcomeDropped, OutcomeTaken, RequestBegun, RequestDropped, WasDropped, WentOn, begun_at, course_of, dropped, requests_after, step_of, went, work_of}
+use Rattle.tko_turns.specs.Driven.{IsOut, IsReady, IsReadyFor, ItemDropped, ItemRead, KeyBegun, KeyDropped, OutcomeDropped, OutcomeTaken, RequestBegun, RequestDropped, WasDropped, WentOn, begun_at, dropped, requests_after, step_of, went, work_of}
 use Rattle.tko_turns.specs.Driven as driven
 use Rattle.tko_turns.specs.Effects.{effects}
 use Rattle.tko_turns.specs.Ends.{IsSettled}

@@ -10,12 +10,9 @@ use Rattle.tko_text.specs.declared.item.Item.TheVariants as item
 use Rattle.tko_text.specs.declared.request.Request.{Request}
 use Rattle.tko_links.specs.declared.links.Outcome.{Outcome}
 use Rattle.tko_pools.specs.Configs.{Configuration, targets_of}
-use Rattle.tko_route.specs.Calls.{Call, came}
-use Rattle.tko_route.specs.Routing.{FindsUp}
-use Rattle.tko_route.specs.Trail.{form_at}
 use Rattle.tko_io.specs.Io.{capped}
 use Rattle.tko_answer.specs.Answers.{AnswersItself, request_keys}
-use Rattle.tko_answer.specs.Asking.{BeginsAt, Course, Goes, GoesCut, IsBeginCut, IsFirst, IsKeyBeginCut, IsSent}
+use Rattle.tko_answer.specs.Asking.{AfterSend, BeginsAt, Goes, GoesCut, IsBeginCut, IsFirst, IsKeyBeginCut, IsSent, course_of}
 use Rattle.tko_answer.specs.TrailEvents.{TrailEvent, Asked}
 use Rattle.tko_answer.specs.declared.asking.Answer.{Answer}
 use Rattle.tko_answer.specs.declared.asking.Answer.TheVariants as answer
@@ -86,14 +83,6 @@ IsReadyFor config state (work.Awaits it) = IsOut config state it
 
 abbrev pub IsReady : Configuration → SessionState → Type 0
 IsReady config state = IsReadyFor config state state.work
-
--- the request of a key over these targets, in the form of each place
-abbrev pub course_of : Configuration → List ℕ → OneKey → Request → Course
-course_of config targets one original = record {
-  targets = targets;
-  form = form_at config.failover_exptime original;
-  share = one.share;
-}
 
 module _ {H L T C : Type 0} (steps : H → HealthItem → H → Type 0)
     (records : T → TrailEvent → T → Type 0) where
@@ -182,30 +171,20 @@ module _ {H L T C : Type 0} (steps : H → HealthItem → H → Type 0)
   WasDropped (work.AtKey one) old new = KeyDropped one old new
   WasDropped (work.Awaits it) old new = ⊥
 
-  -- what came of the send was recorded, whatever calls of its key stood before
+  -- what came of the send was recorded
   pub record OutcomeTaken (outcome : Outcome) (it : Asking) (old : Snapshot (Parts H L T C))
       (wanted : Step) (new : Snapshot (Parts H L T C)) : Type 0 where
     pub at : Answer
-    pub goes : (original : Request) (calls : List Call)
-        → it.key.request ≡ form_at old.parts.config.failover_exptime original
-        (length it.waiting.attempts)
-        → FindsUp (form_at old.parts.config.failover_exptime original) calls
-        it.waiting.attempts it.waiting.server
-        → Goes steps records (course_of old.parts.config old.state.targets it.key original)
-        (λ more. calls ++ came it.waiting.server it.key.request (Ok outcome) ∷ more)
-        (old.parts, old.state.outbox) at (new.parts, new.state.outbox)
+    pub goes : AfterSend old.parts.config it outcome (λ original calls. Goes steps records
+        (course_of old.parts.config old.state.targets it.key original) calls
+        (old.parts, old.state.outbox) at (new.parts, new.state.outbox))
     pub asks : wanted ≡ step_of progress.More at
     pub state : new.state ≡ went at (record old.state { outbox = new.state.outbox })
 
   -- memory ran out there, and the request was dropped
   pub record OutcomeDropped (outcome : Outcome) (it : Asking) (old new : Snapshot (Parts H L T C))
       : Type 0 where
-    pub cut : (original : Request) (calls : List Call)
-        → it.key.request ≡ form_at old.parts.config.failover_exptime original
-        (length it.waiting.attempts)
-        → FindsUp (form_at old.parts.config.failover_exptime original) calls
-        it.waiting.attempts it.waiting.server
-        → GoesCut steps records (course_of old.parts.config old.state.targets it.key original)
-        (λ more. calls ++ came it.waiting.server it.key.request (Ok outcome) ∷ more)
-        old.parts new.parts
+    pub cut : AfterSend old.parts.config it outcome (λ original calls. GoesCut steps records
+        (course_of old.parts.config old.state.targets it.key original) calls
+        old.parts new.parts)
     pub state : new.state ≡ dropped old.state

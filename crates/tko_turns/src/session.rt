@@ -94,9 +94,12 @@ impl Session {
         ensures ready { OnOk result (IsReady parts.new.config self.new) }
         ensures stays { Stays H.servers parts.old parts.new }
     {
+        if self.is_between() {
+            return self.next_item(rt, alloc, parts);
+        }
         match self.take_work() {
-            Work::Between => self.next_item(rt, alloc, parts),
             Work::AtKey(key) => self.begin_key(rt, alloc, parts, key),
+            Work::Between => unreachable!(),
             Work::Awaits(_) => unreachable!(),
         }
     }
@@ -220,7 +223,19 @@ impl Session {
         }
     }
 
-    #[inline]
+    /// Whether no request is being answered. Asked first, since to take what is at work copies it.
+    #[inline(always)]
+    fn is_between(&self) -> bool
+        ensures { IsTrue result ↔ (self.now.work ≡ Work.Between) }
+    {
+        match &self.work {
+            Work::Between => true,
+            Work::AtKey(_) => false,
+            Work::Awaits(_) => false,
+        }
+    }
+
+    #[inline(always)]
     fn take_work(&mut self) -> Work
         ensures work { result ≡ self.old.work }
         ensures between { self.new ≡ record self.old { work = Work.Between } }
@@ -351,7 +366,7 @@ impl Session {
     }
 
     /// Keeps how far the answer came, and says what it asks for.
-    #[inline]
+    #[inline(always)]
     fn go_to(&mut self, answer: Answer, progress: Progress) -> Step
         ensures asks { result ≡ step_of progress answer }
         ensures went { self.new ≡ went answer self.old }

@@ -1,8 +1,7 @@
 use Rattle.std.proofs.Common.{ap, subst, sym}
 use Rattle.tko_pools.specs.Configs.{AreServers}
 use Rattle.tko_text.specs.SentRequests.{without_noreply}
-use Rattle.tko_answer.specs.Asking.{BeginsAt, Goes}
-use Rattle.tko_turns.specs.Driven.{course_of}
+use Rattle.tko_answer.specs.Asking.{BeginsAt, Goes, course_of}
 use Rattle.tko_answer.proofs.HeldLemmas.{goes_awaits, goes_held}
 use Rattle.tko_turns.specs.SessionState.{SessionState}
 use Rattle.tko_turns.proofs.CallLemmas.{key_begun, ready_went}

@@ -1,44 +1,42 @@
-use Rattle.std.proofs.Common.{ap, sym, ◌∙◌}
+use Rattle.std.proofs.Common.{sym, ◌∙◌}
 use Rattle.tko_answer.proofs.ResultLemmas.{both_ok, on_errs}
-use Rattle.tko_turns.specs.SessionState.{SessionState}
 use Rattle.tko_turns.proofs.CallLemmas.{begins_between, dropped_item, dropped_key, went_item, went_key}
 use Rattle.tko_turns.proofs.session.Session.next.Goals as goal
 
 pub next_item-requires-clause-between : goal.next_item-requires-clause-between
-next_item-requires-clause-between g c = ap (λ (s : SessionState). s.work) c.take_work.ensures.between
+next_item-requires-clause-between g c = c.is_between.ensures.0 c.if-is_between.true
 
-pub returns-in-Between-clause-ok : goal.returns-in-Between-clause-ok
-returns-in-Between-clause-ok g c =
+pub returns-then-is_between-clause-ok : goal.returns-then-is_between-clause-ok
+returns-then-is_between-clause-ok g c =
     both_ok c.next_item.result c.next_item.ensures.ready c.next_item.ensures.ok
-    (λ step ready read. went_item (sym c.take_work.ensures.work ∙ c.in-Between.is) c.take_work.ensures.between read)
+    (λ step ready read. went_item (c.is_between.ensures.0 c.if-is_between.true) read)
 
-pub returns-in-Between-clause-err : goal.returns-in-Between-clause-err
-returns-in-Between-clause-err g c =
-    on_errs c.next_item.result c.next_item.ensures.err
-    (λ lost. dropped_item (sym c.take_work.ensures.work ∙ c.in-Between.is) c.take_work.ensures.between lost)
+pub returns-then-is_between-clause-err : goal.returns-then-is_between-clause-err
+returns-then-is_between-clause-err g c =
+    on_errs c.next_item.result c.next_item.ensures.err (λ lost. dropped_item (c.is_between.ensures.0 c.if-is_between.true) lost)
 
-pub returns-in-Between-clause-ready : goal.returns-in-Between-clause-ready
-returns-in-Between-clause-ready g c = c.next_item.ensures.ready
+pub returns-then-is_between-clause-ready : goal.returns-then-is_between-clause-ready
+returns-then-is_between-clause-ready g c = c.next_item.ensures.ready
 
-pub returns-in-Between-clause-stays : goal.returns-in-Between-clause-stays
-returns-in-Between-clause-stays g c = c.next_item.ensures.stays
+pub returns-then-is_between-clause-stays : goal.returns-then-is_between-clause-stays
+returns-then-is_between-clause-stays g c = c.next_item.ensures.stays
 
 pub begin_key-requires-clause-begins : goal.begin_key-requires-clause-begins
 begin_key-requires-clause-begins g c =
     begins_between _ c.requires.ready (sym c.take_work.ensures.work ∙ c.in-AtKey.is) c.take_work.ensures.between
 
-pub returns-in-AtKey-clause-ok : goal.returns-in-AtKey-clause-ok
-returns-in-AtKey-clause-ok g c =
+pub returns-clause-ok : goal.returns-clause-ok
+returns-clause-ok g c =
     both_ok c.begin_key.result c.begin_key.ensures.ready c.begin_key.ensures.ok
     (λ step ready key. went_key _ (sym c.take_work.ensures.work ∙ c.in-AtKey.is) c.take_work.ensures.between key)
 
-pub returns-in-AtKey-clause-err : goal.returns-in-AtKey-clause-err
-returns-in-AtKey-clause-err g c =
+pub returns-clause-err : goal.returns-clause-err
+returns-clause-err g c =
     on_errs c.begin_key.result c.begin_key.ensures.err
     (λ lost. dropped_key _ (sym c.take_work.ensures.work ∙ c.in-AtKey.is) c.take_work.ensures.between lost)
 
-pub returns-in-AtKey-clause-ready : goal.returns-in-AtKey-clause-ready
-returns-in-AtKey-clause-ready g c = c.begin_key.ensures.ready
+pub returns-clause-ready : goal.returns-clause-ready
+returns-clause-ready g c = c.begin_key.ensures.ready
 
-pub returns-in-AtKey-clause-stays : goal.returns-in-AtKey-clause-stays
-returns-in-AtKey-clause-stays g c = c.begin_key.ensures.stays
+pub returns-clause-stays : goal.returns-clause-stays
+returns-clause-stays g c = c.begin_key.ensures.stays
