@@ -20,7 +20,7 @@ class Tries:
         self.rt = rt
         # The folder of a crate's proof.
         self.proved = proved
-        # For each edit whether a clause refuses it, and what to say, as the kit's `must_fail` returns it.
+        # For each edit what its try came to, and what to say, as the kit's `must_fail` returns it.
         self.verdicts = {}
         self.last = threading.local()
         self.checked = rt.checked
@@ -59,12 +59,15 @@ class Tries:
         if any(not any(it.is_called(refusal.name) for it in functions.values()) for refusal in found):
             return {}
         own = {edit: [it for it in found if functions[edit].is_called(it.name)] for edit in batch}
-        return {edit: verdict(crate, edit, refused) for edit, refused in own.items() if refused}
+        return {edit: self.verdict(crate, edit, refused) for edit, refused in own.items() if refused}
 
     def alone(self, crate, edit):
-        """The kit's verdict on one edit; it fails too where no clause at the code refuses it."""
-        well, text = self.over_proof(crate, edit=edit)
-        return verdict(crate, edit, refusals(self.last.ran.stdout, crate.name)) if well else (well, text)
+        """The kit's verdict on one edit; it fails too where no clause at the code refuses it, or where the edit cannot
+        be read or applied, which the kit lets pass."""
+        kind, text = self.over_proof(crate, edit=edit)
+        if kind == self.rt.REFUSED:
+            return self.verdict(crate, edit, refusals(self.last.ran.stdout, crate.name))
+        return (self.rt.MISSED if kind in self.rt.SETTLED else kind), text
 
     def over_proof(self, crate, texts=None, edit=None):
         """A check of the edited crate over a copy of what its proof left. It writes files anew, so links will do."""
@@ -75,16 +78,16 @@ class Tries:
                 return self.rt.must_fail(crate, edit, flags, f"{room}/kept")
             return self.checked(crate, texts, flags, f"{room}/kept")
 
-
-def verdict(crate, edit, refused):
-    """Returns whether a clause refuses the edit, and what to say, from the functions that were refused."""
-    label = f"must-fail {crate.name}/{os.path.basename(edit)}"
-    by_clause = [it for it in refused if it.at_code]
-    if by_clause:
-        return True, f"{label}: refused, as it must be, in {by_clause[0].name}: {by_clause[0].at_code[0][:220]}"
-    written = [it.in_proofs[0] for it in refused if it.in_proofs] or ["no reason was printed"]
-    return False, (f"{label}: NOT REFUSED BY A CLAUSE: only a written proof no longer fits, which says little of the "
-                   f"contract (change a value, or plant it in a caller): {written[0][:200]}")
+    def verdict(self, crate, edit, refused):
+        """Returns what the edit's try came to, and what to say, from the functions that were refused."""
+        label = f"must-fail {crate.name}/{os.path.basename(edit)}"
+        by_clause = [it for it in refused if it.at_code]
+        if by_clause:
+            place = by_clause[0]
+            return self.rt.REFUSED, f"{label}: refused, as it must be, in {place.name}: {place.at_code[0][:220]}"
+        written = [it.in_proofs[0] for it in refused if it.in_proofs] or ["no reason was printed"]
+        return self.rt.MISSED, (f"{label}: NOT REFUSED BY A CLAUSE: only a written proof no longer fits, which says "
+                                f"little of the contract (change a value, or plant it in a caller): {written[0][:200]}")
 
 
 def is_judged(rt, ran, texts):

@@ -6,11 +6,12 @@ import shutil
 import sys
 
 # The gate replaces parts of this kit's `rt` (see once.py): with another kit they have to be read again.
-WRITTEN_FOR = "rattle-kit-13b logic dac8208d650f15bf"
+WRITTEN_FOR = "rattle-kit-13f logic dac8208d650f15bf"
 
 
 def load():
-    """Returns the kit's `rt` as a module, or ends the gate where it is another kit than the one it was written for."""
+    """Returns the kit's `rt` as a module, or ends the gate where it is another kit than the one it was written for:
+    `./test` then runs the kit's own gate."""
     found = shutil.which("rt") or stop("there is no rt on the PATH")
     path = os.path.realpath(found)
     loader = importlib.machinery.SourceFileLoader("rt_main", path)
@@ -19,8 +20,8 @@ def load():
     with open(f"{rt.KIT}/KIT-ID", encoding="utf-8") as it:
         kit = it.read().strip()
     if kit != WRITTEN_FOR:
-        stop(f"it was written for {WRITTEN_FOR}, and this is {kit}: run ./test --plain, which is the kit's own gate, "
-             "or read tests/gate/once.py against this kit and change tests/gate/kit.py")
+        stop(f"it was written for {WRITTEN_FOR}, and this is {kit}: the kit's own gate, `rt ci`, serves "
+             "until tests/gate/once.py was read against this kit and tests/gate/kit.py changed")
     return rt
 
 

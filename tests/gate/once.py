@@ -4,6 +4,7 @@
    checked over what that proof left there. `rt ci` proves the library for each of the three.
 2. Must-fail edits are tried many in one check (edits.py), and the checks of one crate's edits side by side.
 3. An edit passes only if a clause refuses it, and the gate says which.
+4. Nothing is taken from earlier runs on this machine, and nothing is left to later ones.
 
 Everything else is the kit's own code: the rules on the text, the handles, the last line of each check, the runs."""
 import os
@@ -29,14 +30,15 @@ def install(rt, with_edits):
     spent = costs.install(rt, room.name)
     accept_kept_work(rt)
     rt.Crate = crate_proved_once(rt, room.name)
+    rt.Kept = kept_by_no_run(rt)
     if not with_edits:
         rt.edits_of = lambda crate: ([], [])
     tried = Tries(rt, lambda crate: proved(room.name, crate))
-    rt.must_fail_all = lambda crate, edits, flags: [tried.verdicts[it] for it in edits]
+    rt.add_edits = lambda tasks, crate, edits, *others: add_edits(rt, tried, tasks, crate, edits)
     in_lanes = rt.in_lanes
 
     def proved_once(tasks):
-        given = in_lanes(dict(rearranged(rt, tasks, tried)))
+        given = in_lanes(dict(rearranged(rt, tasks)))
         print("Processor minutes of the checks:", *costs.table(spent), sep="\n", flush=True)
         return given
 
@@ -51,6 +53,21 @@ def accept_kept_work(rt):
         stop("the last line of a check is held to another pattern than the one that this gate knows")
     pattern = rt.rtlib.VERDICT.pattern.removesuffix(end)
     rt.rtlib.VERDICT = re.compile(f"{pattern} statements=trusted{KEPT_WORK}\\n\\Z", re.M)
+
+
+def kept_by_no_run(rt):
+    class Kept(rt.Kept):
+        """The kit's store of what earlier runs passed, of which this run makes no use: its checks of tests and edits rest
+        on kept work, which those of the kit's own gate do not."""
+
+        def __init__(self, crates, anew=True):
+            super().__init__(crates, anew)
+            self.at = None
+
+        def tell(self):
+            """(that nothing is kept is meant)"""
+
+    return Kept
 
 
 def crate_proved_once(rt, room):
@@ -88,22 +105,16 @@ def proved(room, crate):
     return f"{room}/{crate.name}.proved"
 
 
-def rearranged(rt, tasks, tried):
-    """Has the tests of a crate wait for its proof, and adds a task for each check of its edits."""
-    crates = {it.name: it for it in rt.rtlib.crates_below(os.getcwd())}
-    for (name, what), (waits, lines, needs, call) in tasks.items():
-        proof = (name, "proof")
+def rearranged(rt, tasks):
+    """Has the tests of a crate wait for its proof, and gives the proofs two jobs at least."""
+    for key, (waits, lines, needs, call) in tasks.items():
+        name, what = key[:2]
         if what == "tests":
-            yield (name, what), ([*waits, proof], lines, OVER_PROOF * needs, call)
-        elif what == "edits":
-            tries = dict(tries_of(rt, crates[name], tried, lines, OVER_PROOF * needs))
-            yield from tries.items()
-            # (what is left to this task is to say what came of them)
-            yield (name, what), ([*waits, *tries], 0, 0, call)
+            yield key, ([*waits, (name, "proof")], lines, OVER_PROOF * needs, call)
         elif what == "proof" and rt.processors() >= 4:
-            yield (name, what), (waits, lines, needs, with_two_jobs(call))
+            yield key, (waits, lines, needs, with_two_jobs(call))
         else:
-            yield (name, what), (waits, lines, needs, call)
+            yield key, (waits, lines, needs, call)
 
 
 def with_two_jobs(call):
@@ -112,7 +123,10 @@ def with_two_jobs(call):
     return lambda given, jobs: call(given, max(jobs, 2))
 
 
-def tries_of(rt, crate, tried, lines, needs):
-    proof = (crate.name, "proof")
-    for number, batch in enumerate(batches(rt, crate, rt.edits_of(crate)[0])):
-        yield (crate.name, "edits", number), ([proof], lines, needs, tried.task(crate, batch, proof))
+def add_edits(rt, tried, tasks, crate, edits):
+    """Adds a task for each check of the crate's edits. Returns what gives their results, in the edits' order, and what
+    gives those of earlier runs, as the kit's function of this name: of the latter there are none."""
+    proof, lines, needs = (crate.name, "proof"), crate.count(rb"\n"), OVER_PROOF * rt.need(crate)
+    for number, batch in enumerate(batches(rt, crate, edits)):
+        tasks[crate.name, "edits", number] = ([proof], lines, needs, tried.task(crate, batch, proof))
+    return lambda given: [tried.verdicts[it] for it in edits], dict
