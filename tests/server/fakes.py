@@ -11,14 +11,22 @@ class Fake:
     """Calls `behave(connection, request)` for each request that comes, on a thread for each connection, and keeps the
     bytes of all requests. A closed connection, or an answer of b"", ends the connection; None answers nothing."""
 
-    def __init__(self, behave):
+    def __init__(self, behave, is_open=True):
         self.behave = behave
         self.requests = []
         self.connections = []
         # How many connections it has closed itself.
         self.closed = 0
-        self.listener = socket.create_server((HOST, free_port()))
+        self.listener = socket.socket()
+        self.listener.setsockopt(socket.SOL_SOCKET, socket.SO_REUSEADDR, 1)
+        self.listener.bind((HOST, free_port()))
         self.address = "%s:%d" % self.listener.getsockname()
+        if is_open:
+            self.open()
+
+    def open(self):
+        """From now on it accepts connections. Before, they are refused."""
+        self.listener.listen()
         threading.Thread(target=self.accept, daemon=True).start()
 
     def accept(self):
@@ -50,13 +58,12 @@ class Fake:
 
     def close(self):
         # An accept that waits is not ended by a close alone.
-        self.listener.shutdown(socket.SHUT_RDWR)
-        self.listener.close()
-        for connection in list(self.connections):
+        for each in [self.listener, *self.connections]:
             try:
-                connection.shutdown(socket.SHUT_RDWR)
+                each.shutdown(socket.SHUT_RDWR)
             except OSError:
                 pass
+        self.listener.close()
 
     def count(self, word):
         return sum(request.split()[0] == word for request in list(self.requests))

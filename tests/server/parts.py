@@ -176,9 +176,9 @@ class ServerTest(unittest.TestCase):
         self.addCleanup(server.kill)
         return server
 
-    def fake(self, behave):
-        """A server that answers each request by `behave(connection, request)`."""
-        return self.kept(Fake(behave))
+    def fake(self, behave, is_open=True):
+        """A server that answers each request by `behave(connection, request)`, once it is open."""
+        return self.kept(Fake(behave, is_open))
 
     def closed(self):
         """A port that refuses connections."""

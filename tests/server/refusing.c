@@ -1,6 +1,9 @@
-/* Put before libc by LD_PRELOAD: malloc and realloc refuse the call with the number REFUSED_CALL, counted from 1, and
-   then write a byte to the descriptor REFUSED_TO. With REFUSED_FROM, calls are counted once there is a file of that
-   name. */
+/* Put before libc by LD_PRELOAD: refuses one call, and then writes a byte to the descriptor REFUSED_TO. Calls are
+   counted from 1:
+   - REFUSED_CALL: the calls of malloc and realloc, with REFUSED_FROM once there is a file of that name
+   - REFUSED_READ, REFUSED_WRITE: the reads of standard input, and the writes to standard output, which fail with the
+     number REFUSED_ERRNO
+   With BYTE_BY_BYTE each of these reads and writes moves one byte. */
 #define _GNU_SOURCE
 #include <dlfcn.h>
 #include <errno.h>
@@ -9,34 +12,69 @@
 
 static void *(*next_malloc)(size_t);
 static void *(*next_realloc)(void *, size_t);
-static long left;
-static int told;
+static ssize_t (*next_read)(int, void *, size_t);
+static ssize_t (*next_write)(int, const void *, size_t);
+static long calls_left, reads_left, writes_left;
+static int told, fault_number, is_byte_by_byte;
 static const char *from;
 
+static long number_of(const char *name, long otherwise) {
+    const char *text = getenv(name);
+    return text ? atol(text) : otherwise;
+}
+
 __attribute__((constructor)) static void begin(void) {
-    const char *number = getenv("REFUSED_CALL"), *to = getenv("REFUSED_TO");
-    left = number ? atol(number) : 0;
-    told = to ? atoi(to) : -1;
+    calls_left = number_of("REFUSED_CALL", 0);
+    reads_left = number_of("REFUSED_READ", 0);
+    writes_left = number_of("REFUSED_WRITE", 0);
+    told = number_of("REFUSED_TO", -1);
+    fault_number = number_of("REFUSED_ERRNO", EIO);
+    is_byte_by_byte = number_of("BYTE_BY_BYTE", 0);
     from = getenv("REFUSED_FROM");
 }
 
-static int is_refused(void) {
-    if (left == 0 || (from && access(from, F_OK) != 0) || --left > 0)
+/* Counts a call, and returns whether it is refused, with this errno. */
+static int is_refused(long *left, int number) {
+    if (*left == 0 || --*left > 0)
         return 0;
     if (write(told, "x", 1) != 1)
         abort();
-    errno = ENOMEM;
+    errno = number;
     return 1;
+}
+
+static int is_out_of_memory(void) {
+    return calls_left > 0 && (!from || access(from, F_OK) == 0) && is_refused(&calls_left, ENOMEM);
+}
+
+static size_t shortened(size_t size) {
+    return is_byte_by_byte && size > 1 ? 1 : size;
 }
 
 void *malloc(size_t size) {
     if (!next_malloc)
         next_malloc = (void *(*)(size_t))dlsym(RTLD_NEXT, "malloc");
-    return is_refused() ? NULL : next_malloc(size);
+    return is_out_of_memory() ? NULL : next_malloc(size);
 }
 
 void *realloc(void *old, size_t size) {
     if (!next_realloc)
         next_realloc = (void *(*)(void *, size_t))dlsym(RTLD_NEXT, "realloc");
-    return is_refused() ? NULL : next_realloc(old, size);
+    return is_out_of_memory() ? NULL : next_realloc(old, size);
+}
+
+ssize_t read(int file, void *bytes, size_t size) {
+    if (!next_read)
+        next_read = (ssize_t (*)(int, void *, size_t))dlsym(RTLD_NEXT, "read");
+    if (file != STDIN_FILENO)
+        return next_read(file, bytes, size);
+    return is_refused(&reads_left, fault_number) ? -1 : next_read(file, bytes, shortened(size));
+}
+
+ssize_t write(int file, const void *bytes, size_t size) {
+    if (!next_write)
+        next_write = (ssize_t (*)(int, const void *, size_t))dlsym(RTLD_NEXT, "write");
+    if (file != STDOUT_FILENO)
+        return next_write(file, bytes, size);
+    return is_refused(&writes_left, fault_number) ? -1 : next_write(file, bytes, shortened(size));
 }

@@ -1,59 +1,48 @@
-"""Each call for memory refused in turn: the fault is `memory` and nothing else, and what was written by then is right."""
+"""Each call for memory refused in turn: the fault is `memory` alone, and what was written by then is right."""
 import itertools
-import os
-import subprocess
-import tempfile
+from pathlib import Path
 
-from parts import PROGRAM, ServerTest, configuration, serve_words, start, stop
+from parts import configuration, serve_words, stop
 from ports import free_port, wait_until
+from refusing import RefusingTest
 from talk import Client, store, values
 
 TWO = '{"pools":{"A":{"servers":["h:1","h:2"]},"B":{"servers":["h:3"]}},' \
       '"route":{"type":"FailoverRoute","children":["PoolRoute|A","PoolRoute|B"]}}'
+# Texts that are no configurations, each for another reason.
+BAD = ['{', '[]', '{"route":"x"}', '{"pools":{"A":{"servers":[]}},"route":"x"}', '{"pools":{"A":{"servers":["h:0"]}}}',
+       '{"pools":{"A":{"servers":["h:1"],"soft_limit":257}}}', TWO.replace('"type"', '"failover_exptime":-1,"type"'),
+       TWO.replace("PoolRoute|B", "PoolRoute|C")]
 SCHEDULE = b"schedule 1\nservers 2\nthreads 2\nfailures 1\nlimit 1\ntries 8\nstamp 0\n" \
            b"begin 0 soft 0\nrun 0\nbegin 1 soft 1\nrun 1\n"
+NOTES = b"note: 1 of 2 sessions ended by a fault\nnote: memory ran out in a session or in a round\n"
 
 
-class RefusedMemory(ServerTest):
-    @classmethod
-    def setUpClass(cls):
-        cls.folder = tempfile.TemporaryDirectory()
-        cls.addClassCleanup(cls.folder.cleanup)
-        cls.refusing = f"{cls.folder.name}/refusing.so"
-        subprocess.run(["gcc", "-shared", "-fPIC", "-o", cls.refusing, "refusing.c"], check=True)
+def rest_after(client, requests):
+    """What comes back until the connection ends. It may be cut where the program has ended, or the session."""
+    reply = b""
+    try:
+        client.send(requests)
+        while more := client.socket.recv(4096):
+            reply += more
+    except ConnectionError:
+        pass
+    return reply
 
-    def start_with(self, words, refused, counted_from=None, **options):
-        """The program, of which this call for memory is refused, and a file that then has a byte. The calls are counted
-        once there is the file `counted_from`, where it is given."""
-        told, tells = os.pipe()
-        env = {**os.environ, "LD_PRELOAD": self.refusing, "REFUSED_CALL": str(refused), "REFUSED_TO": str(tells)}
-        if counted_from:
-            env["REFUSED_FROM"] = counted_from
-        try:
-            options = {"stdout": subprocess.PIPE, "stderr": subprocess.PIPE, **options}
-            return start(words, env=env, pass_fds=[tells], **options), os.fdopen(told, "rb")
-        finally:
-            os.close(tells)
 
-    def run_with(self, words, data, refused):
-        """What the program comes to where this call for memory is refused, and whether there was such a call."""
-        with tempfile.TemporaryFile() as given:
-            given.write(data)
-            given.seek(0)
-            process, told = self.start_with([PROGRAM, *words], refused, stdin=given)
-        with told:
-            output, errors = process.communicate()
-            stop(process)
-            return (process.returncode, output, errors), bool(told.read())
+class RefusedMemory(RefusingTest):
+    def each_refused(self, words, data=b""):
+        """What the program comes to where its first call for memory is refused, where its second one is, and so on."""
+        for call in itertools.count(1):
+            came, refused = self.run_refused(words, data, {"REFUSED_CALL": call})
+            if not refused:
+                return
+            yield call, came
 
     def assert_each_refused(self, *words, data):
-        whole, refused = self.run_with(words, data, 0)
-        self.assertFalse(refused)
+        whole, _ = self.run_refused(words, data, {})
         short = 0
-        for call in itertools.count(1):
-            came, refused = self.run_with(words, data, call)
-            if not refused:
-                break
+        for call, came in self.each_refused(words, data):
             # The program may do without a piece of memory that it asks for.
             if came != whole:
                 short += 1
@@ -80,14 +69,30 @@ class RefusedMemory(ServerTest):
         self.assert_each_refused("dry", "--config", TWO, "--outcomes", "refused,line:STORED", "--trail",
                                  data=b"set a 0 0 1\r\nx\r\nstats tko\r\n")
 
+    def test_texts_that_are_no_configurations(self):
+        """No text is accepted or refused for another reason. The line before that of the fault may be left out."""
+        for text in BAD:
+            words = ["check", "--config", text]
+            (status, output, errors), _ = self.run_refused(words, b"", {})
+            self.assertEqual((status, output), (1, b""))
+            reason, fault = errors.splitlines(keepends=True)
+            seen = set()
+            for call, (status, output, errors) in self.each_refused(words):
+                self.assertEqual((status, output), (1, b""), f"call {call} of {words}")
+                seen.add(errors)
+            memory = b"fault: memory\n"
+            self.assertLessEqual(seen, {memory, fault, reason + fault, reason + memory}, text)
+            self.assertIn(memory, seen, text)
+
     def test_a_schedule(self):
         self.assert_each_refused("replay", data=SCHEDULE)
 
     def serve_with(self, server, key, refused):
         """What a client gets, what the program then comes to, and whether there was such a call."""
         port = free_port()
-        process, told = self.start_with(serve_words(port, configuration(only=[server]), {"connections": 1, "threads": 1}),
-                                        refused)
+        options = {"connections": 1, "threads": 1}
+        process, told = self.start_refused(serve_words(port, configuration(only=[server]), options),
+                                           {"REFUSED_CALL": refused})
         with told:
             reply = self.conversation(port, key) if process.stdout.readline() == b"ready\n" else b""
             _, errors = process.communicate()
@@ -95,16 +100,12 @@ class RefusedMemory(ServerTest):
             return reply, process.returncode, errors, bool(told.read())
 
     def conversation(self, port, key):
-        """What comes back until the connection ends. It may be refused or cut where the program has ended."""
-        reply = b""
+        """What comes back to a client, whose connection may be refused where the program has ended."""
         try:
             with Client(port, limit=600) as client:
-                client.send(b"get %s\r\n" % key + store(key, b"x") + b"get %s b\r\nquit\r\n" % key)
-                while more := client.socket.recv(4096):
-                    reply += more
+                return rest_after(client, b"get %s\r\n" % key + store(key, b"x") + b"get %s b\r\nquit\r\n" % key)
         except ConnectionError:
-            pass
-        return reply
+            return b""
 
     def test_a_client_of_the_server(self):
         server, noted = self.memcached(), 0
@@ -123,31 +124,59 @@ class RefusedMemory(ServerTest):
         self.assertEqual((reply, status), (whole, 0))
         self.assertGreater(noted, 0)
 
-    def test_a_probe(self):
-        """The first answer to a probe is too long for the memory that there is: the session ends, and no probe is lost."""
-        probed = f"{self.folder.name}/probed"
-
+    def late_server(self, counted):
+        """A server that is not open yet. Its answer to a probe is long, and a `get` removes this file."""
         def behave(_, request):
-            if request != b"version\r\n":
-                return b"END\r\n" if os.path.exists(probed) else b""
-            with open(probed, "wb"):
-                return b"VERSION " + b"1" * 3000 + b"\r\n"
+            if request == b"version\r\n":
+                return b"VERSION " + b"1" * 20000 + b"\r\n"
+            counted.unlink(missing_ok=True)
+            return b"END\r\n"
 
-        port = free_port()
-        options = {"connections": 2, "threads": 1, "failures": 1, "first_delay": 300, "greatest_delay": 300}
-        process, told = self.start_with(serve_words(port, configuration(only=[self.fake(behave)]), options), 1,
-                                        counted_from=probed)
+        return self.fake(behave, is_open=False)
+
+    def probe_with(self, refused):
+        """What a client gets after a probe, what the program prints on standard error, how often the server was probed,
+        and whether there was such a call for memory, from the probe on until the client's request was sent. The log
+        is off, since its thread takes memory too."""
+        counted = Path(self.folder.name, "counted")
+        port, server = free_port(), self.late_server(counted)
+        delays = {"timeout": 5000, "first_delay": 20, "greatest_delay": 20}
+        options = {"connections": 2, "threads": 1, "log": "off", **delays}
+        process, told = self.start_refused(serve_words(port, configuration(only=[server]), options),
+                                           {"REFUSED_CALL": refused, "REFUSED_FROM": counted})
         with told:
             self.assertEqual(process.stdout.readline(), b"ready\n")
+            reply = self.get_after_a_probe(port, server, counted)
             with Client(port) as client:
-                self.assertEqual(client.ask(b"get a\r\n"), b"SERVER_ERROR no server\r\n")
-                self.assertEqual(client.socket.recv(1), b"")
-            with Client(port) as client:
-                wait_until(lambda: client.ask(b"get a\r\n") == b"END\r\n", 10, "the server is probed again")
+                wait_until(lambda: client.ask(b"get a\r\n") == b"END\r\n", 10, "the server is in use again")
                 client.send(b"quit\r\n")
             _, errors = process.communicate()
             stop(process)
-            self.assertEqual(told.read(), b"x")
-        self.assertEqual(process.returncode, 0)
-        self.assertIn(b" clients sessions=2 faults=1\n", errors)
-        self.assertTrue(errors.endswith(b"note: memory ran out in a session or in a round\n"), errors)
+            self.assertEqual(process.returncode, 0)
+            return reply, errors, server.count(b"version"), bool(told.read())
+
+    def get_after_a_probe(self, port, server, counted):
+        """What a client gets that found the server closed, once the server was open and was probed. Calls for memory
+        are counted from its opening on."""
+        with Client(port) as client:
+            self.assertEqual(client.ask(b"get a\r\n"), b"SERVER_ERROR no server\r\n")
+            counted.touch()
+            server.open()
+            wait_until(lambda: server.count(b"version"), 10, "the server is probed")
+            return rest_after(client, b"get a\r\nquit\r\n")
+
+    def test_a_probe(self):
+        """Where memory runs out in a probe, or in the request after it, the session ends. The probe is made again."""
+        probes = []
+        for call in itertools.count(1):
+            reply, errors, probed, refused = self.probe_with(call)
+            probes.append(probed)
+            if not refused:
+                break
+            self.assertEqual(reply, b"", f"call {call}")
+            self.assertTrue(errors.endswith(NOTES), f"call {call}: {errors}")
+        self.assertEqual(reply, b"END\r\n")
+        self.assertNotIn(b"fault", errors)
+        # Refused are the text of the probe, which is then not sent, the room for the answer, more of it, and the
+        # answer's text. The rest is of the request.
+        self.assertEqual(probes, [1, 2, 2, 2] + [1] * (len(probes) - 4))

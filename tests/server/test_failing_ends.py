@@ -1,0 +1,79 @@
+"""One read or one write of `dry` fails or is interrupted, at each place of a row of tests/rows in turn."""
+import errno
+import itertools
+import shlex
+from importlib.machinery import SourceFileLoader
+from importlib.util import module_from_spec, spec_from_loader
+from pathlib import Path
+
+from refusing import RefusingTest
+
+TESTS = Path(__file__).resolve().parent.parent
+NAMES = ["first_is_marked_second_answers", "cut_answer_is_broken", "expiry_replaced_on_failover",
+         "keys_are_routed_one_by_one", "first_key_without_values_gives_the_reply", "noreply_writes_nothing"]
+
+
+class Row:
+    """A row whose input is one request. The program writes the replies and then, after the end of input, the trails."""
+
+    def __init__(self, row):
+        self.name, self.words, self.data = row.name, shlex.split(row.command)[1:], row.texts["<"]
+        self.replies, trail, rest = row.texts[">"].partition(b"trail ")
+        self.trails = trail + rest
+        self.whole = (0, self.replies + self.trails, b"")
+
+    def ways(self):
+        """Ways to read and write: the variables of refusing.c, the pieces that are read and those that are written."""
+        yield {}, [self.data], [text for text in (self.replies, self.trails) if text]
+        yield {"BYTE_BY_BYTE": 1}, single_bytes(self.data), single_bytes(self.replies + self.trails)
+
+
+def single_bytes(data):
+    return [data[place:place + 1] for place in range(len(data))]
+
+
+def rows():
+    """The rows of these names, as tests/command_line reads them."""
+    loader = SourceFileLoader("command_line", str(TESTS / "command_line"))
+    command_line = module_from_spec(spec_from_loader(loader.name, loader))
+    loader.exec_module(command_line)
+    named = {row.name: row for row in command_line.rows_of(TESTS / "rows/dry.txt")}
+    return [Row(named[name]) for name in NAMES]
+
+
+class FailingEnds(RefusingTest):
+    def runs(self, row, call, number, way):
+        """What the row comes to where its first such call fails, where its second one does, and so on to its last."""
+        for place in itertools.count(1):
+            came, failed = self.run_refused(row.words, row.data, {call: place, "REFUSED_ERRNO": number, **way})
+            if not failed:
+                self.assertEqual(came, row.whole)
+                return
+            yield came
+
+    def assert_runs(self, row, call, number, way, expected):
+        self.assertEqual(list(self.runs(row, call, number, way)), expected, f"{call} of {row.name} {way}")
+
+    def test_a_read_that_fails(self):
+        """What was read by then is answered: nothing, where the request is not whole. No trails follow."""
+        for row in rows():
+            for way, read, _ in row.ways():
+                expected = [(1, b"", b"fault: read\n")] * len(read) + [(1, row.replies, b"fault: read\n")]
+                self.assert_runs(row, "REFUSED_READ", errno.EIO, way, expected)
+
+    def test_a_write_that_fails(self):
+        """What was written by then stays, and nothing follows it."""
+        for row in rows():
+            for way, _, written in row.ways():
+                expected = [(1, b"".join(written[:place]), b"fault: write\n") for place in range(len(written))]
+                self.assert_runs(row, "REFUSED_WRITE", errno.EIO, way, expected)
+
+    def test_an_interrupted_read_is_made_again(self):
+        for row in rows():
+            for way, read, _ in row.ways():
+                self.assert_runs(row, "REFUSED_READ", errno.EINTR, way, [row.whole] * (len(read) + 1))
+
+    def test_an_interrupted_write_is_made_again(self):
+        for row in rows():
+            for way, _, written in row.ways():
+                self.assert_runs(row, "REFUSED_WRITE", errno.EINTR, way, [row.whole] * len(written))
