@@ -27,6 +27,7 @@ pub struct Parts<H, L, T, C> {
 }
 
 /// Begins to route a request to the targets of its first key.
+#[inline(always)]
 pub(crate) fn begin_route<R: Wait, H: Health, L, T, C>(
     rt: &R,
     alloc: Global,
@@ -62,6 +63,7 @@ pub(crate) fn begin_route<R: Wait, H: Health, L, T, C>(
 }
 
 /// Puts the targets of a request's first key into a list, in place of what it held.
+#[inline(always)]
 fn find_targets(
     config: &Config,
     request: &Request,

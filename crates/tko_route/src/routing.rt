@@ -84,6 +84,7 @@ impl Routing {
 
     /// Looks for the next server to send to. Brings the request into the form in which that server
     /// gets it: from the second target of the list on, its expiry is replaced.
+    #[inline(always)]
     fn next<R: Wait, H: Health>(
         self,
         rt: &R,

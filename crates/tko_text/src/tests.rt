@@ -17,7 +17,8 @@ const INPUTS: &str = "\
     add a 0 0 0\r\n\r\nprepend a 0 0 1 noreply\r\nx\r\n0;\
     delete a\ndelete a noreply\n|delete a\r\ndelete a noreply\r\n0;incr  a 007\n|incr a 7\r\n0;\
     decr a 18446744073709551615 noreply\n|decr a 18446744073709551615 noreply\r\n0;\
-    touch a -9223372036854775808 noreply\n|touch a -9223372036854775808 noreply\r\n0";
+    touch a -9223372036854775808 noreply\n|touch a -9223372036854775808 noreply\r\n0;\
+    set a 0 0 18446744073709551615\r\n|SERVER_ERROR object too large for cache\r\n0";
 
 /// Appends the printed form of a request, or the reply to a fault.
 fn append_item(item: &Item, text: &mut Vec<u8>) -> Result<(), NoMemory> {
@@ -108,13 +109,9 @@ fn request_of(alloc: Global, input: &str) -> Result<Request, Fail> {
 /// The written form of a request's response and how many bytes it took, or why there is none.
 fn answer(alloc: Global, request: &str, bytes: &str) -> Result<Vec<u8>, Fail> {
     let request = request_of(alloc, request)?;
-    let mut text = Vec::new(alloc);
-    let end = match Response::read(alloc, &request, bytes.as_bytes()) {
-        Ok((response, taken)) => {
-            response.append_to(&mut text)?;
-            format!(in alloc; "{taken}")?
-        }
-        Err(fault) => format!(in alloc; "{fault}")?,
+    let (mut text, end) = match Response::read(alloc, &request, bytes.as_bytes()) {
+        Ok((response, taken)) => (response.write(alloc)?, format!(in alloc; "{taken}")?),
+        Err(fault) => (Vec::new(alloc), format!(in alloc; "{fault}")?),
     };
     text.extend_from_slice(end.as_bytes())?;
     Ok(text)

@@ -58,11 +58,15 @@ fn noreply_text<'a>(noreply: bool) -> &'a [u8]
     if noreply { b" noreply" } else { b"" }
 }
 
-/// Puts a `get` or a `gets` at the end.
-fn append_keys(word: &[u8], keys: &Keys, out: &mut Vec<u8>) -> Result<(), NoMemory>
+/// Puts a `get` or a `gets` at the end. One of a single key, as a server gets it, is put there at
+/// once.
+fn append_keys<'a>(word: &'a [u8], keys: &'a Keys, out: &mut Vec<u8>) -> Result<(), NoMemory>
     ensures ok { OnOk result (out.new.items ≡ out.old.items ++ line_of (word.now ∷ keys.now)) }
     ensures err { OnErr result (out.new.items ≡ out.old.items) }
 {
+    if let [key] = keys.as_slice() {
+        return append(out, &[word, b" ", key.as_bytes(), b"\r\n"]);
+    }
     let before = out.len();
     let done = push_keys(word, keys.as_slice(), out);
     if done.is_err() {

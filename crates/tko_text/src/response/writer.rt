@@ -1,5 +1,6 @@
 //! Writes a response.
-ghost use Rattle.std.specs.Prelude.{◌≡◌, ◌++◌, Some, OnOk, OnErr};
+ghost use Rattle.std.specs.Prelude.{◌≡◌, ◌++◌, [], Some, OnOk, OnErr, codes};
+ghost use Rattle.std.specs.Fmt.{decimal};
 ghost use Rattle.tko_text.specs.Responses.{response_text, value_with};
 
 use super::{Response, Value};
@@ -52,23 +53,14 @@ fn append_value(value: &Value, out: &mut Vec<u8>) -> Result<(), NoMemory>
     ensures err { OnErr result (out.new.items ≡ out.old.items) }
 {
     match value.unique {
-        None => append_found(value, b"", b"", out),
-        Some(unique) => {
-            let mut digits = Buffer::new();
-            append_found(value, b" ", digits.format(unique).as_bytes(), out)
-        }
+        None => append_plain(value, out),
+        Some(unique) => append_unique(value, unique, out),
     }
 }
 
-/// The same with this space and cas number, or two empty texts.
-fn append_found<'a>(
-    value: &'a Value,
-    space: &'a [u8],
-    cas: &'a [u8],
-    out: &mut Vec<u8>,
-) -> Result<(), NoMemory>
-    ensures ok { OnOk result
-        (out.new.items ≡ out.old.items ++ value_with value.now (space.now ++ cas.now)) }
+/// The same for a value without a cas number.
+fn append_plain(value: &Value, out: &mut Vec<u8>) -> Result<(), NoMemory>
+    ensures ok { OnOk result (out.new.items ≡ out.old.items ++ value_with value.now []) }
     ensures err { OnErr result (out.new.items ≡ out.old.items) }
 {
     let data = value.data.as_bytes();
@@ -80,12 +72,33 @@ fn append_found<'a>(
         flags.format(value.flags).as_bytes(),
         b" ",
         size.format(data.len()).as_bytes(),
-        space,
-        cas,
         b"\r\n",
         data,
+        b"\r\nEND\r\n",
+    ];
+    append(out, &pieces)
+}
+
+/// The same for one with this cas number.
+fn append_unique(value: &Value, unique: u64, out: &mut Vec<u8>) -> Result<(), NoMemory>
+    ensures ok { OnOk result
+        (out.new.items ≡ out.old.items ++ value_with value.now (codes " " ++ decimal unique)) }
+    ensures err { OnErr result (out.new.items ≡ out.old.items) }
+{
+    let data = value.data.as_bytes();
+    let (mut flags, mut size, mut cas) = (Buffer::new(), Buffer::new(), Buffer::new());
+    let pieces = [
+        b"VALUE ",
+        value.key.as_bytes(),
+        b" ",
+        flags.format(value.flags).as_bytes(),
+        b" ",
+        size.format(data.len()).as_bytes(),
+        b" ",
+        cas.format(unique).as_bytes(),
         b"\r\n",
-        b"END\r\n",
+        data,
+        b"\r\nEND\r\n",
     ];
     append(out, &pieces)
 }

@@ -1,0 +1,9 @@
+use Rattle.std.proofs.Common.{◌≡◌, ◌++◌, OnOk, subst, ◌∙◌}
+use Rattle.tko_text.proofs.ResponseWriteLemmas.{unique_pieces}
+use Rattle.tko_text.proofs.response.writer.append_unique.Goals as goal
+
+pub returns-clause-ok : goal.returns-clause-ok
+returns-clause-ok c =
+    let text = unique_pieces c.args.value.now _ _ _ _ _ c.args.unique c.as_bytes.ensures.value (c.as_bytes-2.ensures.value ∙ c.format.ensures.text)
+    (c.as_bytes-3.ensures.value ∙ c.format-2.ensures.text) (c.as_bytes-4.ensures.value ∙ c.format-3.ensures.text) c.as_bytes-data.ensures.value in
+    subst (λ t. OnOk c.append.result (c.append.new.out.items ≡ c.args.out.now.items ++ t)) text c.append.ensures.ok
