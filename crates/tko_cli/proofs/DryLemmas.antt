@@ -16,7 +16,7 @@ use Rattle.tko_session.specs.declared.fault.SessionFault.{SessionFault}
 use Rattle.tko_session.specs.declared.fault.SessionFault.TheVariants as session_fault
 use Rattle.tko_session.specs.Ends.{SessionStops}
 use Rattle.tko_turns.specs.Events.{turns_of}
-use Rattle.tko_session.specs.Served.{CameTooLong, Context, Served, StoppedByLine, context}
+use Rattle.tko_session.specs.Served.{CameTooLong, Context, Served, StoppedByLine, context, serving}
 use Rattle.tko_answer.specs.Answers.{Reaches}
 use Rattle.tko_turns.specs.SessionState.{items_of}
 use Rattle.tko_pools.specs.Configs.{Configuration, in_order}
@@ -81,7 +81,7 @@ module _ {I O : Type 0} (inlet : InletGhosts I) (outlet : OutletGhosts O) where
   -- a session over these parts and the printing of its trails are a dry run
   pub is_dry : (options : DryOptions) (old : I) (from : O) (new : I) (middle to : O) (before after : DryParts) (report : Report)
       → Begins options before
-      → Served inlet outlet dry_effects (context old from before) report (context new middle after)
+      → Served (serving inlet outlet dry_effects) (context old from before) report (context new middle after)
       → TrailsGo outlet.takes options.trail after.trails middle to
       → IsDry inlet outlet options (old, from) (new, to)
   is_dry options old from new middle to before after report begun served went =
@@ -96,7 +96,7 @@ module _ {I O : Type 0} (inlet : InletGhosts I) (outlet : OutletGhosts O) where
       }
 
   -- the last item of a session was a line too long
-  line_came : (old new : Context I O DryParts) → StoppedByLine inlet outlet dry_effects old new
+  line_came : (old new : Context I O DryParts) → StoppedByLine (serving inlet outlet dry_effects) old new
       → CameTooLong inlet.gives old.reader new.reader
   line_came old new stopped = record {
     bytes = stopped.transcript.bytes;
@@ -109,7 +109,7 @@ module _ {I O : Type 0} (inlet : InletGhosts I) (outlet : OutletGhosts O) where
 
   -- the session ended before its input did
   pub session_failed : (options : DryOptions) (cause : SessionFault) (old new : Context I O DryParts)
-      → SessionStops inlet outlet dry_effects old cause new
+      → SessionStops (serving inlet outlet dry_effects) old cause new
       → DryFails inlet outlet options (old.reader, old.writer) (new.reader, new.writer) (fault_of_session cause)
   session_failed options session_fault.Read old new stops = stops.1
   session_failed options (session_fault.Write count) old new stops = stops.1

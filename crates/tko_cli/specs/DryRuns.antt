@@ -14,12 +14,12 @@ use Rattle.tko_answer.specs.declared.parts.Parts.{Parts}
 use Rattle.tko_turns.specs.declared.step.Report.{Report}
 use Rattle.tko_io.specs.declared.io.Inlet.{Ghosts as InletGhosts}
 use Rattle.tko_io.specs.declared.io.Outlet.{Ghosts as OutletGhosts}
-use Rattle.tko_turns.specs.Turns.{IsRequestCut}
-use Rattle.tko_turns.specs.Events.{Effects, IsEvent}
+use Rattle.tko_turns.specs.Effects.{effects_of}
+use Rattle.tko_turns.specs.Events.{Effects}
+use Rattle.tko_turns.specs.Ghosts.{PartsGhosts}
 use Rattle.tko_backend.specs.Clocks.{IsFrozen}
 use Rattle.tko_backend.specs.Probers.{no_probers}
-use Rattle.tko_session.specs.Served.{CameTooLong, Served, context}
-use Rattle.tko_turns.specs.SessionState.{probed_by, sent_by}
+use Rattle.tko_session.specs.Served.{CameTooLong, Served, context, serving}
 use Rattle.tko_answer.specs.TrailEvents.{Keeps}
 use Rattle.tko_pools.specs.Configs.{Configuration}
 use Rattle.tko_pools.specs.declared.fault.ConfigFault.{ConfigFault}
@@ -107,14 +107,23 @@ sends_of links server = slice_index links.sends server
 abbrev pub probes_of : ScriptedState → ℕ → ℕ
 probes_of links server = slice_index links.probes server
 
+-- what these parts record
+abbrev pub dry_ghosts : PartsGhosts OneThread ScriptedState (List (List Attempt)) FrozenClock
+dry_ghosts = record {
+  backend = record {
+    steps = IsTrackerStep;
+    grants = IsGranted;
+    exchanges = IsPlayed;
+    sent = sends_of;
+    probed = probes_of;
+    reads = IsFrozen;
+  };
+  records = Keeps;
+}
+
 -- the effects of a session on these parts
 abbrev pub dry_effects : Effects DryParts
-dry_effects = record {
-  step = IsEvent IsTrackerStep IsGranted IsPlayed sends_of probes_of Keeps IsFrozen;
-  cut = IsRequestCut IsTrackerStep IsPlayed sends_of probes_of Keeps;
-  sent = sent_by sends_of;
-  probed = probed_by probes_of;
-}
+dry_effects = effects_of dry_ghosts
 
 -- the trails' lines went out if they are asked for, and else nothing
 abbrev pub TrailsGo : {O : Type 0} → (O → List ℕ → O → Type 0) → Bool → List (List Attempt)
@@ -131,7 +140,7 @@ pub record IsDry {I O : Type 0} (inlet : InletGhosts I) (outlet : OutletGhosts O
   pub report : Report
   pub middle : O
   pub begins : Begins options before
-  pub served : Served inlet outlet dry_effects
+  pub served : Served (serving inlet outlet dry_effects)
       (context old.0 old.1 before) report (context new.0 middle after)
   pub trails : TrailsGo outlet.takes options.trail after.trails middle new.1
 

@@ -12,7 +12,7 @@ use Rattle.tko_turns.specs.declared.step.Progress.{Progress}
 use Rattle.tko_turns.specs.declared.step.Report.{Report}
 use Rattle.tko_turns.specs.Events.{Effects, NoneShort, Event, RoundAfter, idle_rounds, owed_after, turns_of}
 use Rattle.tko_backend.specs.Round.{Visit}
-use Rattle.tko_turns.specs.SessionState.{CountsRise, SessionState, Snapshot, Turned, EndsWith, GoesOn, InSession, ProgressIs, fresh, fed_state, line_too_long, quit, snapshot, items_of, text_of, requests_in}
+use Rattle.tko_turns.specs.SessionState.{CountsRise, SessionState, Snapshot, StopPoint, Turned, EndsWith, GoesOn, InSession, ProgressIs, fresh, fed_state, line_too_long, quit, snapshot, items_of, text_of, requests_in, stop_point}
 
 -- what a session works on: its two ends, and the parts
 pub record Context (I O W : Type 0) : Type 0 where
@@ -33,6 +33,24 @@ abbrev pub delivery : {O W : Type 0} → SessionState → W → O → ℕ → De
 delivery state parts writer written =
     record { session = snapshot state parts; writer = writer; written = written }
 
+-- what the replies of a session go to, and what its events do to its parts
+pub record Delivering (O W : Type 0) : Type 1 where
+  pub outlet : OutletGhosts O
+  pub effects : Effects W
+
+abbrev pub delivering : {O W : Type 0} → OutletGhosts O → Effects W → Delivering O W
+delivering outlet effects = record { outlet = outlet; effects = effects }
+
+-- what the bytes of a session come from, and what it delivers
+pub record Serving (I O W : Type 0) : Type 1 where
+  pub inlet : InletGhosts I
+  pub delivering : Delivering O W
+
+abbrev pub serving : {I O W : Type 0} → InletGhosts I → OutletGhosts O → Effects W
+    → Serving I O W
+serving inlet outlet effects =
+    record { inlet = inlet; delivering = delivering outlet effects }
+
 -- how a session comes to its end without a fault, after these items, and how many bytes of an item
 -- are then unfinished
 pub data Ending (is_ended : Type 0) (items : List Item) (left : Reading) (unfinished : ℕ)
@@ -43,15 +61,14 @@ pub data Ending (is_ended : Type 0) (items : List Item) (left : Reading) (unfini
 
 -- what a session did after the last event, where it ended early: nothing; or the next item is a
 -- request that was cut short because memory ran out, and its round was run
-pub data EndsAt {W : Type 0} (effects : Effects W) (items : List Item) (left : Reading)
-    (reached after : W) : Type 0 where
-  at_once : after ≡ reached → EndsAt effects items left reached after
+pub data EndsAt {W : Type 0} (effects : Effects W) (stop : StopPoint W) (after : W)
+    : Type 0 where
+  at_once : after ≡ stop.parts → EndsAt effects stop after
   after_cut : (it : Request) (to : Reading) (mid : W) (visits : List Visit)
-      → GoesOn items → Emits left (item.Request it) to → effects.cut it reached mid
-      → effects.step mid (RoundAfter visits) after → EndsAt effects items left reached after
+      → GoesOn stop.items → Emits stop.left (item.Request it) to → effects.cut it stop.parts mid
+      → effects.step mid (RoundAfter visits) after → EndsAt effects stop after
 
-module _ {I O W : Type 0} (inlet : InletGhosts I) (outlet : OutletGhosts O)
-    (effects : Effects W) where
+module _ {I O W : Type 0} (ghosts : Serving I O W) where
   -- all that was read, each item of it and what became of it, the rounds, and all that was written:
   -- each request is followed by its round, there is a round for each idle turn of the reader, and
   -- memory ran out in none of them
@@ -59,19 +76,19 @@ module _ {I O W : Type 0} (inlet : InletGhosts I) (outlet : OutletGhosts O)
     pub bytes : List ℕ
     pub events : List Event
     pub left : Reading
-    pub input : inlet.gives old.reader bytes new.reader
+    pub input : ghosts.inlet.gives old.reader bytes new.reader
     pub items : Gives (fed start bytes) (items_of (turns_of events)) left
-    pub gains : Gains effects.step old.parts events new.parts
+    pub gains : Gains ghosts.delivering.effects.step old.parts events new.parts
     pub order : owed_after false events ≡ Some false
-    pub idles : inlet.idles new.reader ≡ inlet.idles old.reader + idle_rounds events
-    pub counts : CountsRise effects old.parts events new.parts
+    pub idles : ghosts.inlet.idles new.reader ≡ ghosts.inlet.idles old.reader + idle_rounds events
+    pub counts : CountsRise ghosts.delivering.effects old.parts events new.parts
     pub memory : NoneShort events
-    pub output : outlet.takes old.writer (text_of (turns_of events)) new.writer
+    pub output : ghosts.delivering.outlet.takes old.writer (text_of (turns_of events)) new.writer
 
   -- everything was answered up to the end of the input, or to the `quit` that ended the session
   pub record Served (old : Context I O W) (report : Report) (new : Context I O W) : Type 0 where
     pub transcript : Transcript old new
-    pub ending : Ending (inlet.is_ended new.reader) (items_of (turns_of transcript.events))
+    pub ending : Ending (ghosts.inlet.is_ended new.reader) (items_of (turns_of transcript.events))
         transcript.left report.unfinished
     pub requests : report.requests ≡ capped (requests_in (items_of (turns_of transcript.events)))
 
@@ -94,18 +111,19 @@ module _ {I O W : Type 0} (inlet : InletGhosts I) (outlet : OutletGhosts O)
     pub events : List Event
     pub left : Reading
     pub reached : W
-    pub input : inlet.gives old.reader bytes new.reader
+    pub input : ghosts.inlet.gives old.reader bytes new.reader
     pub items : Gives (fed start bytes) (items_of (turns_of events)) left
-    pub gains : Gains effects.step old.parts events reached
-    pub counts : CountsRise effects old.parts events reached
+    pub gains : Gains ghosts.delivering.effects.step old.parts events reached
+    pub counts : CountsRise ghosts.delivering.effects old.parts events reached
     pub order : owed_after false events ≡ Some false
-    pub idles : inlet.idles new.reader ≡ inlet.idles old.reader + idle_rounds events
-    pub ends : EndsAt effects (items_of (turns_of events)) left reached new.parts
+    pub idles : ghosts.inlet.idles new.reader ≡ ghosts.inlet.idles old.reader + idle_rounds events
+    pub ends : EndsAt ghosts.delivering.effects
+        (stop_point (items_of (turns_of events)) left reached) new.parts
     pub in_session : InSession (items_of (turns_of events))
     pub front : List ℕ
     pub unwritten : List ℕ
     pub text : text_of (turns_of events) ≡ front ++ unwritten
-    pub output : outlet.takes old.writer front new.writer
+    pub output : ghosts.delivering.outlet.takes old.writer front new.writer
 
   -- the writer failed after `written` bytes
   pub record StoppedByWrite (old : Context I O W) (written : ℕ) (new : Context I O W) : Type 0 where
@@ -122,14 +140,13 @@ pub record CameTooLong {I : Type 0} (gives : I → List ℕ → I → Type 0)
   pub reads : Reads bytes items left
   pub ends : EndsWith line_too_long items
 
-module _ {O W : Type 0} (outlet : OutletGhosts O) (effects : Effects W) where
-  -- events went from the one state to the other, `idles` of them rounds at idle turns, all their
-  -- text was written and counted, and no round is owed
-  pub record Delivered (idles : ℕ) (progress : Progress) (old new : Delivery O W) : Type 0 where
+module _ {O W : Type 0} (ghosts : Delivering O W) where
+  -- events went from the one state to the other, all their text was written and counted, and no
+  -- round is owed
+  pub record Delivered (progress : Progress) (old new : Delivery O W) : Type 0 where
     pub events : List Event
-    pub turned : Turned effects old.session events new.session
-    pub idle : idle_rounds events ≡ idles
-    pub output : Writes outlet.takes old.writer (text_of (turns_of events)) new.writer
+    pub turned : Turned ghosts.effects old.session events new.session
+    pub output : Writes ghosts.outlet.takes old.writer (text_of (turns_of events)) new.writer
         old.written new.written
     pub outbox : new.session.state.outbox ≡ []
     pub owes : new.session.state.owes ≡ false
@@ -142,25 +159,33 @@ module _ {O W : Type 0} (outlet : OutletGhosts O) (effects : Effects W) where
     pub left : Reading
     pub reached : W
     pub idle : idle_rounds events ≡ idles
-    pub ends : EndsAt effects (items_of (turns_of events)) left reached new.session.parts
+    pub ends : EndsAt ghosts.effects (stop_point (items_of (turns_of events)) left reached)
+        new.session.parts
     pub gives : Gives old.session.state.reading (items_of (turns_of events)) left
-    pub gains : Gains effects.step old.session.parts events reached
-    pub counts : CountsRise effects old.session.parts events reached
+    pub gains : Gains ghosts.effects.step old.session.parts events reached
+    pub counts : CountsRise ghosts.effects old.session.parts events reached
     pub order : owed_after old.session.state.owes events ≡ Some false
     pub in_session : InSession (items_of (turns_of events))
     pub front : List ℕ
     pub unwritten : List ℕ
     pub text : text_of (turns_of events) ≡ front ++ unwritten
-    pub output : Writes outlet.takes old.writer front new.writer old.written new.written
+    pub output : Writes ghosts.outlet.takes old.writer front new.writer old.written new.written
+
+-- what serving a client works with at a moment: its reader, and its session with the writer
+pub record ServeState (I O W : Type 0) : Type 0 where
+  pub reader : I
+  pub delivery : Delivery O W
+
+abbrev pub serve_state : {I O W : Type 0} → I → Delivery O W → ServeState I O W
+serve_state reader at = record { reader = reader; delivery = at }
 
 -- the bytes that were read from the beginning on, the events that answered them, and a round for
 -- each idle turn
-pub record ServedSoFar {I O W : Type 0} (inlet : InletGhosts I) (outlet : OutletGhosts O)
-    (effects : Effects W) (progress : Progress) (old : Context I O W) (reader : I)
-    (new : Delivery O W) : Type 0 where
+pub record ServedSoFar {I O W : Type 0} (ghosts : Serving I O W) (progress : Progress)
+    (old : Context I O W) (new : ServeState I O W) : Type 0 where
   pub bytes : List ℕ
-  pub idle : ℕ
-  pub input : inlet.gives old.reader bytes reader
-  pub idles : inlet.idles reader ≡ inlet.idles old.reader + idle
-  pub delivered : Delivered outlet effects idle progress
-      (delivery (fed_state fresh bytes) old.parts old.writer 0) new
+  pub input : ghosts.inlet.gives old.reader bytes new.reader
+  pub delivered : Delivered ghosts.delivering progress
+      (delivery (fed_state fresh bytes) old.parts old.writer 0) new.delivery
+  pub idles : ghosts.inlet.idles new.reader
+      ≡ ghosts.inlet.idles old.reader + idle_rounds delivered.events

@@ -6,7 +6,7 @@ ghost use Rattle.tko_io.specs.Io.{Writes, WritesPart, capped};
 ghost use Rattle.tko_turns.specs.Effects.{effects};
 ghost use Rattle.tko_turns.specs.Ends.{IsSettled};
 ghost use Rattle.tko_session.specs.Ends.{DeliveryEnds, PieceEnds, SessionEnds};
-ghost use Rattle.tko_session.specs.Served.{context, delivery};
+ghost use Rattle.tko_session.specs.Served.{context, delivering, delivery, serving};
 ghost use Rattle.tko_answer.specs.Answers.{Reaches};
 ghost use Rattle.tko_turns.specs.SessionState.{fed_state};
 ghost use Rattle.tko_turns.specs.declared.step.Work.TheVariants.{Between};
@@ -28,7 +28,8 @@ pub fn serve<R: IoRuntime, I: Inlet, O: Outlet, H: Health, L: Links, T: Trails, 
     parts: &mut Parts<H, L, T, C>,
 ) -> Result<Report, SessionFault>
     requires reach { Reaches H.servers L.servers parts.old }
-    ensures ends { SessionEnds I.Inlet O.Outlet (effects H.Health L.Links T.Trails C.Clock)
+    ensures ends { SessionEnds
+        (serving I.Inlet O.Outlet (effects H.Health L.Links T.Trails C.Clock))
         (context reader.old writer.old parts.old) result
         (context reader.new writer.new parts.new) }
     // Each server that the session marked gets its prober, also where it ends by a fault.
@@ -80,7 +81,7 @@ fn serve_piece<R: IoRuntime, O: Outlet, H: Health, L: Links, T: Trails, C: Clock
     requires settled { IsSettled session.old }
     requires outbox { session.old.outbox ≡ [] }
     requires reads { session.old.reading.after ≢ Never }
-    ensures ends { PieceEnds O.Outlet (effects H.Health L.Links T.Trails C.Clock)
+    ensures ends { PieceEnds (delivering O.Outlet (effects H.Health L.Links T.Trails C.Clock))
         (delivery (fed_state session.old piece.now) parts.old writer.old written.old) result
         (delivery session.new parts.new writer.new written.new) }
     ensures begun { NoneMarked parts.old.backend.probers → NoneMarked parts.new.backend.probers }
@@ -113,7 +114,7 @@ fn deliver<R: IoRuntime, O: Outlet, H: Health, L: Links, T: Trails, C: Clock>(
     requires reach { Reaches H.servers L.servers parts.old }
     requires settled { IsSettled session.old }
     requires outbox { session.old.outbox ≡ [] }
-    ensures ends { DeliveryEnds O.Outlet (effects H.Health L.Links T.Trails C.Clock)
+    ensures ends { DeliveryEnds (delivering O.Outlet (effects H.Health L.Links T.Trails C.Clock))
         (delivery session.old parts.old writer.old written.old) result
         (delivery session.new parts.new writer.new written.new) }
     ensures begun { NoneMarked parts.old.backend.probers → NoneMarked parts.new.backend.probers }

@@ -3,7 +3,7 @@
 ghost use Rattle.std.specs.Prelude.{◌≡◌, IfOk, length};
 ghost use Rattle.tko_answer.specs.Answers.{Reaches};
 
-use crate::{Backend, Kept, ListedClock, Parts, Probers, Stop, Taped, round, serve};
+use crate::{Backend, Kept, ListedClock, Parts, Probers, Stop, Taped, round, serve, status};
 use std::alloc::Global;
 use std::net::{Net, TcpStream};
 use std::sync::Wait;
@@ -232,5 +232,17 @@ fn a_server_without_an_own_mark_is_not_probed(rt: HostRuntime) -> Result<(), Fai
         .note(&[Attempt::Sent(0, Outcome::Timeout, Reply::TookSoft)]);
     let given = run(&rt, alloc, blank(alloc), blank(alloc), parts)?;
     assert_eq!(rt; given.as_slice(), b"0 and 0: 0 0 Up(0) true".as_slice());
+    Ok(())
+}
+
+/// As a caller that has no session gets it.
+#[test]
+fn the_status_is_there_without_a_session(rt: HostRuntime) -> Result<(), Fail> {
+    let _stream: Option<TcpStream> = None;
+    let alloc = rt.alloc();
+    let mut parts = one_server(alloc, "END\r\n", &[])?;
+    let addresses = parts.config.addresses();
+    let text = status(&rt, alloc, &mut parts.backend.health, addresses)?;
+    assert_eq!(rt; text.as_slice(), b"STAT dry:0 up:0\r\nEND\r\n".as_slice());
     Ok(())
 }

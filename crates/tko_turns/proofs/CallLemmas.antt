@@ -1,5 +1,5 @@
 -- What each call of a session makes of its fields.
-use Rattle.std.proofs.Common.{◌≡◌, ℕ, Bool, true, List, [], ◌∷◌, ◌++◌, length, take, Ok, refl, sym, ap, subst, ◌∙◌}
+use Rattle.std.proofs.Common.{◌≡◌, ℕ, Bool, true, List, [], ◌∷◌, ◌++◌, length, take, refl, sym, ap, subst, ◌∙◌}
 use Rattle.tko_model.specs.Records.{HealthItem}
 use Rattle.tko_links.specs.declared.links.Outcome.{Outcome}
 use Rattle.tko_text.specs.Reading.{Emits, Reading}
@@ -9,9 +9,6 @@ use Rattle.tko_text.specs.declared.fault.TextFault.{TextFault}
 use Rattle.tko_text.specs.declared.item.Item.TheVariants as item
 use Rattle.tko_text.specs.declared.request.Request.{Request}
 use Rattle.tko_pools.specs.Configs.{Configuration, targets_of}
-use Rattle.tko_route.specs.Calls.{Call, came}
-use Rattle.tko_route.specs.Routing.{FindsUp}
-use Rattle.tko_route.specs.Trail.{form_at}
 use Rattle.tko_answer.specs.Answering.{Extends}
 use Rattle.tko_answer.specs.Answers.{request_keys}
 use Rattle.tko_answer.specs.Asking.{Begins, BeginsAt, Goes, GoesCut, IsFirst, Stays, with_noted, AfterSend, course_of}
@@ -24,7 +21,8 @@ use Rattle.tko_answer.specs.declared.asking.OneKey.{OneKey}
 use Rattle.tko_answer.specs.declared.parts.Parts.{Parts}
 use Rattle.tko_answer.proofs.DrivingLemmas.{begun}
 use Rattle.tko_answer.proofs.HeldLemmas.{AwaitsAt, HoldsAt, goes_awaits, goes_held}
-use Rattle.tko_turns.specs.Driven.{IsOut, IsReady, IsReadyFor, ItemDropped, ItemRead, KeyBegun, KeyDropped, OutcomeDropped, OutcomeTaken, RequestBegun, RequestDropped, WasDropped, WentOn, begun_at, dropped, requests_after, step_of, went, work_of}
+use Rattle.tko_turns.specs.Driven.{IsOut, IsReady, IsReadyFor, ItemDropped, ItemRead, KeyBegun, KeyDropped, OutcomeDropped, OutcomeTaken, RequestBegun, RequestDropped, WasDropped, WentOn, begun_at, dropped, requests_after, send_outcome, step_of, stepped, went, work_of}
+use Rattle.tko_turns.specs.Ghosts.{recording}
 use Rattle.tko_turns.specs.Driven as driven
 use Rattle.tko_turns.specs.SessionState.{SessionState, Snapshot, progress_after, progress_of, snapshot}
 use Rattle.tko_turns.specs.declared.step.Progress.{Progress}
@@ -76,16 +74,16 @@ module _ {H L T C : Type 0} {steps : H → HealthItem → H → Type 0} {records
   pub by_first : {old : SessionState} {told : T} {parts : Parts H L T C} {request : Request} {wanted : Step} {from new : Snapshot (Parts H L T C)} (one : OneKey)
       → records parts.trails (Asked request) told
       → IsFirst request (length old.outbox) one × (from ≡ snapshot (begun_at old) (record parts { trails = told }))
-      → KeyBegun steps records one from wanted new → RequestBegun steps records request (snapshot old parts) wanted new
+      → KeyBegun (recording steps records) one from (stepped wanted new) → RequestBegun (recording steps records) request (snapshot old parts) (stepped wanted new)
   by_first {old} {told} {parts} {request} {wanted} {from} {new} one recorded (first, same) key =
-      driven.by_key told one recorded first (subst (λ s. KeyBegun steps records one s wanted new) same key)
+      driven.by_key told one recorded first (subst (λ s. KeyBegun (recording steps records) one s (stepped wanted new)) same key)
 
   pub first_lost : {old : SessionState} {told : T} {parts : Parts H L T C} {request : Request} {from new : Snapshot (Parts H L T C)} (one : OneKey)
       → records parts.trails (Asked request) told
       → IsFirst request (length old.outbox) one × (from ≡ snapshot (begun_at old) (record parts { trails = told }))
-      → KeyDropped steps records one from new → RequestDropped steps records request (snapshot old parts) new
+      → KeyDropped (recording steps records) one from new → RequestDropped (recording steps records) request (snapshot old parts) new
   first_lost {old} {told} {parts} {request} {from} {new} one recorded (first, same) lost =
-      driven.at_key told one recorded first (subst (λ s. KeyDropped steps records one s new) same lost)
+      driven.at_key told one recorded first (subst (λ s. KeyDropped (recording steps records) one s new) same lost)
 
   -- the proxy answered a request itself
   pub by_itself : {old mid new : SessionState} {told : T} {parts after : Parts H L T C} {outbox : List ℕ} {begin : ℕ} {request : Request} {at : Answer} {progress : Progress} {wanted : Step}
@@ -93,7 +91,7 @@ module _ {H L T C : Type 0} {steps : H → HealthItem → H → Type 0} {records
       → Begins steps request (record parts { trails = told }, mid.outbox) at (after, outbox)
       → progress ≡ progress_of request → wanted ≡ step.At progress
       → new ≡ went answer.Done (record mid { outbox = outbox; owes = true; begin = begin })
-      → RequestBegun steps records request (snapshot old parts) wanted (snapshot new after)
+      → RequestBegun (recording steps records) request (snapshot old parts) (stepped wanted (snapshot new after))
   by_itself {old} {mid} {new} {told} {parts} {after} {outbox} {begin} recorded same from is (begins.answered text done itself more) then asks went' =
       driven.itself told text recorded itself (asks ∙ ap step.At then)
       (
@@ -139,7 +137,7 @@ module _ {H L T C : Type 0} {steps : H → HealthItem → H → Type 0} {records
       → ((key : List ℕ) → request_keys one.request ≡ key ∷ [] → targets ≡ targets_of parts.config key)
       → wanted ≡ step_of progress.More at → new ≡ is_went at reading outbox requests owes begin targets
       → front ≡ old.outbox → reading ≡ old.reading → requests ≡ old.requests → owes ≡ old.owes → begin ≡ old.begin
-      → KeyBegun steps records one (snapshot old parts) wanted (snapshot new parts')
+      → KeyBegun (recording steps records) one (snapshot old parts) (stepped wanted (snapshot new parts'))
   key_begun {old} {new} {parts} {parts'} one at front reading outbox requests owes begin targets goes aims asks is waits reads counts owed begins =
       let o : new.outbox ≡ outbox = ap (λ (s : SessionState). s.outbox) is in
       let t : new.targets ≡ targets = ap (λ (s : SessionState). s.targets) is in
@@ -159,7 +157,7 @@ module _ {H L T C : Type 0} {steps : H → HealthItem → H → Type 0} {records
       → AfterSend parts.config it outcome (λ original calls. Goes steps records (course_of parts.config aimed it.key original) calls (parts, front) at (parts', outbox))
       → wanted ≡ step_of progress.More at → new ≡ is_went at reading outbox requests owes begin targets
       → aimed ≡ old.targets → front ≡ old.outbox → reading ≡ old.reading → requests ≡ old.requests → owes ≡ old.owes → begin ≡ old.begin
-      → targets ≡ old.targets → OutcomeTaken steps records outcome it (snapshot old parts) wanted (snapshot new parts')
+      → targets ≡ old.targets → OutcomeTaken (recording steps records) (send_outcome it outcome) (snapshot old parts) (stepped wanted (snapshot new parts'))
   outcome_taken {old} {new} {parts} {parts'} outcome it at aimed front reading outbox requests owes begin targets goes asks is aims waits reads counts owed begins same =
       let o : new.outbox ≡ outbox = ap (λ (s : SessionState). s.outbox) is in
       let P : List ℕ → List ℕ → List ℕ → Type 0 = λ ts xs ys.
@@ -175,7 +173,7 @@ module _ {H L T C : Type 0} {steps : H → HealthItem → H → Type 0} {records
 
   -- where it was, the session is ready for the next call
   pub outcome_ready : {outcome : Outcome} {it : Asking} {old new : Snapshot (Parts H L T C)} {wanted : Step} → IsOut old.parts.config old.state it
-      → OutcomeTaken steps records outcome it old wanted new → new.parts.config ≡ old.parts.config → IsReady new.parts.config new.state
+      → OutcomeTaken (recording steps records) (send_outcome it outcome) old (stepped wanted new) → new.parts.config ≡ old.parts.config → IsReady new.parts.config new.state
   outcome_ready {outcome} {it} {old} {new} out outcome' same =
       let sent = out.sent in
       let goes = outcome'.goes sent.original sent.calls sent.form sent.found in
@@ -187,7 +185,7 @@ module _ {H L T C : Type 0} {steps : H → HealthItem → H → Type 0} {records
   -- memory ran out there
   pub outcome_lost : {old new : SessionState} {parts parts' : Parts H L T C} (outcome : Outcome) (it : Asking) (aimed : List ℕ)
       → AfterSend parts.config it outcome (λ original calls. GoesCut steps records (course_of parts.config aimed it.key original) calls parts parts')
-      → aimed ≡ old.targets → new ≡ dropped old → OutcomeDropped steps records outcome it (snapshot old parts) (snapshot new parts')
+      → aimed ≡ old.targets → new ≡ dropped old → OutcomeDropped (recording steps records) (send_outcome it outcome) (snapshot old parts) (snapshot new parts')
   outcome_lost {old} {new} {parts} {parts'} outcome it aimed cut aims is = record {
     cut =
         subst (λ ts. AfterSend parts.config it outcome (λ original calls. GoesCut steps records (course_of parts.config ts it.key original) calls parts parts'))
@@ -206,29 +204,29 @@ module _ {H L T C : Type 0} {steps : H → HealthItem → H → Type 0} {records
   -- a fault was read and answered
   pub fault_read : {old read new : SessionState} {wanted : Step} (fault : TextFault) → Emits old.reading (item.Fault fault) read.reading
       → read ≡ record old { reading = read.reading } → new ≡ record read { outbox = read.outbox ++ fault_text fault }
-      → wanted ≡ step.At (progress_after fault) → ItemRead steps records (snapshot old parts) wanted (snapshot new parts)
+      → wanted ≡ step.At (progress_after fault) → ItemRead (recording steps records) (snapshot old parts) (stepped wanted (snapshot new parts))
   fault_read {old} {read} {new} {wanted} fault told others is asks =
       let same : new ≡ record old { reading = read.reading; outbox = old.outbox ++ fault_text fault } =
       is ∙ ap (λ (s : SessionState). record s { outbox = s.outbox ++ fault_text fault }) others in
-      subst (λ (s : SessionState). ItemRead steps records (snapshot old parts) wanted (snapshot s parts)) (sym same)
+      subst (λ (s : SessionState). ItemRead (recording steps records) (snapshot old parts) (stepped wanted (snapshot s parts))) (sym same)
       (driven.refused fault told asks refl)
 
   begun_reading : {it : Request} {read : SessionState} {wanted : Step} {new : Snapshot (Parts H L T C)}
-      → RequestBegun steps records it (snapshot read parts) wanted new → new.state.reading ≡ read.reading
+      → RequestBegun (recording steps records) it (snapshot read parts) (stepped wanted new) → new.state.reading ≡ read.reading
   begun_reading (driven.itself told text recorded itself asks is) = ap (λ (s : SessionState). s.reading) is
   begun_reading (driven.by_key told one recorded first key) = ap (λ (s : SessionState). s.reading) key.state
 
   -- a request was read and begun
   pub request_read : {old read : SessionState} {new : Snapshot (Parts H L T C)} {wanted : Step} (it : Request) → Emits old.reading (item.Request it) read.reading
-      → read ≡ record old { reading = read.reading } → RequestBegun steps records it (snapshot read parts) wanted new
-      → ItemRead steps records (snapshot old parts) wanted new
+      → read ≡ record old { reading = read.reading } → RequestBegun (recording steps records) it (snapshot read parts) (stepped wanted new)
+      → ItemRead (recording steps records) (snapshot old parts) (stepped wanted new)
   request_read {old} {read} {new} {wanted} it told others begun =
       let to : new.state.reading ≡ read.reading = begun_reading begun in
       let same : read ≡ record old { reading = new.state.reading } = others ∙ ap (λ r. record old { reading = r }) (sym to) in
       driven.asked it (subst (λ r. Emits old.reading (item.Request it) r) (sym to) told)
-      (subst (λ (s : SessionState). RequestBegun steps records it (snapshot s parts) wanted new) same begun)
+      (subst (λ (s : SessionState). RequestBegun (recording steps records) it (snapshot s parts) (stepped wanted new)) same begun)
 
-  lost_reading : {it : Request} {read : SessionState} {new : Snapshot (Parts H L T C)} → RequestDropped steps records it (snapshot read parts) new
+  lost_reading : {it : Request} {read : SessionState} {new : Snapshot (Parts H L T C)} → RequestDropped (recording steps records) it (snapshot read parts) new
       → new.state.reading ≡ read.reading
   lost_reading (driven.unrecorded same is) = ap (λ (s : SessionState). s.reading) is
   lost_reading (driven.recorded told recorded cut is) = ap (λ (s : SessionState). s.reading) is
@@ -236,13 +234,13 @@ module _ {H L T C : Type 0} {steps : H → HealthItem → H → Type 0} {records
 
   -- a request was read and dropped
   pub request_lost : {old read : SessionState} {new : Snapshot (Parts H L T C)} (it : Request) → Emits old.reading (item.Request it) read.reading
-      → read ≡ record old { reading = read.reading } → RequestDropped steps records it (snapshot read parts) new
-      → ItemDropped steps records (snapshot old parts) new
+      → read ≡ record old { reading = read.reading } → RequestDropped (recording steps records) it (snapshot read parts) new
+      → ItemDropped (recording steps records) (snapshot old parts) new
   request_lost {old} {read} {new} it told others lost =
       let to : new.state.reading ≡ read.reading = lost_reading lost in
       let same : read ≡ record old { reading = new.state.reading } = others ∙ ap (λ r. record old { reading = r }) (sym to) in
       driven.cut it (subst (λ r. Emits old.reading (item.Request it) r) (sym to) told)
-      (subst (λ (s : SessionState). RequestDropped steps records it (snapshot s parts) new) same lost)
+      (subst (λ (s : SessionState). RequestDropped (recording steps records) it (snapshot s parts) new) same lost)
 
 -- one send is out
 awaits_same : (it other : Asking) → work.Awaits it ≡ work.Awaits other → it ≡ other
@@ -262,46 +260,46 @@ begins_between {old} {mid} {one} config ready at same =
 
 module _ {H L T C : Type 0} {steps : H → HealthItem → H → Type 0} {records : T → TrailEvent → T → Type 0} {parts : Parts H L T C} {new : Snapshot (Parts H L T C)} where
   pub went_item : {old : SessionState} {wanted : Step} → old.work ≡ work.Between
-      → ItemRead steps records (snapshot old parts) wanted new → WentOn steps records old.work (snapshot old parts) wanted new
-  went_item {old} {wanted} at read = subst (λ w. WentOn steps records w (snapshot old parts) wanted new) (sym at) read
+      → ItemRead (recording steps records) (snapshot old parts) (stepped wanted new) → WentOn (recording steps records) old.work (snapshot old parts) (stepped wanted new)
+  went_item {old} {wanted} at read = subst (λ w. WentOn (recording steps records) w (snapshot old parts) (stepped wanted new)) (sym at) read
 
   pub dropped_item : {old : SessionState} → old.work ≡ work.Between
-      → ItemDropped steps records (snapshot old parts) new → WasDropped steps records old.work (snapshot old parts) new
-  dropped_item {old} at lost = subst (λ w. WasDropped steps records w (snapshot old parts) new) (sym at) lost
+      → ItemDropped (recording steps records) (snapshot old parts) new → WasDropped (recording steps records) old.work (snapshot old parts) new
+  dropped_item {old} at lost = subst (λ w. WasDropped (recording steps records) w (snapshot old parts) new) (sym at) lost
 
   -- what was at work was taken out of the session, and then it went on
   pub went_key : {old mid : SessionState} {wanted : Step} (one : OneKey) → old.work ≡ work.AtKey one → mid ≡ record old { work = work.Between }
-      → KeyBegun steps records one (snapshot mid parts) wanted new → WentOn steps records old.work (snapshot old parts) wanted new
+      → KeyBegun (recording steps records) one (snapshot mid parts) (stepped wanted new) → WentOn (recording steps records) old.work (snapshot old parts) (stepped wanted new)
   went_key {old} {mid} {wanted} one at same key =
-      let from : KeyBegun steps records one (snapshot (record old { work = work.Between }) parts) wanted new =
-      subst (λ (s : SessionState). KeyBegun steps records one (snapshot s parts) wanted new) same key in
-      let to : KeyBegun steps records one (snapshot old parts) wanted new =
+      let from : KeyBegun (recording steps records) one (snapshot (record old { work = work.Between }) parts) (stepped wanted new) =
+      subst (λ (s : SessionState). KeyBegun (recording steps records) one (snapshot s parts) (stepped wanted new)) same key in
+      let to : KeyBegun (recording steps records) one (snapshot old parts) (stepped wanted new) =
       record { at = from.at; goes = from.goes; targets = from.targets; asks = from.asks; state = from.state } in
-      subst (λ w. WentOn steps records w (snapshot old parts) wanted new) (sym at) to
+      subst (λ w. WentOn (recording steps records) w (snapshot old parts) (stepped wanted new)) (sym at) to
 
   pub dropped_key : {old mid : SessionState} (one : OneKey) → old.work ≡ work.AtKey one → mid ≡ record old { work = work.Between }
-      → KeyDropped steps records one (snapshot mid parts) new → WasDropped steps records old.work (snapshot old parts) new
+      → KeyDropped (recording steps records) one (snapshot mid parts) new → WasDropped (recording steps records) old.work (snapshot old parts) new
   dropped_key {old} {mid} one at same lost =
-      let from : KeyDropped steps records one (snapshot (record old { work = work.Between }) parts) new =
-      subst (λ (s : SessionState). KeyDropped steps records one (snapshot s parts) new) same lost in
-      let to : KeyDropped steps records one (snapshot old parts) new = record { cut = from.cut; state = from.state } in
-      subst (λ w. WasDropped steps records w (snapshot old parts) new) (sym at) to
+      let from : KeyDropped (recording steps records) one (snapshot (record old { work = work.Between }) parts) new =
+      subst (λ (s : SessionState). KeyDropped (recording steps records) one (snapshot s parts) new) same lost in
+      let to : KeyDropped (recording steps records) one (snapshot old parts) new = record { cut = from.cut; state = from.state } in
+      subst (λ w. WasDropped (recording steps records) w (snapshot old parts) new) (sym at) to
 
   pub taken_between : {old mid : SessionState} {wanted : Step} {outcome : Outcome} {asking it : Asking} → mid ≡ record old { work = work.Between }
-      → work.Awaits asking ≡ work.Awaits it → OutcomeTaken steps records outcome asking (snapshot mid parts) wanted new
-      → OutcomeTaken steps records outcome it (snapshot old parts) wanted new
+      → work.Awaits asking ≡ work.Awaits it → OutcomeTaken (recording steps records) (send_outcome asking outcome) (snapshot mid parts) (stepped wanted new)
+      → OutcomeTaken (recording steps records) (send_outcome it outcome) (snapshot old parts) (stepped wanted new)
   taken_between {old} {mid} {wanted} {outcome} {asking} {it} same one outcome' =
-      let from : OutcomeTaken steps records outcome asking (snapshot (record old { work = work.Between }) parts) wanted new =
-      subst (λ (s : SessionState). OutcomeTaken steps records outcome asking (snapshot s parts) wanted new) same outcome' in
-      let to : OutcomeTaken steps records outcome asking (snapshot old parts) wanted new =
+      let from : OutcomeTaken (recording steps records) (send_outcome asking outcome) (snapshot (record old { work = work.Between }) parts) (stepped wanted new) =
+      subst (λ (s : SessionState). OutcomeTaken (recording steps records) (send_outcome asking outcome) (snapshot s parts) (stepped wanted new)) same outcome' in
+      let to : OutcomeTaken (recording steps records) (send_outcome asking outcome) (snapshot old parts) (stepped wanted new) =
       record { at = from.at; goes = from.goes; asks = from.asks; state = from.state } in
-      subst (λ a. OutcomeTaken steps records outcome a (snapshot old parts) wanted new) (awaits_same asking it one) to
+      subst (λ a. OutcomeTaken (recording steps records) (send_outcome a outcome) (snapshot old parts) (stepped wanted new)) (awaits_same asking it one) to
 
   pub lost_between : {old mid : SessionState} {outcome : Outcome} {asking it : Asking} → mid ≡ record old { work = work.Between }
-      → work.Awaits asking ≡ work.Awaits it → OutcomeDropped steps records outcome asking (snapshot mid parts) new
-      → OutcomeDropped steps records outcome it (snapshot old parts) new
+      → work.Awaits asking ≡ work.Awaits it → OutcomeDropped (recording steps records) (send_outcome asking outcome) (snapshot mid parts) new
+      → OutcomeDropped (recording steps records) (send_outcome it outcome) (snapshot old parts) new
   lost_between {old} {mid} {outcome} {asking} {it} same one lost =
-      let from : OutcomeDropped steps records outcome asking (snapshot (record old { work = work.Between }) parts) new =
-      subst (λ (s : SessionState). OutcomeDropped steps records outcome asking (snapshot s parts) new) same lost in
-      let to : OutcomeDropped steps records outcome asking (snapshot old parts) new = record { cut = from.cut; state = from.state } in
-      subst (λ a. OutcomeDropped steps records outcome a (snapshot old parts) new) (awaits_same asking it one) to
+      let from : OutcomeDropped (recording steps records) (send_outcome asking outcome) (snapshot (record old { work = work.Between }) parts) new =
+      subst (λ (s : SessionState). OutcomeDropped (recording steps records) (send_outcome asking outcome) (snapshot s parts) new) same lost in
+      let to : OutcomeDropped (recording steps records) (send_outcome asking outcome) (snapshot old parts) new = record { cut = from.cut; state = from.state } in
+      subst (λ a. OutcomeDropped (recording steps records) (send_outcome a outcome) (snapshot old parts) new) (awaits_same asking it one) to

@@ -26,7 +26,8 @@ use Rattle.tko_answer.specs.declared.asking.OneKey.{OneKey}
 use Rattle.tko_answer.specs.declared.parts.Parts.{Parts}
 use Rattle.tko_answer.specs.declared.trails.Trails.{Ghosts as TrailsGhosts}
 use Rattle.tko_answer.proofs.DrivingLemmas.{Stands, at_extends, begin_cut, begun, begun_in, gone_on, gone_on_cut, keyed, sent_cut, stands}
-use Rattle.tko_turns.specs.Driven.{IsOut, IsReady, IsReadyFor, ItemDropped, ItemRead, KeyBegun, KeyDropped, OutcomeDropped, OutcomeTaken, RequestBegun, RequestDropped, WasDropped, WentOn, begun_at, dropped, requests_after, step_of, went, work_of}
+use Rattle.tko_turns.specs.Driven.{IsOut, IsReady, IsReadyFor, ItemDropped, ItemRead, KeyBegun, KeyDropped, OutcomeDropped, OutcomeTaken, RequestBegun, RequestDropped, WasDropped, WentOn, begun_at, dropped, requests_after, send_outcome, step_of, stepped, went, work_of}
+use Rattle.tko_turns.specs.Ghosts.{parts_ghosts, recording}
 use Rattle.tko_turns.specs.Driven as driven
 use Rattle.tko_turns.specs.Effects.{effects}
 use Rattle.tko_turns.specs.Ends.{IsSettled}
@@ -135,10 +136,10 @@ module _ {H L T C : Type 0} (health : HealthGhosts H) (links : LinksGhosts L) (t
   complete {at} {old} {mid} none room under =
       let read : SessionState = record old.state { reading = mid.state.reading } in
       let done : AnsweredInto health.steps links.exchanges links.sent links.probed trails.records under.it (record old.parts { trails = under.told }) old.state.outbox mid.parts mid.state.outbox = under.stands in
-      let replied : Replied health links trails (snapshot read old.parts) under.it (snapshot (went answer.Done mid.state) mid.parts) = record {
+      let replied : Replied (parts_ghosts health links trails clock) (snapshot read old.parts) under.it (snapshot (went answer.Done mid.state) mid.parts) = record {
         routed = done.routed;
         text = done.text;
-        becomes = (under.told, under.recorded, done.answers);
+        becomes = turn.answered under.it under.told refl under.recorded done.answers;
         sends = done.sends;
         probes = done.probes;
         reading = refl;
@@ -147,7 +148,7 @@ module _ {H L T C : Type 0} (health : HealthGhosts H) (links : LinksGhosts L) (t
         owes = under.owes;
       } in record {
         answered =
-            answered_request {trails = trails} {clock = clock} old.state read (went answer.Done mid.state) old.parts mid.parts under.it at
+            answered_request {ghosts = parts_ghosts health links trails clock} old.state read (went answer.Done mid.state) old.parts mid.parts under.it at
             under.emits refl replied (sym under.then) none room;
         more = λ is needs. needs _ _ under.emits;
         unowed = λ no. absurd (owed_or_not under.owes no);
@@ -189,7 +190,7 @@ module _ {H L T C : Type 0} (health : HealthGhosts H) (links : LinksGhosts L) (t
 
   -- a key was asked for
   key_on : {old now new : Snapshot (Parts H L T C)} {one : OneKey} {wanted : Step} → old.state.owes ≡ false → length old.state.outbox < reply_bound
-      → IsUnder health links trails progress.More old (answer.Next one) now → KeyBegun health.steps trails.records one now wanted new
+      → IsUnder health links trails progress.More old (answer.Next one) now → KeyBegun (recording health.steps trails.records) one now (stepped wanted new)
       → IsOn health links trails clock old wanted new
   key_on {old} {now} {new} none room under key =
       let it = under.stands in
@@ -207,10 +208,10 @@ module _ {H L T C : Type 0} (health : HealthGhosts H) (links : LinksGhosts L) (t
       }) key.asks key.state
 
   pub went_on : {old now : Snapshot (Parts H L T C)} (wanted : Step) (new : Snapshot (Parts H L T C)) → old.state.owes ≡ false → length old.state.outbox < reply_bound
-      → IsAtKey health links trails clock old now → WentOn health.steps trails.records now.state.work now wanted new
+      → IsAtKey health links trails clock old now → WentOn (recording health.steps trails.records) now.state.work now (stepped wanted new)
       → IsOn health links trails clock old wanted new
   went_on {old} {now} wanted new none room key went =
-      key_on none room key.under (subst (λ w. WentOn health.steps trails.records w now wanted new) key.at went)
+      key_on none room key.under (subst (λ w. WentOn (recording health.steps trails.records) w now (stepped wanted new)) key.at went)
 
   -- the first key of a request is to be asked for
   first_under : {old : Snapshot (Parts H L T C)} {it : Request} {one : OneKey} {told : T} {to : Reading} → Emits old.state.reading (item.Request it) to
@@ -234,7 +235,7 @@ module _ {H L T C : Type 0} (health : HealthGhosts H) (links : LinksGhosts L) (t
   -- the next item was read
   item_on : {servers : H → ℕ} {old new : Snapshot (Parts H L T C)} {wanted : Step} → IsSettled old.state
       → length old.state.outbox < reply_bound → Stays servers old.parts new.parts
-      → ItemRead health.steps trails.records old wanted new → IsOn health links trails clock old wanted new
+      → ItemRead (recording health.steps trails.records) old (stepped wanted new) → IsOn health links trails clock old wanted new
   unfolding NeedsMore
   item_on {servers} {old} {new} {wanted} settled room stays (driven.none needs is same) =
       let over : IsOver health links trails clock progress.NeedsInput old old = record {
@@ -249,7 +250,7 @@ module _ {H L T C : Type 0} (health : HealthGhosts H) (links : LinksGhosts L) (t
       let read : SessionState = record old.state { reading = new.state.reading } in
       let then : SessionState = record read { outbox = old.state.outbox ++ fault_text fault } in
       let over : IsOver health links trails clock (progress_after fault) old (snapshot then old.parts) = record {
-        answered = answered_fault health links trails clock old.state read then old.parts fault (progress_after fault) emits refl refl refl settled.unowed room;
+        answered = answered_fault (parts_ghosts health links trails clock) old.state read then old.parts fault (progress_after fault) emits refl refl refl settled.unowed room;
         more = λ is needs. needs _ _ emits;
         unowed = λ no. refl;
         between = settled.between;
@@ -276,16 +277,16 @@ module _ {H L T C : Type 0} (health : HealthGhosts H) (links : LinksGhosts L) (t
 
   pub read_on : {servers : H → ℕ} (old : Snapshot (Parts H L T C)) (wanted : Step) (new : Snapshot (Parts H L T C)) → IsSettled old.state
       → length old.state.outbox < reply_bound → Stays servers old.parts new.parts
-      → WentOn health.steps trails.records old.state.work old wanted new → IsOn health links trails clock old wanted new
+      → WentOn (recording health.steps trails.records) old.state.work old (stepped wanted new) → IsOn health links trails clock old wanted new
   read_on old wanted new settled room stays went =
-      item_on settled room stays (subst (λ w. WentOn health.steps trails.records w old wanted new) settled.between went)
+      item_on settled room stays (subst (λ w. WentOn (recording health.steps trails.records) w old (stepped wanted new)) settled.between went)
 
   -- what came of a send was recorded
   pub outcome_on : {old now new : Snapshot (Parts H L T C)} {clear : ℕ} {it : Asking} {wanted : Step} {after : L} {got : Outcome} → old.state.owes ≡ false
       → length old.state.outbox < reply_bound → IsUnder health links trails progress.More old (answer.Asks clear it) now
       → IsExchange (upstream health links) now.parts.backend.links (record { server = clear; request = it.key.request; result = Ok got }) after
       → ((server : ℕ) → links.probed after server ≡ links.probed now.parts.backend.links server)
-      → OutcomeTaken health.steps trails.records got it (snapshot now.state (record now.parts { backend = record now.parts.backend { links = after } })) wanted new
+      → OutcomeTaken (recording health.steps trails.records) (send_outcome it got) (snapshot now.state (record now.parts { backend = record now.parts.backend { links = after } })) (stepped wanted new)
       → IsOn health links trails clock old wanted new
   outcome_on {old} {now} {new} none room under exchange unprobed outcome =
       let sending = under.stands in
@@ -320,7 +321,7 @@ module _ {H L T C : Type 0} (health : HealthGhosts H) (links : LinksGhosts L) (t
 
   -- where a key was asked for
   key_dropped : {old now new : Snapshot (Parts H L T C)} {one : OneKey} → old.state.owes ≡ false
-      → IsUnder health links trails progress.More old (answer.Next one) now → KeyDropped health.steps trails.records one now new
+      → IsUnder health links trails progress.More old (answer.Next one) now → KeyDropped (recording health.steps trails.records) one now new
       → IsCut health links trails clock old new
   key_dropped none under key =
       let it = under.stands in
@@ -328,17 +329,17 @@ module _ {H L T C : Type 0} (health : HealthGhosts H) (links : LinksGhosts L) (t
       (ap (λ s. s.work) key.state)
 
   pub key_cut : {old now : Snapshot (Parts H L T C)} (new : Snapshot (Parts H L T C)) → old.state.owes ≡ false
-      → IsAtKey health links trails clock old now → WasDropped health.steps trails.records now.state.work now new
+      → IsAtKey health links trails clock old now → WasDropped (recording health.steps trails.records) now.state.work now new
       → IsCut health links trails clock old new
   key_cut {old} {now} new none key lost =
-      key_dropped none key.under (subst (λ w. WasDropped health.steps trails.records w now new) key.at lost)
+      key_dropped none key.under (subst (λ w. WasDropped (recording health.steps trails.records) w now new) key.at lost)
 
   -- where the outcome was recorded
   pub outcome_cut : {old now : Snapshot (Parts H L T C)} {clear : ℕ} {it : Asking} {after : L} {got : Outcome} (new : Snapshot (Parts H L T C)) → old.state.owes ≡ false
       → IsUnder health links trails progress.More old (answer.Asks clear it) now
       → IsExchange (upstream health links) now.parts.backend.links (record { server = clear; request = it.key.request; result = Ok got }) after
       → ((server : ℕ) → links.probed after server ≡ links.probed now.parts.backend.links server)
-      → OutcomeDropped health.steps trails.records got it (snapshot now.state (record now.parts { backend = record now.parts.backend { links = after } })) new
+      → OutcomeDropped (recording health.steps trails.records) (send_outcome it got) (snapshot now.state (record now.parts { backend = record now.parts.backend { links = after } })) new
       → IsCut health links trails clock old new
   outcome_cut new none under exchange unprobed outcome =
       let sending = under.stands in
@@ -365,7 +366,7 @@ module _ {H L T C : Type 0} (health : HealthGhosts H) (links : LinksGhosts L) (t
 module _ {H L T C : Type 0} (health : HealthGhosts H) (links : LinksGhosts L) (trails : TrailsGhosts T) (clock : ClockGhosts C) where
   -- a request was read and begun, and memory ran out
   begun_cut : {old new : Snapshot (Parts H L T C)} (it : Request) → IsSettled old.state → Emits old.state.reading (item.Request it) new.state.reading
-      → turn.IsRequestCut health.steps links.exchanges links.sent links.probed trails.records it old.parts new.parts
+      → turn.IsRequestCut (parts_ghosts health links trails clock) it old.parts new.parts
       → new.state ≡ begun_at (record old.state { reading = new.state.reading })
       → IsCut health links trails clock old new
   begun_cut {old} {new} it settled emits cut is =
@@ -377,7 +378,7 @@ module _ {H L T C : Type 0} (health : HealthGhosts H) (links : LinksGhosts L) (t
         between = ap (λ (s : SessionState). s.work) is ∙ settled.between;
       }
 
-  item_cut : {old new : Snapshot (Parts H L T C)} → IsSettled old.state → ItemDropped health.steps trails.records old new
+  item_cut : {old new : Snapshot (Parts H L T C)} → IsSettled old.state → ItemDropped (recording health.steps trails.records) old new
       → IsCut health links trails clock old new
   item_cut {old} {new} settled (driven.unanswered is same) = record {
     part =
@@ -393,10 +394,10 @@ module _ {H L T C : Type 0} (health : HealthGhosts H) (links : LinksGhosts L) (t
       key_dropped health links trails clock settled.unowed (first_under health links trails clock emits recorded first) lost
 
   -- memory ran out where the next item was read
-  pub read_cut : (old new : Snapshot (Parts H L T C)) → IsSettled old.state → WasDropped health.steps trails.records old.state.work old new
+  pub read_cut : (old new : Snapshot (Parts H L T C)) → IsSettled old.state → WasDropped (recording health.steps trails.records) old.state.work old new
       → IsCut health links trails clock old new
   read_cut old new settled lost =
-      item_cut settled (subst (λ w. WasDropped health.steps trails.records w old new) settled.between lost)
+      item_cut settled (subst (λ w. WasDropped (recording health.steps trails.records) w old new) settled.between lost)
 
 module _ {H L T C : Type 0} {health : HealthGhosts H} {links : LinksGhosts L} {trails : TrailsGhosts T} {clock : ClockGhosts C} {old now : Snapshot (Parts H L T C)} {wanted : Step} where
   -- what a session is at that asks for this

@@ -1,14 +1,16 @@
 -- Laws of events: these and then those, and what a round leaves.
-use Rattle.std.proofs.Common.{◌≡◌, ℕ, ◌+◌, Bool, true, false, List, [], ◌∷◌, ◌++◌, Option, Some, None, refl, ap, ◌∙◌, cond}
+use Rattle.std.proofs.Common.{◌≡◌, ℕ, ◌+◌, Bool, false, List, [], ◌∷◌, ◌++◌, Option, Some, None, refl, ap, subst, ◌∙◌, cond, inl, inr}
+use Rattle.std.proofs.lemmas.Bool.{cases_Bool}
 use Rattle.std.proofs.lemmas.Grind.{flat_map-append}
 use Rattle.std.specs.List.{list_any}
 use Rattle.std.proofs.lemmas.List.Folds.{list_any-append}
 use Rattle.std.proofs.lemmas.List.Sums.{sum_by-append}
-use Rattle.tko_health.specs.declared.health.Health.{Ghosts as HealthGhosts}
-use Rattle.tko_links.specs.declared.links.Links.{Ghosts as LinksGhosts}
-use Rattle.tko_backend.specs.declared.clock.Clock.{Ghosts as ClockGhosts}
 use Rattle.tko_answer.specs.declared.parts.Parts.{Parts}
-use Rattle.tko_turns.specs.Events.{Event, IsRun, NoneShort, idle_rounds, is_idle_round, owed_after, owed_from, owed_then, turn_in, turns_of, visits_in, visits_of}
+use Rattle.tko_turns.specs.Events.{Event, NoneShort, Rounded, idle_rounds, is_idle_round, owed_after, owed_from, owed_then, turn_in, turns_of, visits_in, visits_of}
+use Rattle.std.specs.Prelude.{MatchBool}
+use Rattle.tko_turns.specs.Ends.{IsRun, NoneRun}
+use Rattle.tko_turns.specs.Ghosts.{BackendGhosts}
+use Rattle.tko_turns.specs.SessionState.{Snapshot}
 use Rattle.tko_backend.specs.Probers.{NoneMarked}
 use Rattle.tko_backend.proofs.BegunLemmas.{round-begun}
 use Rattle.tko_backend.specs.Round.{is_probe, probes_in, ran_out}
@@ -46,9 +48,13 @@ pub order-append : (first mid last : Bool) (events more : List Event) → owed_a
 order-append first mid last events more front back =
     owed-append (Some first) events more ∙ ap (λ owed. owed_from owed more) front ∙ back
 
-module _ {H L T C : Type 0} {health : HealthGhosts H} {links : LinksGhosts L} {clock : ClockGhosts C} where
+module _ {H L T C : Type 0} {ghosts : BackendGhosts H L C} where
   -- after the round that was owed, if one was
-  pub begun_paid : {old new : Parts H L T C} {short : Bool} (owes : Bool) → (owes ≡ false → NoneMarked old.backend.probers)
-      → IsRun health links clock owes short old new → NoneMarked new.backend.probers
-  begun_paid true keeps run = round-begun run.ran.round
-  begun_paid false keeps run = rw run.ran.same (keeps refl)
+  pub begun_paid : {mid : Snapshot (Parts H L T C)} {new : Parts H L T C} {short : Bool}
+      → (mid.state.owes ≡ false → NoneMarked mid.parts.backend.probers) → IsRun ghosts mid short new → NoneMarked new.backend.probers
+  begun_paid {mid} {new} {short} keeps run =
+      let P : Bool → Type 0 = λ owes. MatchBool owes (Rounded ghosts short mid.parts new) (NoneRun short mid.parts new) in
+      elim (cases_Bool mid.state.owes) [
+        | inl owed ↦ round-begun (subst P owed run.ran).round
+        | inr none ↦ rw (subst P none run.ran).same (keeps none)
+      ]

@@ -15,25 +15,23 @@ use Rattle.tko_text.specs.declared.fault.TextFault.TheVariants as fault
 use Rattle.tko_text.specs.declared.request.Request.{Request}
 use Rattle.tko_text.specs.declared.request.Request.TheVariants as asked
 use Rattle.tko_text.specs.Requests.{fault_text}
-use Rattle.tko_health.specs.declared.health.Health.{Ghosts as HealthGhosts}
-use Rattle.tko_links.specs.declared.links.Links.{Ghosts as LinksGhosts}
-use Rattle.tko_backend.specs.declared.clock.Clock.{Ghosts as ClockGhosts}
-use Rattle.tko_answer.specs.declared.trails.Trails.{Ghosts as TrailsGhosts}
 use Rattle.tko_answer.specs.declared.parts.Parts.{Parts}
 use Rattle.tko_text.specs.Reading.{Reading, Gives, NeedsMore, Emits}
 use Rattle.tko_route.specs.Trail.{sends_in}
 use Rattle.tko_answer.specs.Replies.{trails_in}
-use Rattle.tko_turns.specs.Effects.{effects}
-use Rattle.tko_turns.specs.Events.{Answer, Effects, Event, IdleRound, IsRun, NoneRun, RoundAfter, Rounded, turns_of}
+use Rattle.tko_turns.specs.Effects.{effects_of}
+use Rattle.tko_turns.specs.Events.{Answer, Effects, Event, IdleRound, RoundAfter, Rounded, turns_of}
+use Rattle.tko_turns.specs.Ends.{IsRun, NoneRun}
+use Rattle.tko_turns.specs.Ghosts.{PartsGhosts}
 use Rattle.tko_backend.specs.Round.{probes_in, ran_out}
-use Rattle.tko_turns.specs.Turns.{Turn, is_request}
+use Rattle.tko_turns.specs.Turns.{Turn, is_request, refused}
 use Rattle.tko_turns.specs.declared.step.Progress.{Progress}
 use Rattle.tko_turns.specs.declared.step.Progress.TheVariants.{More, NeedsInput}
 use Rattle.tko_turns.specs.declared.step.Progress.TheVariants as progress
 use Rattle.tko_io.specs.Io.{capped}
 use Rattle.tko_io.proofs.WriteLemmas.{capped-more}
 use Rattle.tko_answer.specs.Replies.{reply_bound, sends_to}
-use Rattle.tko_turns.specs.SessionState.{CountsRise, SessionState, Snapshot, Turned, Answered, AnsweredPart, Replied, Continues, EndsWith, GoesOn, InSession, IsBehind, ProgressIs, BeginBelowBound, progress_after, progress_of, snapshot, items_of, text_of, trails_of, requests_in, line_too_long, quit, cut_short, no_more}
+use Rattle.tko_turns.specs.SessionState.{CountsRise, SessionState, Snapshot, Turned, Answered, AnsweredPart, Replied, Continues, EndsWith, GoesOn, InSession, IsBehind, ProgressIs, BeginBelowBound, progress_after, progress_of, snapshot, items_of, text_of, trails_of, requests_in, line_too_long, quit, cut_short, no_more, stop_point}
 use Rattle.tko_text.proofs.GivesLemmas.{Gives-none, Gives-one, Gives-append}
 use Rattle.tko_turns.proofs.EventLemmas.{idles-append, order-append, probes-append, short-append, turns-append}
 use Rattle.tko_text.proofs.NeverLemmas.{ends_reading}
@@ -185,7 +183,7 @@ below-append outbox mid events more is front back =
 module _ {W : Type 0} {cut : Request → W → W → Type 0} where
   -- what was done behind items was done behind all of them
   behind_after : {left : Reading} {reached : W} {new : Snapshot W} (items more : List Item) → GoesOn items
-      → IsBehind cut more left reached new → IsBehind cut (items ++ more) left reached new
+      → IsBehind cut (stop_point more left reached) new → IsBehind cut (stop_point (items ++ more) left reached) new
   behind_after items more goes (no_more same none) = no_more same none
   behind_after items more goes (cut_short it to going emits is owed) =
       cut_short it to (goes_on-append items more goes going) emits is owed
@@ -207,7 +205,7 @@ module _ {W : Type 0} {does : Effects W} where
 
   -- memory ran out before the first event was complete
   part_behind : (old new : SessionState) {before after : W} → new.outbox ≡ old.outbox → old.owes ≡ false
-      → IsBehind does.cut [] old.reading before (snapshot new after) → AnsweredPart does (snapshot old before) (snapshot new after)
+      → IsBehind does.cut (stop_point [] old.reading before) (snapshot new after) → AnsweredPart does (snapshot old before) (snapshot new after)
   part_behind old new {before} {after} same none behind = record {
     events = [];
     left = old.reading;
@@ -306,7 +304,7 @@ module _ {W : Type 0} {does : Effects W} where
     in_session = events_in_session front.events back.events front.progress_is back.in_session;
     outbox = waiting-append old.state.outbox mid.state.outbox new.state.outbox front.events back.events front.outbox back.outbox;
     behind =
-        subst (λ items. IsBehind does.cut items back.left back.reached new) (sym (items-append front.events back.events))
+        subst (λ items. IsBehind does.cut (stop_point items back.left back.reached) new) (sym (items-append front.events back.events))
         (behind_after (items_of (turns_of front.events)) (items_of (turns_of back.events)) front.progress_is back.behind);
   }
 
@@ -327,24 +325,24 @@ module _ {W : Type 0} {does : Effects W} where
     behind = no_more refl none;
   }
 
-module _ {H L T C : Type 0} (health : HealthGhosts H) (links : LinksGhosts L) (trails : TrailsGhosts T) (clock : ClockGhosts C) where
+module _ {H L T C : Type 0} (ghosts : PartsGhosts H L T C) where
   -- a fault is answered, which changes nothing but the outbox
   pub answered_fault : (old mid new : SessionState) (world : Parts H L T C) (fault : TextFault) (progress : Progress)
       → Emits old.reading (item.Fault fault) mid.reading → mid ≡ record old { reading = mid.reading }
       → new ≡ record mid { outbox = mid.outbox ++ fault_text fault } → progress ≡ progress_after fault
       → old.owes ≡ false → length old.outbox < reply_bound
-      → Answered (effects health links trails clock) progress (snapshot old world) (snapshot new world)
+      → Answered (effects_of ghosts) progress (snapshot old world) (snapshot new world)
   answered_fault old mid new world fault progress told same e is none room = record {
     events = Answer (record { item = item.Fault fault; routed = []; text = fault_text fault }) ∷ [];
     turned = record {
       gives = subst (λ to. Gives old.reading (item.Fault fault ∷ []) to) (sym (ap (λ s. s.reading) e)) (Gives-one _ _ _ told);
-      gains = gains_one (refl, refl, refl);
+      gains = gains_one (refused fault refl refl refl refl);
       order =
           let owes : new.owes ≡ false = ap (λ s. s.owes) e ∙ ap (λ s. s.owes) same ∙ none in
           rw (none, owes) refl;
       counts = record {
-        sends = λ server. sym (add-zero (links.sent world.backend.links server));
-        probes = λ server. sym (add-zero (links.probed world.backend.links server));
+        sends = λ server. sym (add-zero (ghosts.backend.sent world.backend.links server));
+        probes = λ server. sym (add-zero (ghosts.backend.probed world.backend.links server));
       };
       memory = refl;
       requests = ap capped (ap (λ s. s.requests) e ∙ ap (λ s. s.requests) same ∙ sym (add-zero old.requests));
@@ -368,13 +366,13 @@ unpaid {W} {short} {mid} {state} {after} none run paid =
     let same : state ≡ mid.state = paid ∙ sym (ap (λ owes. record mid.state { owes = owes }) none) in
     ap (λ it. snapshot it after) same ∙ ap (λ it. snapshot mid.state it) run.same
 
-module _ {H L T C : Type 0} {health : HealthGhosts H} {links : LinksGhosts L} {trails : TrailsGhosts T} {clock : ClockGhosts C} where
+module _ {H L T C : Type 0} {ghosts : PartsGhosts H L T C} where
   -- a request was replied to, and its round is owed
   pub answered_request : (old mid new : SessionState) (before after : Parts H L T C) (it : Request) (progress : Progress)
       → Emits old.reading (item.Request it) mid.reading → mid ≡ record old { reading = mid.reading }
-      → Replied health links trails (snapshot mid before) it (snapshot new after) → progress ≡ progress_of it
+      → Replied ghosts (snapshot mid before) it (snapshot new after) → progress ≡ progress_of it
       → old.owes ≡ false → length old.outbox < reply_bound
-      → Answered (effects health links trails clock) progress (snapshot old before) (snapshot new after)
+      → Answered (effects_of ghosts) progress (snapshot old before) (snapshot new after)
   answered_request old mid new before after it progress told same replied is none room = record {
     events = Answer (record { item = item.Request it; routed = replied.routed; text = replied.text }) ∷ [];
     turned = record {
@@ -384,8 +382,8 @@ module _ {H L T C : Type 0} {health : HealthGhosts H} {links : LinksGhosts L} {t
       counts = record {
         sends = λ server.
             replied.sends server
-            ∙ ap (λ trails. links.sent before.backend.links server + sends_to server trails) (sym (append-nil (trails_in replied.routed)));
-        probes = λ server. replied.probes server ∙ sym (add-zero (links.probed before.backend.links server));
+            ∙ ap (λ trails. ghosts.backend.sent before.backend.links server + sends_to server trails) (sym (append-nil (trails_in replied.routed)));
+        probes = λ server. replied.probes server ∙ sym (add-zero (ghosts.backend.probed before.backend.links server));
       };
       memory = refl;
       requests = replied.requests ∙ ap (λ s. capped (s.requests + 1)) same;
@@ -400,25 +398,25 @@ module _ {H L T C : Type 0} {health : HealthGhosts H} {links : LinksGhosts L} {t
   }
 
   -- a round that was owed adds its probes to the counts
-  counts_round : {short : Bool} {between after : Parts H L T C} → (rounded : Rounded health links clock short between after)
-      → CountsRise (effects health links trails clock) between (RoundAfter rounded.round.visits ∷ []) after
+  counts_round : {short : Bool} {between after : Parts H L T C} → (rounded : Rounded ghosts.backend short between after)
+      → CountsRise (effects_of ghosts) between (RoundAfter rounded.round.visits ∷ []) after
   counts_round {short} {between} {after} rounded = record {
-    sends = λ server. rounded.sends server ∙ sym (add-zero (links.sent between.backend.links server));
+    sends = λ server. rounded.sends server ∙ sym (add-zero (ghosts.backend.sent between.backend.links server));
     probes = λ server.
         rounded.round.probes server
-        ∙ ap (λ visits. links.probed between.backend.links server + probes_in server visits) (sym (append-nil rounded.round.visits));
+        ∙ ap (λ visits. ghosts.backend.probed between.backend.links server + probes_in server visits) (sym (append-nil rounded.round.visits));
   }
 
   -- so does one at an idle turn
-  pub counts_idle : {short : Bool} {between after : Parts H L T C} → (rounded : Rounded health links clock short between after)
-      → CountsRise (effects health links trails clock) between (IdleRound rounded.round.visits ∷ []) after
+  pub counts_idle : {short : Bool} {between after : Parts H L T C} → (rounded : Rounded ghosts.backend short between after)
+      → CountsRise (effects_of ghosts) between (IdleRound rounded.round.visits ∷ []) after
   counts_idle {short} {between} {after} rounded = let counted = counts_round rounded in
       record { sends = counted.sends; probes = counted.probes }
 
   -- the round that was owed is an event
   turned_round : {mid : Snapshot (Parts H L T C)} {state : SessionState} {after : Parts H L T C} → mid.state.owes ≡ true
-      → (rounded : Rounded health links clock false mid.parts after) → state ≡ record mid.state { owes = false }
-      → Turned (effects health links trails clock) mid (RoundAfter rounded.round.visits ∷ []) (snapshot state after)
+      → (rounded : Rounded ghosts.backend false mid.parts after) → state ≡ record mid.state { owes = false }
+      → Turned (effects_of ghosts) mid (RoundAfter rounded.round.visits ∷ []) (snapshot state after)
   turned_round {mid} {state} {after} owed rounded paid = record {
     gives = subst (Gives mid.state.reading []) (sym (ap (λ s. s.reading) paid)) (Gives-none mid.state.reading);
     gains = gains_one (record { short = false; round = rounded.round; visited = refl; others = rounded.others; sends = rounded.sends });
@@ -432,9 +430,9 @@ module _ {H L T C : Type 0} {health : HealthGhosts H} {links : LinksGhosts L} {t
 
   -- the round that was owed was run
   pub answered_round : {progress : Progress} {old mid : Snapshot (Parts H L T C)} {state : SessionState} {after : Parts H L T C}
-      → Answered (effects health links trails clock) progress old mid
-      → mid.state.owes ≡ true → Rounded health links clock false mid.parts after → state ≡ record mid.state { owes = false }
-      → Answered (effects health links trails clock) progress old (snapshot state after)
+      → Answered (effects_of ghosts) progress old mid
+      → mid.state.owes ≡ true → Rounded ghosts.backend false mid.parts after → state ≡ record mid.state { owes = false }
+      → Answered (effects_of ghosts) progress old (snapshot state after)
   answered_round {progress} {old} {mid} {state} {after} front owed rounded paid =
       let visits = rounded.round.visits in
       let items = items-append front.events (RoundAfter visits ∷ []) ∙ append-nil (items_of (turns_of front.events)) in
@@ -452,23 +450,23 @@ module _ {H L T C : Type 0} {health : HealthGhosts H} {links : LinksGhosts L} {t
 
   -- the round that was owed, if one was
   pub answered_paid : {progress : Progress} {old mid : Snapshot (Parts H L T C)} {state : SessionState} {after : Parts H L T C}
-      → Answered (effects health links trails clock) progress old mid
-      → IsRun health links clock mid.state.owes false mid.parts after → state ≡ record mid.state { owes = false }
-      → Answered (effects health links trails clock) progress old (snapshot state after)
+      → Answered (effects_of ghosts) progress old mid
+      → IsRun ghosts.backend mid false after → state ≡ record mid.state { owes = false }
+      → Answered (effects_of ghosts) progress old (snapshot state after)
   answered_paid {progress} {old} {mid} {state} {after} front run paid =
-      let P : Bool → Type 0 = λ owes. MatchBool owes (Rounded health links clock false mid.parts after) (NoneRun false mid.parts after) in
+      let P : Bool → Type 0 = λ owes. MatchBool owes (Rounded ghosts.backend false mid.parts after) (NoneRun false mid.parts after) in
       elim (cases_Bool mid.state.owes) [
         | inl owed ↦ answered_round front owed (subst P owed run.ran) paid
         | inr none ↦
-            subst (λ it. Answered (effects health links trails clock) progress old it)
+            subst (λ it. Answered (effects_of ghosts) progress old it)
             (sym (unpaid none (subst P none run.ran) paid)) front
       ]
 
   -- the round that was owed was run, and memory ran out in it or did not
   part_round : {progress : Progress} {short : Bool} {old mid : Snapshot (Parts H L T C)} {state : SessionState} {after : Parts H L T C}
-      → Answered (effects health links trails clock) progress old mid
-      → mid.state.owes ≡ true → Rounded health links clock short mid.parts after → state ≡ record mid.state { owes = false }
-      → AnsweredPart (effects health links trails clock) old (snapshot state after)
+      → Answered (effects_of ghosts) progress old mid
+      → mid.state.owes ≡ true → Rounded ghosts.backend short mid.parts after → state ≡ record mid.state { owes = false }
+      → AnsweredPart (effects_of ghosts) old (snapshot state after)
   part_round {progress} {short} {old} {mid} {state} {after} front owed rounded paid =
       let last : List Event = RoundAfter rounded.round.visits ∷ [] in
       let items = items-append front.events last ∙ append-nil (items_of (turns_of front.events)) in
@@ -491,22 +489,22 @@ module _ {H L T C : Type 0} {health : HealthGhosts H} {links : LinksGhosts L} {t
 
   -- the same where a round was owed or none was
   pub part_paid : {progress : Progress} {short : Bool} {old mid : Snapshot (Parts H L T C)} {state : SessionState} {after : Parts H L T C}
-      → Answered (effects health links trails clock) progress old mid
-      → IsRun health links clock mid.state.owes short mid.parts after → state ≡ record mid.state { owes = false }
-      → AnsweredPart (effects health links trails clock) old (snapshot state after)
+      → Answered (effects_of ghosts) progress old mid
+      → IsRun ghosts.backend mid short after → state ≡ record mid.state { owes = false }
+      → AnsweredPart (effects_of ghosts) old (snapshot state after)
   part_paid {progress} {short} {old} {mid} {state} {after} front run paid =
-      let P : Bool → Type 0 = λ owes. MatchBool owes (Rounded health links clock short mid.parts after) (NoneRun short mid.parts after) in
+      let P : Bool → Type 0 = λ owes. MatchBool owes (Rounded ghosts.backend short mid.parts after) (NoneRun short mid.parts after) in
       elim (cases_Bool mid.state.owes) [
         | inl owed ↦ part_round front owed (subst P owed run.ran) paid
         | inr none ↦
-            subst (λ it. AnsweredPart (effects health links trails clock) old it)
+            subst (λ it. AnsweredPart (effects_of ghosts) old it)
             (sym (unpaid none (subst P none run.ran) paid)) (part_of front none)
       ]
 
   -- the round at an idle turn is an event
   pub turned_idle : {here : SessionState} {between after : Parts H L T C} → here.owes ≡ false
-      → (rounded : Rounded health links clock false between after)
-      → Turned (effects health links trails clock) (snapshot here between) (IdleRound rounded.round.visits ∷ []) (snapshot here after)
+      → (rounded : Rounded ghosts.backend false between after)
+      → Turned (effects_of ghosts) (snapshot here between) (IdleRound rounded.round.visits ∷ []) (snapshot here after)
   turned_idle {here} {between} {after} none rounded = record {
     gives = Gives-none here.reading;
     gains = gains_one (record { short = false; round = rounded.round; visited = refl; others = rounded.others; sends = rounded.sends });

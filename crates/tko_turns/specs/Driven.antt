@@ -1,7 +1,6 @@
 -- A session as a value that is driven: what each of its calls does. A request that is answered is
 -- one of three: the session is between two items, a key is to be asked for, or a send is out.
-use Rattle.std.specs.Prelude.{◌≡◌, ℕ, ◌+◌, true, List, [], ◌∷◌, ◌++◌, Ok, length, take}
-use Rattle.tko_model.specs.Records.{HealthItem}
+use Rattle.std.specs.Prelude.{◌≡◌, ℕ, ◌+◌, true, List, [], ◌∷◌, ◌++◌, length, take}
 use Rattle.tko_text.specs.Reading.{Emits, NeedsMore}
 use Rattle.tko_text.specs.Requests.{fault_text}
 use Rattle.tko_text.specs.SentRequests.{without_noreply}
@@ -13,7 +12,7 @@ use Rattle.tko_pools.specs.Configs.{Configuration, targets_of}
 use Rattle.tko_io.specs.Io.{capped}
 use Rattle.tko_answer.specs.Answers.{AnswersItself, request_keys}
 use Rattle.tko_answer.specs.Asking.{AfterSend, BeginsAt, Goes, GoesCut, IsBeginCut, IsFirst, IsKeyBeginCut, IsSent, course_of}
-use Rattle.tko_answer.specs.TrailEvents.{TrailEvent, Asked}
+use Rattle.tko_answer.specs.TrailEvents.{Asked}
 use Rattle.tko_answer.specs.declared.asking.Answer.{Answer}
 use Rattle.tko_answer.specs.declared.asking.Answer.TheVariants as answer
 use Rattle.tko_answer.specs.declared.asking.Asking.{Asking}
@@ -25,6 +24,7 @@ use Rattle.tko_turns.specs.declared.step.Step.{Step}
 use Rattle.tko_turns.specs.declared.step.Step.TheVariants as step
 use Rattle.tko_turns.specs.declared.step.Work.{Work}
 use Rattle.tko_turns.specs.declared.step.Work.TheVariants as work
+use Rattle.tko_turns.specs.Ghosts.{Recording}
 use Rattle.tko_turns.specs.SessionState.{SessionState, Snapshot, progress_after, progress_of, snapshot}
 
 -- what the session asks for, where an answer came so far
@@ -84,72 +84,91 @@ IsReadyFor config state (work.Awaits it) = IsOut config state it
 abbrev pub IsReady : Configuration → SessionState → Type 0
 IsReady config state = IsReadyFor config state state.work
 
-module _ {H L T C : Type 0} (steps : H → HealthItem → H → Type 0)
-    (records : T → TrailEvent → T → Type 0) where
+-- what a call of a session leads to: what it asks for next, and the session then
+pub record Stepped (W : Type 0) : Type 0 where
+  pub wanted : Step
+  pub session : Snapshot W
+
+abbrev pub stepped : {W : Type 0} → Step → Snapshot W → Stepped W
+stepped wanted session = record { wanted = wanted; session = session }
+
+-- a send, and what came of it
+pub record SendOutcome : Type 0 where
+  pub asking : Asking
+  pub outcome : Outcome
+
+abbrev pub send_outcome : Asking → Outcome → SendOutcome
+send_outcome asking outcome = record { asking = asking; outcome = outcome }
+
+module _ {H L T C : Type 0} (ghosts : Recording H T) where
   -- a key was asked for over its targets
-  pub record KeyBegun (one : OneKey) (old : Snapshot (Parts H L T C)) (wanted : Step)
-      (new : Snapshot (Parts H L T C)) : Type 0 where
+  pub record KeyBegun (one : OneKey) (old : Snapshot (Parts H L T C))
+      (to : Stepped (Parts H L T C)) : Type 0 where
     pub at : Answer
-    pub goes : Goes steps records
-        (course_of old.parts.config new.state.targets one (without_noreply one.request))
-        (λ more. more) (old.parts, old.state.outbox) at (new.parts, new.state.outbox)
+    pub goes : Goes ghosts.steps ghosts.records
+        (course_of old.parts.config to.session.state.targets one (without_noreply one.request))
+        (λ more. more) (old.parts, old.state.outbox) at
+        (to.session.parts, to.session.state.outbox)
     pub targets : (key : List ℕ) → request_keys one.request ≡ key ∷ []
-        → new.state.targets ≡ targets_of old.parts.config key
-    pub asks : wanted ≡ step_of progress.More at
-    pub state : new.state ≡ went at
-        (record old.state { outbox = new.state.outbox; targets = new.state.targets })
+        → to.session.state.targets ≡ targets_of old.parts.config key
+    pub asks : to.wanted ≡ step_of progress.More at
+    pub state : to.session.state ≡ went at (record old.state {
+      outbox = to.session.state.outbox;
+      targets = to.session.state.targets;
+    })
 
   -- memory ran out there, and its request was dropped
   pub record KeyDropped (one : OneKey) (old new : Snapshot (Parts H L T C)) : Type 0 where
     pub cut : (key : List ℕ) → request_keys one.request ≡ key ∷ []
-        → IsKeyBeginCut steps records
+        → IsKeyBeginCut ghosts.steps ghosts.records
         (course_of old.parts.config (targets_of old.parts.config key) one
         (without_noreply one.request)) old.parts new.parts
     pub state : new.state ≡ record (dropped old.state) { targets = new.state.targets }
 
   -- a request was recorded; the proxy answered it itself, or its first key was asked for
-  pub data RequestBegun (request : Request) (old : Snapshot (Parts H L T C)) (wanted : Step)
-      (new : Snapshot (Parts H L T C)) : Type 0 where
-    itself : (told : T) (text : List ℕ) → records old.parts.trails (Asked request) told
-        → AnswersItself steps request (record old.parts { trails = told }) text new.parts
-        → wanted ≡ step.At (progress_of request)
-        → new.state ≡ went answer.Done
+  pub data RequestBegun (request : Request) (old : Snapshot (Parts H L T C))
+      (to : Stepped (Parts H L T C)) : Type 0 where
+    itself : (told : T) (text : List ℕ) → ghosts.records old.parts.trails (Asked request) told
+        → AnswersItself ghosts.steps request (record old.parts { trails = told }) text
+        to.session.parts
+        → to.wanted ≡ step.At (progress_of request)
+        → to.session.state ≡ went answer.Done
         (record (begun_at old.state) { outbox = old.state.outbox ++ text })
-        → RequestBegun request old wanted new
-    by_key : (told : T) (one : OneKey) → records old.parts.trails (Asked request) told
+        → RequestBegun request old to
+    by_key : (told : T) (one : OneKey) → ghosts.records old.parts.trails (Asked request) told
         → IsFirst request (length old.state.outbox) one
-        → KeyBegun one (snapshot (begun_at old.state) (record old.parts { trails = told }))
-        wanted new
-        → RequestBegun request old wanted new
+        → KeyBegun one (snapshot (begun_at old.state) (record old.parts { trails = told })) to
+        → RequestBegun request old to
 
   -- memory ran out there: while the request was recorded, after that, or at its first key
   pub data RequestDropped (request : Request) (old new : Snapshot (Parts H L T C)) : Type 0 where
     unrecorded : new.parts ≡ record old.parts { trails = new.parts.trails }
         → new.state ≡ begun_at old.state → RequestDropped request old new
-    recorded : (told : T) → records old.parts.trails (Asked request) told
-        → IsBeginCut steps request (record old.parts { trails = told }) new.parts
+    recorded : (told : T) → ghosts.records old.parts.trails (Asked request) told
+        → IsBeginCut ghosts.steps request (record old.parts { trails = told }) new.parts
         → new.state ≡ begun_at old.state → RequestDropped request old new
-    at_key : (told : T) (one : OneKey) → records old.parts.trails (Asked request) told
+    at_key : (told : T) (one : OneKey) → ghosts.records old.parts.trails (Asked request) told
         → IsFirst request (length old.state.outbox) one
         → KeyDropped one (snapshot (begun_at old.state) (record old.parts { trails = told })) new
         → RequestDropped request old new
 
   -- no item is decided; or the next one is a fault, which is answered; or a request, which is begun
-  pub data ItemRead (old : Snapshot (Parts H L T C)) (wanted : Step)
-      (new : Snapshot (Parts H L T C)) : Type 0 where
-    none : NeedsMore old.state.reading → wanted ≡ step.At progress.NeedsInput → new ≡ old
-        → ItemRead old wanted new
-    refused : (fault : TextFault) → Emits old.state.reading (item.Fault fault) new.state.reading
-        → wanted ≡ step.At (progress_after fault)
-        → new ≡ snapshot (record old.state {
-          reading = new.state.reading;
+  pub data ItemRead (old : Snapshot (Parts H L T C)) (to : Stepped (Parts H L T C))
+      : Type 0 where
+    none : NeedsMore old.state.reading → to.wanted ≡ step.At progress.NeedsInput
+        → to.session ≡ old → ItemRead old to
+    refused : (fault : TextFault)
+        → Emits old.state.reading (item.Fault fault) to.session.state.reading
+        → to.wanted ≡ step.At (progress_after fault)
+        → to.session ≡ snapshot (record old.state {
+          reading = to.session.state.reading;
           outbox = old.state.outbox ++ fault_text fault;
         }) old.parts
-        → ItemRead old wanted new
-    asked : (it : Request) → Emits old.state.reading (item.Request it) new.state.reading
+        → ItemRead old to
+    asked : (it : Request) → Emits old.state.reading (item.Request it) to.session.state.reading
         → RequestBegun it
-        (snapshot (record old.state { reading = new.state.reading }) old.parts) wanted new
-        → ItemRead old wanted new
+        (snapshot (record old.state { reading = to.session.state.reading }) old.parts) to
+        → ItemRead old to
 
   -- memory ran out there: nothing was done but to read; or a request was dropped
   pub data ItemDropped (old new : Snapshot (Parts H L T C)) : Type 0 where
@@ -161,10 +180,10 @@ module _ {H L T C : Type 0} (steps : H → HealthItem → H → Type 0)
         → ItemDropped old new
 
   -- the session went on: to the next item; or to a key
-  abbrev pub WentOn : Work → Snapshot (Parts H L T C) → Step → Snapshot (Parts H L T C) → Type 0
-  WentOn work.Between old wanted new = ItemRead old wanted new
-  WentOn (work.AtKey one) old wanted new = KeyBegun one old wanted new
-  WentOn (work.Awaits it) old wanted new = ⊥
+  abbrev pub WentOn : Work → Snapshot (Parts H L T C) → Stepped (Parts H L T C) → Type 0
+  WentOn work.Between old to = ItemRead old to
+  WentOn (work.AtKey one) old to = KeyBegun one old to
+  WentOn (work.Awaits it) old to = ⊥
 
   abbrev pub WasDropped : Work → Snapshot (Parts H L T C) → Snapshot (Parts H L T C) → Type 0
   WasDropped work.Between old new = ItemDropped old new
@@ -172,19 +191,22 @@ module _ {H L T C : Type 0} (steps : H → HealthItem → H → Type 0)
   WasDropped (work.Awaits it) old new = ⊥
 
   -- what came of the send was recorded
-  pub record OutcomeTaken (outcome : Outcome) (it : Asking) (old : Snapshot (Parts H L T C))
-      (wanted : Step) (new : Snapshot (Parts H L T C)) : Type 0 where
+  pub record OutcomeTaken (came : SendOutcome) (old : Snapshot (Parts H L T C))
+      (to : Stepped (Parts H L T C)) : Type 0 where
     pub at : Answer
-    pub goes : AfterSend old.parts.config it outcome (λ original calls. Goes steps records
-        (course_of old.parts.config old.state.targets it.key original) calls
-        (old.parts, old.state.outbox) at (new.parts, new.state.outbox))
-    pub asks : wanted ≡ step_of progress.More at
-    pub state : new.state ≡ went at (record old.state { outbox = new.state.outbox })
+    pub goes : AfterSend old.parts.config came.asking came.outcome
+        (λ original calls. Goes ghosts.steps ghosts.records
+        (course_of old.parts.config old.state.targets came.asking.key original) calls
+        (old.parts, old.state.outbox) at (to.session.parts, to.session.state.outbox))
+    pub asks : to.wanted ≡ step_of progress.More at
+    pub state : to.session.state
+        ≡ went at (record old.state { outbox = to.session.state.outbox })
 
   -- memory ran out there, and the request was dropped
-  pub record OutcomeDropped (outcome : Outcome) (it : Asking) (old new : Snapshot (Parts H L T C))
+  pub record OutcomeDropped (came : SendOutcome) (old new : Snapshot (Parts H L T C))
       : Type 0 where
-    pub cut : AfterSend old.parts.config it outcome (λ original calls. GoesCut steps records
-        (course_of old.parts.config old.state.targets it.key original) calls
+    pub cut : AfterSend old.parts.config came.asking came.outcome
+        (λ original calls. GoesCut ghosts.steps ghosts.records
+        (course_of old.parts.config old.state.targets came.asking.key original) calls
         old.parts new.parts)
     pub state : new.state ≡ dropped old.state

@@ -6,15 +6,19 @@ use Rattle.tko_answer.specs.declared.trails.Trails.{Ghosts as TrailsGhosts}
 use Rattle.tko_answer.specs.declared.parts.Parts.{Parts}
 use Rattle.tko_turns.specs.Turns.{IsRequestCut}
 use Rattle.tko_turns.specs.Events.{Effects, IsEvent}
+use Rattle.tko_turns.specs.Ghosts.{PartsGhosts, parts_ghosts}
 use Rattle.tko_turns.specs.SessionState.{probed_by, sent_by}
+
+-- the effects on parts that show this
+abbrev pub effects_of : {H L T C : Type 0} → PartsGhosts H L T C → Effects (Parts H L T C)
+effects_of ghosts = record {
+  step = IsEvent ghosts;
+  cut = IsRequestCut ghosts;
+  sent = sent_by ghosts.backend.sent;
+  probed = probed_by ghosts.backend.probed;
+}
 
 -- the effects on parts with this health, these links, these trails and this clock
 abbrev pub effects : {H L T C : Type 0} → HealthGhosts H → LinksGhosts L → TrailsGhosts T
     → ClockGhosts C → Effects (Parts H L T C)
-effects health links trails clock = record {
-  step = IsEvent health.steps health.grants links.exchanges links.sent links.probed trails.records
-      clock.reads;
-  cut = IsRequestCut health.steps links.exchanges links.sent links.probed trails.records;
-  sent = sent_by links.sent;
-  probed = probed_by links.probed;
-}
+effects health links trails clock = effects_of (parts_ghosts health links trails clock)

@@ -1,16 +1,11 @@
 -- What items are answered from, and how answering them ends.
-use Rattle.std.specs.Prelude.{◌≡◌, false, Result, Ok, Err}
+use Rattle.std.specs.Prelude.{◌≡◌, Bool, false, MatchBool, Result, Ok, Err}
 use Rattle.tko_bytes.specs.declared.memory.NoMemory.{NoMemory}
-use Rattle.tko_health.specs.declared.health.Health.{Ghosts as HealthGhosts}
-use Rattle.tko_links.specs.declared.links.Links.{Ghosts as LinksGhosts}
-use Rattle.tko_backend.specs.declared.clock.Clock.{Ghosts as ClockGhosts}
-use Rattle.tko_answer.specs.Answers.{Reaches}
 use Rattle.tko_answer.specs.declared.parts.Parts.{Parts}
-use Rattle.tko_answer.specs.declared.trails.Trails.{Ghosts as TrailsGhosts}
 use Rattle.tko_turns.specs.declared.step.Progress.{Progress}
 use Rattle.tko_turns.specs.declared.step.Work.TheVariants.{Between}
-use Rattle.tko_turns.specs.Effects.{effects}
-use Rattle.tko_turns.specs.Events.{Effects}
+use Rattle.tko_turns.specs.Events.{Effects, Rounded}
+use Rattle.tko_turns.specs.Ghosts.{BackendGhosts}
 use Rattle.tko_turns.specs.SessionState.{Answered, AnsweredPart, SessionState, Snapshot}
 
 -- no request is being answered, and no round is owed
@@ -24,13 +19,22 @@ abbrev pub AnsweringEnds : {W : Type 0} → Effects W → Snapshot W → Result 
 AnsweringEnds effects old (Ok progress) new = Answered effects progress old new
 AnsweringEnds effects old (Err fault) new = AnsweredPart effects old new
 
-module _ {H L T C : Type 0} (health : HealthGhosts H) (links : LinksGhosts L)
-    (trails : TrailsGhosts T) (clock : ClockGhosts C) where
-  -- how the answering of one item ends: the probers are as they were unless its round is owed
-  pub record ItemEnds (old : Snapshot (Parts H L T C)) (result : Result Progress NoMemory)
-      (new : Snapshot (Parts H L T C)) : Type 0 where
-    pub ends : AnsweringEnds (effects health links trails clock) old result new
-    pub unowed : new.state.owes ≡ false
-        → new.parts.backend.probers ≡ old.parts.backend.probers
-    pub between : new.state.work ≡ Between
-    pub reach : Reaches health.servers links.servers new.parts
+-- how the answering of one item ends: the probers are as they were unless its round is owed
+pub record ItemEnds {H L T C : Type 0} (effects : Effects (Parts H L T C))
+    (old : Snapshot (Parts H L T C)) (result : Result Progress NoMemory)
+    (new : Snapshot (Parts H L T C)) : Type 0 where
+  pub ends : AnsweringEnds effects old result new
+  pub unowed : new.state.owes ≡ false
+      → new.parts.backend.probers ≡ old.parts.backend.probers
+  pub between : new.state.work ≡ Between
+
+-- nothing was done, for which no memory is needed
+pub record NoneRun {W : Type 0} (short : Bool) (old new : W) : Type 0 where
+  pub never_short : short ≡ false
+  pub same : new ≡ old
+
+-- a round was run where one was owed, and else nothing was done; memory ran out or did not
+pub record IsRun {H L T C : Type 0} (ghosts : BackendGhosts H L C)
+    (old : Snapshot (Parts H L T C)) (short : Bool) (new : Parts H L T C) : Type 0 where
+  pub ran : MatchBool old.state.owes (Rounded ghosts short old.parts new)
+      (NoneRun short old.parts new)

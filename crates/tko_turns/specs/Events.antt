@@ -1,15 +1,10 @@
 -- What a session does, in order: it answers items, and runs rounds of its probers.
-use Rattle.std.specs.Prelude.{◌≡◌, ℕ, Bool, true, false, List, [], ◌∷◌, count_by, flat_map, MatchBool, Option, Some, None}
+use Rattle.std.specs.Prelude.{◌≡◌, ℕ, Bool, true, false, List, [], ◌∷◌, count_by, flat_map, Option, Some, None}
 use Rattle.std.specs.List.{list_any}
-use Rattle.tko_model.specs.Records.{HealthItem}
-use Rattle.tko_health.specs.declared.health.Health.{Ghosts as HealthGhosts}
-use Rattle.tko_links.specs.Links.{LinksItem}
-use Rattle.tko_links.specs.declared.links.Links.{Ghosts as LinksGhosts}
-use Rattle.tko_backend.specs.declared.clock.Clock.{Ghosts as ClockGhosts}
 use Rattle.tko_text.specs.declared.request.Request.{Request}
 use Rattle.tko_answer.specs.declared.parts.Parts.{Parts}
 use Rattle.tko_backend.specs.Round.{IsRound, Visit, ran_out}
-use Rattle.tko_answer.specs.TrailEvents.{TrailEvent}
+use Rattle.tko_turns.specs.Ghosts.{BackendGhosts, PartsGhosts}
 use Rattle.tko_turns.specs.Turns.{Turn, IsTurn, is_request}
 
 -- an item and what became of it, the round after a request, or the round at an idle turn of the
@@ -75,39 +70,29 @@ pub record Effects (W : Type 0) : Type 1 where
   pub sent : W → ℕ → ℕ
   pub probed : W → ℕ → ℕ
 
-module _ {H L T C : Type 0} (steps : H → HealthItem → H → Type 0) (grants : H → ℕ → Type 0)
-    (exchanges : L → LinksItem → L → Type 0) (sent probed : L → ℕ → ℕ)
-    (records : T → TrailEvent → T → Type 0) (reads : C → ℕ → C → Type 0) where
-  -- a round with these visits, in which nothing was sent to a server but its probes
-  pub record IsRoundOf (visits : List Visit) (old new : Parts H L T C) : Type 0 where
-    pub short : Bool
-    pub round : IsRound steps grants exchanges probed reads old.backend short new.backend
-    pub visited : round.visits ≡ visits
-    pub others : new ≡ record old { backend = new.backend }
-    pub sends : (server : ℕ) → sent new.backend.links server ≡ sent old.backend.links server
-
-  -- what an event changes
-  abbrev pub IsEvent : Parts H L T C → Event → Parts H L T C → Type 0
-  IsEvent old (Answer turn) new = IsTurn steps exchanges sent records old turn new
-  IsEvent old (RoundAfter visits) new = IsRoundOf visits old new
-  IsEvent old (IdleRound visits) new = IsRoundOf visits old new
-
--- nothing was done, for which no memory is needed
-pub record NoneRun {W : Type 0} (short : Bool) (old new : W) : Type 0 where
-  pub never_short : short ≡ false
-  pub same : new ≡ old
-
-module _ {H L T C : Type 0} (health : HealthGhosts H) (links : LinksGhosts L)
-    (clock : ClockGhosts C) where
+module _ {H L T C : Type 0} (ghosts : BackendGhosts H L C) where
   -- a round was run, in which memory ran out or did not, and nothing was sent to a server but its
   -- probes
   pub record Rounded (short : Bool) (old new : Parts H L T C) : Type 0 where
-    pub round : IsRound health.steps health.grants links.exchanges links.probed clock.reads
+    pub round : IsRound ghosts.steps ghosts.grants ghosts.exchanges ghosts.probed ghosts.reads
         old.backend short new.backend
     pub others : new ≡ record old { backend = new.backend }
     pub sends : (server : ℕ)
-        → links.sent new.backend.links server ≡ links.sent old.backend.links server
+        → ghosts.sent new.backend.links server ≡ ghosts.sent old.backend.links server
 
-  -- a round was run where one was owed, and else nothing was done; memory ran out or did not
-  pub record IsRun (owes short : Bool) (old new : Parts H L T C) : Type 0 where
-    pub ran : MatchBool owes (Rounded short old new) (NoneRun short old new)
+  -- a round with these visits, in which nothing was sent to a server but its probes
+  pub record IsRoundOf (visits : List Visit) (old new : Parts H L T C) : Type 0 where
+    pub short : Bool
+    pub round : IsRound ghosts.steps ghosts.grants ghosts.exchanges ghosts.probed ghosts.reads
+        old.backend short new.backend
+    pub visited : round.visits ≡ visits
+    pub others : new ≡ record old { backend = new.backend }
+    pub sends : (server : ℕ)
+        → ghosts.sent new.backend.links server ≡ ghosts.sent old.backend.links server
+
+-- what an event changes
+abbrev pub IsEvent : {H L T C : Type 0} → PartsGhosts H L T C → Parts H L T C → Event
+    → Parts H L T C → Type 0
+IsEvent ghosts old (Answer turn) new = IsTurn ghosts old turn new
+IsEvent ghosts old (RoundAfter visits) new = IsRoundOf ghosts.backend visits old new
+IsEvent ghosts old (IdleRound visits) new = IsRoundOf ghosts.backend visits old new

@@ -9,10 +9,7 @@ use Rattle.tko_text.specs.declared.request.Request.{Request}
 use Rattle.tko_text.specs.declared.request.Request.TheVariants.{Quit}
 use Rattle.tko_text.specs.Reading.{Reading, Never, Emits, Gives, NeedsMore, start, fed}
 use Rattle.tko_route.specs.declared.attempt.Attempt.{Attempt}
-use Rattle.tko_health.specs.declared.health.Health.{Ghosts as HealthGhosts}
-use Rattle.tko_links.specs.declared.links.Links.{Ghosts as LinksGhosts}
 use Rattle.tko_answer.specs.declared.parts.Parts.{Parts}
-use Rattle.tko_answer.specs.declared.trails.Trails.{Ghosts as TrailsGhosts}
 use Rattle.tko_turns.specs.declared.step.Progress.{Progress}
 use Rattle.tko_turns.specs.declared.step.Progress.TheVariants as progress
 use Rattle.tko_turns.specs.declared.step.Work.{Work}
@@ -21,7 +18,8 @@ use Rattle.tko_turns.specs.Events.{Effects, Event, NoneShort, idle_rounds, owed_
 use Rattle.tko_io.specs.Io.{capped}
 use Rattle.tko_answer.specs.Replies.{RoutedKey, reply_bound, sends_to, trails_in}
 use Rattle.tko_backend.specs.Round.{probes_in}
-use Rattle.tko_turns.specs.Turns.{Turn, Becomes, is_request}
+use Rattle.tko_turns.specs.Ghosts.{PartsGhosts}
+use Rattle.tko_turns.specs.Turns.{IsTurn, Turn, is_request}
 
 -- how far the input was read, the replies that wait to be written, the number of requests, and
 -- whether the round after the last request is still to be run; and, while a request is answered,
@@ -144,30 +142,41 @@ probed_by probed parts server = probed parts.backend.links server
 
 -- a request was recorded and answered: one more, its reply is at the end of the outbox, and its
 -- round is owed
-pub record Replied {H L T C : Type 0} (health : HealthGhosts H) (links : LinksGhosts L)
-    (trails : TrailsGhosts T) (old : Snapshot (Parts H L T C)) (request : Request)
-    (new : Snapshot (Parts H L T C)) : Type 0 where
+pub record Replied {H L T C : Type 0} (ghosts : PartsGhosts H L T C)
+    (old : Snapshot (Parts H L T C)) (request : Request) (new : Snapshot (Parts H L T C))
+    : Type 0 where
   pub routed : List RoutedKey
   pub text : List ℕ
-  pub becomes : Becomes health.steps links.exchanges links.sent trails.records
-      old.parts (item.Request request) routed text new.parts
+  pub becomes : IsTurn ghosts old.parts
+      (record { item = item.Request request; routed = routed; text = text }) new.parts
   pub sends : (server : ℕ)
-      → links.sent new.parts.backend.links server
-      ≡ links.sent old.parts.backend.links server + sends_to server (trails_in routed)
+      → ghosts.backend.sent new.parts.backend.links server
+      ≡ ghosts.backend.sent old.parts.backend.links server + sends_to server (trails_in routed)
   pub probes : (server : ℕ)
-      → links.probed new.parts.backend.links server ≡ links.probed old.parts.backend.links server
+      → ghosts.backend.probed new.parts.backend.links server
+      ≡ ghosts.backend.probed old.parts.backend.links server
   pub reading : new.state.reading ≡ old.state.reading
   pub outbox : new.state.outbox ≡ old.state.outbox ++ text
   pub requests : capped new.state.requests ≡ capped (old.state.requests + 1)
   pub owes : new.state.owes ≡ true
 
+-- where answering stops: after these items, with this left to read, and with these parts
+pub record StopPoint (W : Type 0) : Type 0 where
+  pub items : List Item
+  pub left : Reading
+  pub parts : W
+
+abbrev pub stop_point : {W : Type 0} → List Item → Reading → W → StopPoint W
+stop_point items left parts = record { items = items; left = left; parts = parts }
+
 -- what was done after the last of these items where memory ran out: nothing; or the next item is a
 -- request that was cut short, and its round is owed
-pub data IsBehind {W : Type 0} (cut : Request → W → W → Type 0) (items : List Item)
-    (left : Reading) (reached : W) (new : Snapshot W) : Type 0 where
-  no_more : new.parts ≡ reached → new.state.owes ≡ false → IsBehind cut items left reached new
-  cut_short : (it : Request) (to : Reading) → GoesOn items → Emits left (item.Request it) to
-      → cut it reached new.parts → new.state.owes ≡ true → IsBehind cut items left reached new
+pub data IsBehind {W : Type 0} (cut : Request → W → W → Type 0) (stop : StopPoint W)
+    (new : Snapshot W) : Type 0 where
+  no_more : new.parts ≡ stop.parts → new.state.owes ≡ false → IsBehind cut stop new
+  cut_short : (it : Request) (to : Reading) → GoesOn stop.items
+      → Emits stop.left (item.Request it) to → cut it stop.parts new.parts
+      → new.state.owes ≡ true → IsBehind cut stop new
 
 module _ {W : Type 0} (effects : Effects W) where
   -- the counts of sends rose by the sends in the trails of these events, the counts of probes by
@@ -211,4 +220,4 @@ module _ {W : Type 0} (effects : Effects W) where
     pub idles : idle_rounds events ≡ 0
     pub in_session : InSession (items_of (turns_of events))
     pub outbox : new.state.outbox ≡ old.state.outbox ++ text_of (turns_of events)
-    pub behind : IsBehind effects.cut (items_of (turns_of events)) left reached new
+    pub behind : IsBehind effects.cut (stop_point (items_of (turns_of events)) left reached) new

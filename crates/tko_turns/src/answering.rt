@@ -5,8 +5,8 @@ ghost use Rattle.tko_backend.specs.Probers.{AreQuiet, NoneMarked};
 ghost use Rattle.tko_answer.specs.Answers.{Reaches};
 ghost use Rattle.tko_answer.specs.Replies.{reply_bound};
 ghost use Rattle.tko_turns.specs.Effects.{effects};
-ghost use Rattle.tko_turns.specs.Ends.{AnsweringEnds, IsSettled, ItemEnds};
-ghost use Rattle.tko_turns.specs.Events.{IsRun};
+ghost use Rattle.tko_turns.specs.Ends.{AnsweringEnds, IsRun, IsSettled, ItemEnds};
+ghost use Rattle.tko_turns.specs.Ghosts.{backend_ghosts};
 ghost use Rattle.tko_turns.specs.SessionState.{snapshot};
 ghost use Rattle.tko_turns.specs.declared.step.Work.TheVariants.{Between};
 
@@ -63,8 +63,8 @@ pub fn run_owed_round<R: IoRuntime, H: Health, L: Links, T, C: Clock>(
     parts: &mut Parts<H, L, T, C>,
 ) -> Result<(), NoMemory>
     requires reach { Reaches H.servers L.servers parts.old }
-    ensures round { IsRun H.Health L.Links C.Clock session.old.owes (is_err result)
-        parts.old parts.new }
+    ensures round { IsRun (backend_ghosts H.Health L.Links C.Clock)
+        (snapshot session.old parts.old) (is_err result) parts.new }
     ensures none_owed { session.new ≡ record session.old { owes = false } }
     ensures begun { session.old.owes ≡ true → NoneMarked parts.new.backend.probers }
     ensures reach { Reaches H.servers L.servers parts.new }
@@ -115,9 +115,10 @@ fn answer_item<R: IoRuntime, H: Health, L: Links, T: Trails, C: Clock>(
     requires reach { Reaches H.servers L.servers parts.old }
     requires settled { IsSettled session.old }
     requires room { length session.old.outbox < reply_bound }
-    ensures ends { ItemEnds H.Health L.Links T.Trails C.Clock
+    ensures ends { ItemEnds (effects H.Health L.Links T.Trails C.Clock)
         (snapshot session.old parts.old) result (snapshot session.new parts.new) }
     ensures more { result ≡ Ok Progress.More → ¬ NeedsMore session.old.reading }
+    ensures reach { Reaches H.servers L.servers parts.new }
 {
     let mut step = session.next(rt, alloc, parts)?;
     for _ in rt.forever() {

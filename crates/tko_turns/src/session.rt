@@ -5,7 +5,8 @@ ghost use Rattle.tko_text.specs.Reading.{Emits, NeedsMore, Never};
 ghost use Rattle.tko_text.specs.Requests.{fault_text};
 ghost use Rattle.tko_answer.specs.Asking.{BeginsAt, HasServers, Stays, with_noted};
 ghost use Rattle.tko_answer.specs.Replies.{reply_bound};
-ghost use Rattle.tko_turns.specs.Driven.{IsAwaiting, IsOut, IsReady, KeyBegun, KeyDropped, ItemDropped, ItemRead, MayGoOn, OutcomeDropped, OutcomeTaken, RequestBegun, RequestDropped, WasDropped, WentOn, dropped, step_of, went};
+ghost use Rattle.tko_turns.specs.Driven.{IsAwaiting, IsOut, IsReady, KeyBegun, KeyDropped, ItemDropped, ItemRead, MayGoOn, OutcomeDropped, OutcomeTaken, RequestBegun, RequestDropped, WasDropped, WentOn, dropped, send_outcome, step_of, stepped, went};
+ghost use Rattle.tko_turns.specs.Ghosts.{recording};
 ghost use Rattle.tko_turns.specs.SessionState.{fed_state, fresh, progress_after, progress_of, snapshot};
 
 use crate::step::{Progress, Report, Step, Work};
@@ -87,9 +88,9 @@ impl Session {
         requires servers { HasServers H.servers parts.old }
         requires ready { IsReady parts.old.config self.old }
         requires may { MayGoOn self.old.work }
-        ensures ok { IfOk result (λ step. WentOn H.steps T.records self.old.work
-            (snapshot self.old parts.old) step (snapshot self.new parts.new)) }
-        ensures err { OnErr result (WasDropped H.steps T.records self.old.work
+        ensures ok { IfOk result (λ step. WentOn (recording H.steps T.records) self.old.work
+            (snapshot self.old parts.old) (stepped step (snapshot self.new parts.new))) }
+        ensures err { OnErr result (WasDropped (recording H.steps T.records) self.old.work
             (snapshot self.old parts.old) (snapshot self.new parts.new)) }
         ensures ready { OnOk result (IsReady parts.new.config self.new) }
         ensures stays { Stays H.servers parts.old parts.new }
@@ -127,10 +128,10 @@ impl Session {
         requires ready { IsReady parts.old.config self.old }
         requires awaiting { IsAwaiting self.old.work }
         ensures ok { IfOk result (λ step. (it : Asking) → self.old.work ≡ Work.Awaits it
-            → OutcomeTaken H.steps T.records outcome it
-            (snapshot self.old parts.old) step (snapshot self.new parts.new)) }
+            → OutcomeTaken (recording H.steps T.records) (send_outcome it outcome)
+            (snapshot self.old parts.old) (stepped step (snapshot self.new parts.new))) }
         ensures err { OnErr result ((it : Asking) → self.old.work ≡ Work.Awaits it
-            → OutcomeDropped H.steps T.records outcome it
+            → OutcomeDropped (recording H.steps T.records) (send_outcome it outcome)
             (snapshot self.old parts.old) (snapshot self.new parts.new)) }
         ensures ready { OnOk result (IsReady parts.new.config self.new) }
         ensures stays { Stays H.servers parts.old parts.new }
@@ -252,9 +253,9 @@ impl Session {
     ) -> Result<Step, NoMemory>
         requires servers { HasServers H.servers parts.old }
         requires between { self.old.work ≡ Work.Between }
-        ensures ok { IfOk result (λ step. ItemRead H.steps T.records
-            (snapshot self.old parts.old) step (snapshot self.new parts.new)) }
-        ensures err { OnErr result (ItemDropped H.steps T.records
+        ensures ok { IfOk result (λ step. ItemRead (recording H.steps T.records)
+            (snapshot self.old parts.old) (stepped step (snapshot self.new parts.new))) }
+        ensures err { OnErr result (ItemDropped (recording H.steps T.records)
             (snapshot self.old parts.old) (snapshot self.new parts.new)) }
         ensures ready { OnOk result (IsReady parts.new.config self.new) }
         ensures stays { Stays H.servers parts.old parts.new }
@@ -297,9 +298,9 @@ impl Session {
     ) -> Result<Step, NoMemory>
         requires servers { HasServers H.servers parts.old }
         requires between { self.old.work ≡ Work.Between }
-        ensures ok { IfOk result (λ step. RequestBegun H.steps T.records request
-            (snapshot self.old parts.old) step (snapshot self.new parts.new)) }
-        ensures err { OnErr result (RequestDropped H.steps T.records request
+        ensures ok { IfOk result (λ step. RequestBegun (recording H.steps T.records) request
+            (snapshot self.old parts.old) (stepped step (snapshot self.new parts.new))) }
+        ensures err { OnErr result (RequestDropped (recording H.steps T.records) request
             (snapshot self.old parts.old) (snapshot self.new parts.new)) }
         ensures ready { OnOk result (IsReady parts.new.config self.new) }
         ensures stays { Stays H.servers parts.old parts.new }
@@ -319,6 +320,7 @@ impl Session {
     }
 
     /// Begins a key of a request.
+    #[inline(always)]
     fn begin_key<R: IoRuntime, H: Health, L, T: Trails, C>(
         &mut self,
         rt: &R,
@@ -328,9 +330,9 @@ impl Session {
     ) -> Result<Step, NoMemory>
         requires servers { HasServers H.servers parts.old }
         requires begins { BeginsAt self.old.begin key.share self.old.outbox }
-        ensures ok { IfOk result (λ step. KeyBegun H.steps T.records key
-            (snapshot self.old parts.old) step (snapshot self.new parts.new)) }
-        ensures err { OnErr result (KeyDropped H.steps T.records key
+        ensures ok { IfOk result (λ step. KeyBegun (recording H.steps T.records) key
+            (snapshot self.old parts.old) (stepped step (snapshot self.new parts.new))) }
+        ensures err { OnErr result (KeyDropped (recording H.steps T.records) key
             (snapshot self.old parts.old) (snapshot self.new parts.new)) }
         ensures ready { OnOk result (IsReady parts.new.config self.new) }
         ensures stays { Stays H.servers parts.old parts.new }
@@ -351,9 +353,11 @@ impl Session {
     ) -> Result<Step, NoMemory>
         requires servers { HasServers H.servers parts.old }
         requires out { IsOut parts.old.config self.old asking }
-        ensures ok { IfOk result (λ step. OutcomeTaken H.steps T.records outcome asking
-            (snapshot self.old parts.old) step (snapshot self.new parts.new)) }
-        ensures err { OnErr result (OutcomeDropped H.steps T.records outcome asking
+        ensures ok { IfOk result (λ step. OutcomeTaken (recording H.steps T.records)
+            (send_outcome asking outcome)
+            (snapshot self.old parts.old) (stepped step (snapshot self.new parts.new))) }
+        ensures err { OnErr result (OutcomeDropped (recording H.steps T.records)
+            (send_outcome asking outcome)
             (snapshot self.old parts.old) (snapshot self.new parts.new)) }
         ensures ready { OnOk result (IsReady parts.new.config self.new) }
         ensures stays { Stays H.servers parts.old parts.new }

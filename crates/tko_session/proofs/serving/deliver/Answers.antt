@@ -3,7 +3,7 @@ use Rattle.std.proofs.lemmas.List.{take-append-drop}
 use Rattle.std.proofs.lemmas.Result.{err_from_is_err_and}
 use Rattle.tko_turns.proofs.EventLemmas.{begun_paid}
 use Rattle.tko_turns.specs.SessionState.{SessionState, snapshot}
-use Rattle.tko_session.proofs.ServedLemmas.{delivered_of, ends_delivered, err_delivered, ok_delivered}
+use Rattle.tko_session.proofs.ServedLemmas.{all_of, ends_delivered, err_delivered, ok_delivered}
 use Rattle.tko_turns.proofs.TurnLemmas.{answered_paid}
 use Rattle.tko_session.proofs.serving.deliver.Goals as goal
 
@@ -18,14 +18,14 @@ returns-in_err-wrote-clause-ends g c =
     let text = c.answer-answered.new.session.outbox in
     let split = sym (take-append-drop wrote.part.count text) in
     rw (p.1, p.2, wrote.fault) (record {
-      part = ends_delivered {trails = g.T.Trails} (snapshot c.answer-answered.new.session c.answer-answered.new.parts) (take wrote.part.count text) (drop wrote.part.count text) c.answer-answered.result c.answer-answered.ensures.ends run c.requires.outbox split wrote.part.front;
+      part = ends_delivered (snapshot c.answer-answered.new.session c.answer-answered.new.parts) (take wrote.part.count text) (drop wrote.part.count text) c.answer-answered.result c.answer-answered.ensures.ends (record { ran = run.ran }) c.requires.outbox split wrote.part.front;
       counted = refl;
       failed = wrote.failed;
     })
 
 pub returns-in_err-wrote-clause-begun : goal.returns-in_err-wrote-clause-begun
 returns-in_err-wrote-clause-begun g c = λ begun.
-    begun_paid _ (c.answer-answered.ensures.begun begun) (rw c.in_err-wrote.ensures.kept at c.run_owed_round-rounded.ensures.round)
+    begun_paid (c.answer-answered.ensures.begun begun) (rw c.in_err-wrote.ensures.kept at c.run_owed_round-rounded.ensures.round)
 
 pub returns-in_err-wrote-clause-between : goal.returns-in_err-wrote-clause-between
 returns-in_err-wrote-clause-between g c =
@@ -41,13 +41,13 @@ returns-in_err-progress-clause-ends g c =
     let run = rw wrote.taken at c.run_owed_round-rounded.ensures.round in
     let text = c.answer-answered.new.session.outbox in
     rw (p.1, p.2) (record {
-      part = err_delivered {trails = g.T.Trails} text [] c.in_err-progress.ensures.ends run c.requires.outbox (sym (append-nil text)) wrote.all;
+      part = err_delivered text [] c.in_err-progress.ensures.ends (record { ran = run.ran }) c.requires.outbox (sym (append-nil text)) wrote.all;
       calm = wrote.calm;
     })
 
 pub returns-in_err-progress-clause-begun : goal.returns-in_err-progress-clause-begun
 returns-in_err-progress-clause-begun g c = λ begun.
-    begun_paid _ (c.answer-answered.ensures.begun begun) (rw c.in_ok-wrote.ensures.taken at c.run_owed_round-rounded.ensures.round)
+    begun_paid (c.answer-answered.ensures.begun begun) (rw c.in_ok-wrote.ensures.taken at c.run_owed_round-rounded.ensures.round)
 
 pub returns-in_err-progress-clause-between : goal.returns-in_err-progress-clause-between
 returns-in_err-progress-clause-between g c =
@@ -63,13 +63,13 @@ returns-in_err-rounded-clause-ends g c =
     let run = rw wrote.taken at c.in_err-rounded.ensures.round in
     let text = c.answer-answered.new.session.outbox in
     rw (p.1, p.2) (record {
-      part = ok_delivered {trails = g.T.Trails} text [] c.in_ok-progress.ensures.ends run c.requires.outbox (sym (append-nil text)) wrote.all;
+      part = ok_delivered text [] c.in_ok-progress.ensures.ends (record { ran = run.ran }) c.requires.outbox (sym (append-nil text)) wrote.all;
       calm = wrote.calm;
     })
 
 pub returns-in_err-rounded-clause-begun : goal.returns-in_err-rounded-clause-begun
 returns-in_err-rounded-clause-begun g c = λ begun.
-    begun_paid _ (c.answer-answered.ensures.begun begun) (rw c.in_ok-wrote.ensures.taken at c.run_owed_round-rounded.ensures.round)
+    begun_paid (c.answer-answered.ensures.begun begun) (rw c.in_ok-wrote.ensures.taken at c.run_owed_round-rounded.ensures.round)
 
 pub returns-in_err-rounded-clause-between : goal.returns-in_err-rounded-clause-between
 returns-in_err-rounded-clause-between g c =
@@ -83,16 +83,12 @@ returns-clause-ends g c =
     let wrote = c.in_ok-wrote.ensures in
     let run = rw wrote.taken at c.in_ok-rounded.ensures.round in
     let settled : SessionState = record c.answer-answered.new.session { owes = false } in
-    record {
-      delivered =
-          delivered_of (answered_paid {trails = g.T.Trails} {state = settled} c.in_ok-progress.ensures.ends run refl) c.requires.outbox refl wrote.all
-          (c.run_owed_round-rounded.ensures.none_owed ∙ ap (λ (s : SessionState). record s { owes = false }) wrote.taken);
-      calm = wrote.calm;
-    }
+    all_of (answered_paid {state = settled} c.in_ok-progress.ensures.ends (record { ran = run.ran }) refl) c.requires.outbox refl wrote.all
+    wrote.calm (c.run_owed_round-rounded.ensures.none_owed ∙ ap (λ (s : SessionState). record s { owes = false }) wrote.taken)
 
 pub returns-clause-begun : goal.returns-clause-begun
 returns-clause-begun g c = λ begun.
-    begun_paid _ (c.answer-answered.ensures.begun begun) (rw c.in_ok-wrote.ensures.taken at c.run_owed_round-rounded.ensures.round)
+    begun_paid (c.answer-answered.ensures.begun begun) (rw c.in_ok-wrote.ensures.taken at c.run_owed_round-rounded.ensures.round)
 
 pub returns-clause-between : goal.returns-clause-between
 returns-clause-between g c =

@@ -31,7 +31,7 @@ pub loop-preserved-in-Continue-branch-2 : goal.loop-preserved-in-Continue-branch
 loop-preserved-in-Continue-branch-2 g c =
     let read = c.in-Idle.ensures in
     let round = c.in_ok-round-in-Idle.ensures in (
-      so_far_idle {health = g.H.Health} {links = g.L.Links} {trails = g.T.Trails} g.met.I.Inlet.goes_on c.loop.invariant.0 read.piece read.idles
+      so_far_idle g.met.I.Inlet.goes_on c.loop.invariant.0 read.piece read.idles
           (record { round = round.round; others = round.others; sends = round.sends }),
       omega (arith, read.failures, c.loop.invariant.1),
       c.loop.invariant.2,
@@ -48,7 +48,7 @@ returns-in_err-round-in-Idle-clause-ends g c =
     let read = c.in-Idle.ensures in
     let round = c.in_err-round-in-Idle.ensures in
     rw (p.1, p.2) (
-      stopped_idle {health = g.H.Health} {links = g.L.Links} {trails = g.T.Trails} g.met.I.Inlet.goes_on c.loop.invariant.0 read.piece read.idles
+      stopped_idle g.met.I.Inlet.goes_on c.loop.invariant.0 read.piece read.idles
           (record { round = round.round; others = round.others; sends = round.sends }),
       record { reads = omega (arith, read.failures, c.loop.invariant.1); writes = c.loop.invariant.2 },
     )
@@ -82,7 +82,7 @@ loop-preserved g c =
     omega (arith, c.deref_mut.ensures.len, c.read_piece.auto.buffer) in
     let same : c.deref.result.now ≡ c.read_piece.new.buffer = c.deref.ensures.value ∙ take_at c.read_piece.new.buffer _ c.loop.buffer.len len in
     let more = so_far_more g.met.I.Inlet.goes_on g.met.O.Outlet.goes_on _ c.loop.invariant.0
-    (rw same read.piece.bytes) (omega (arith, read.idles)) all.delivered in (
+    (rw same read.piece.bytes) (omega (arith, read.idles)) all in (
       more,
       omega (arith, read.failures, c.loop.invariant.1),
       all.calm ∙ c.loop.invariant.2,
@@ -102,7 +102,7 @@ returns-then-quit-clause-ends g c =
     omega (arith, c.deref_mut.ensures.len, c.read_piece.auto.buffer) in
     let same : c.deref.result.now ≡ c.read_piece.new.buffer = c.deref.ensures.value ∙ take_at c.read_piece.new.buffer _ c.loop.buffer.len len in
     let more = so_far_more g.met.I.Inlet.goes_on g.met.O.Outlet.goes_on _ c.loop.invariant.0
-    (rw same read.piece.bytes) (omega (arith, read.idles)) all.delivered in (
+    (rw same read.piece.bytes) (omega (arith, read.idles)) all in (
       served_quit report.result more report.ensures.requests report.ensures.unfinished fits,
       record { reads = omega (arith, read.failures, c.loop.invariant.1); writes = all.calm ∙ c.loop.invariant.2 },
     )

@@ -4,13 +4,13 @@ use Rattle.tko_turns.specs.declared.step.Work.TheVariants.{Between}
 use Rattle.tko_backend.specs.Probers.{NoneMarked}
 use Rattle.tko_turns.specs.Effects.{effects}
 use Rattle.tko_answer.specs.Answers.{Reaches}
-use Rattle.tko_session.specs.Served.{ServedSoFar, context, delivery}
+use Rattle.tko_session.specs.Served.{ServedSoFar, context, delivery, serve_state, serving}
 use Rattle.tko_session.proofs.serving.serve.Given as goal
 
 abbrev pub invariant-loop : goal.invariant-loop
 invariant-loop g l =
-    ServedSoFar g.I.Inlet g.O.Outlet (effects g.H.Health g.L.Links g.T.Trails g.C.Clock) NeedsInput
-    (context l.fn.reader l.fn.writer l.fn.parts) l.reader (delivery l.session l.parts l.writer l.written)
+    ServedSoFar (serving g.I.Inlet g.O.Outlet (effects g.H.Health g.L.Links g.T.Trails g.C.Clock)) NeedsInput
+    (context l.fn.reader l.fn.writer l.fn.parts) (serve_state l.reader (delivery l.session l.parts l.writer l.written))
     × (g.I.Inlet.failures l.reader ≡ g.I.Inlet.failures l.fn.reader)
     × (g.O.Outlet.failures l.writer ≡ g.O.Outlet.failures l.fn.writer)
     × Reaches g.H.Health.servers g.L.Links.servers l.parts

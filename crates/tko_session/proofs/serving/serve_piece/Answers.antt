@@ -1,7 +1,7 @@
 use Rattle.std.proofs.Common.{ap, refl, Err, ◌∙◌}
 use Rattle.std.proofs.lemmas.Result.{err_from_is_err_and}
 use Rattle.tko_turns.specs.SessionState.{fed_state}
-use Rattle.tko_session.proofs.ServedLemmas.{all_append, delivered_none, delivered_append, not_delivered, not_taken, piece_stopped}
+use Rattle.tko_session.proofs.ServedLemmas.{all_append, all_none, not_delivered, not_taken, piece_stopped}
 use Rattle.tko_session.proofs.serving.serve_piece.Goals as goal
 
 pub returns-in_err-feed-clause-ends : goal.returns-in_err-feed-clause-ends
@@ -12,40 +12,39 @@ returns-in_err-feed-clause-ends g c =
 
 pub loop-init : goal.loop-init
 loop-init g c =
-    let none = delivered_none (fed_state c.args.session.now c.args.piece.now) c.args.parts.now c.args.writer.now c.args.written.now
+    let none = all_none (fed_state c.args.session.now c.args.piece.now) c.args.parts.now c.args.writer.now c.args.written.now
     (g.met.O.Outlet.nothing c.args.writer.now) c.requires.outbox c.requires.settled.unowed in
-    (rw c.in_ok-feed.ensures.ok none, refl, c.requires.reach, ap (λ s. s.work) c.in_ok-feed.ensures.ok ∙ c.requires.settled.between, λ begun. begun)
+    (rw c.in_ok-feed.ensures.ok none, c.requires.reach, ap (λ s. s.work) c.in_ok-feed.ensures.ok ∙ c.requires.settled.between, λ begun. begun)
 
 pub deliver-requires-clause-settled : goal.deliver-requires-clause-settled
-deliver-requires-clause-settled g c = record { between = c.loop.invariant.3; unowed = c.loop.invariant.0.owes }
+deliver-requires-clause-settled g c = record { between = c.loop.invariant.2; unowed = c.loop.invariant.0.delivered.owes }
 
 pub returns-in_err-deliver-clause-ends : goal.returns-in_err-deliver-clause-ends
 returns-in_err-deliver-clause-ends g c =
     let p = err_from_is_err_and c.from_residual-in_err-deliver.result c.from_residual-in_err-deliver.ensures.1 in
-    rw (p.1, p.2) (piece_stopped g.met.O.Outlet.goes_on c.in_err-deliver.field-0.0 _ c.loop.invariant.0 c.loop.invariant.1
+    rw (p.1, p.2) (piece_stopped g.met.O.Outlet.goes_on c.in_err-deliver.field-0.0 _ c.loop.invariant.0
     c.in_err-deliver.ensures.ends)
 
 pub loop-preserved : goal.loop-preserved
 loop-preserved g c =
     let more = rw c.in-More.is at c.in_ok-deliver.ensures.ends in (
-      delivered_append g.met.O.Outlet.goes_on c.loop.invariant.0 more.delivered,
-      more.calm ∙ c.loop.invariant.1,
+      all_append g.met.O.Outlet.goes_on c.loop.invariant.0 more,
       c.in_ok-deliver.ensures.reach,
       c.in_ok-deliver.ensures.between,
-      λ begun. c.in_ok-deliver.ensures.begun (c.loop.invariant.4 begun),
+      λ begun. c.in_ok-deliver.ensures.begun (c.loop.invariant.3 begun),
     )
 
 pub returns-in-NeedsInput-clause-ends : goal.returns-in-NeedsInput-clause-ends
 returns-in-NeedsInput-clause-ends g c =
     let last = rw c.in-NeedsInput.is at c.in_ok-deliver.ensures.ends in
-    all_append g.met.O.Outlet.goes_on c.loop.invariant.0 c.loop.invariant.1 last
+    all_append g.met.O.Outlet.goes_on c.loop.invariant.0 last
 
 pub returns-in-LineTooLong-clause-ends : goal.returns-in-LineTooLong-clause-ends
 returns-in-LineTooLong-clause-ends g c =
     let last = rw c.in-LineTooLong.is at c.in_ok-deliver.ensures.ends in
-    all_append g.met.O.Outlet.goes_on c.loop.invariant.0 c.loop.invariant.1 last
+    all_append g.met.O.Outlet.goes_on c.loop.invariant.0 last
 
 pub returns-in-Quit-clause-ends : goal.returns-in-Quit-clause-ends
 returns-in-Quit-clause-ends g c =
     let last = rw c.in-Quit.is at c.in_ok-deliver.ensures.ends in
-    all_append g.met.O.Outlet.goes_on c.loop.invariant.0 c.loop.invariant.1 last
+    all_append g.met.O.Outlet.goes_on c.loop.invariant.0 last

@@ -5,14 +5,14 @@ use Rattle.tko_backend.specs.Probers.{NoneMarked}
 use Rattle.tko_turns.specs.Effects.{effects}
 use Rattle.tko_answer.specs.Answers.{Reaches}
 use Rattle.tko_turns.specs.SessionState.{fed_state}
-use Rattle.tko_session.specs.Served.{Delivered, delivery}
+use Rattle.tko_session.specs.Ends.{AllDelivered}
+use Rattle.tko_session.specs.Served.{delivering, delivery}
 use Rattle.tko_session.proofs.serving.serve_piece.Given as goal
 
 abbrev pub invariant-loop : goal.invariant-loop
 invariant-loop g l =
-    Delivered g.O.Outlet (effects g.H.Health g.L.Links g.T.Trails g.C.Clock) 0 More
+    AllDelivered (delivering g.O.Outlet (effects g.H.Health g.L.Links g.T.Trails g.C.Clock)) More
     (delivery (fed_state l.fn.session l.piece) l.fn.parts l.fn.writer l.fn.written) (delivery l.session l.parts l.writer l.written)
-    × (g.O.Outlet.failures l.writer ≡ g.O.Outlet.failures l.fn.writer)
     × Reaches g.H.Health.servers g.L.Links.servers l.parts
     × (l.session.work ≡ Between)
     × (NoneMarked l.fn.parts.backend.probers → NoneMarked l.parts.backend.probers)

@@ -19,7 +19,10 @@ returns-in_err-step-clause-ends g c =
     let p = err_from_is_err_and c.from_residual.result c.from_residual.ensures.1 in
     let cut = read_cut g.H.Health g.L.Links g.T.Trails g.C.Clock (snapshot c.args.session.now c.args.parts.now) (snapshot c.next.new.self c.next.new.parts)
     c.requires.settled c.in_err-step.ensures.err in
-    rw (p.1, p.2) (record { ends = cut.part; unowed = cut.unowed; between = cut.between; reach = stays_reach c.requires.reach c.in_err-step.ensures.stays })
+    rw (p.1, p.2) (record { ends = cut.part; unowed = cut.unowed; between = cut.between })
+
+pub returns-in_err-step-clause-reach : goal.returns-in_err-step-clause-reach
+returns-in_err-step-clause-reach g c = stays_reach c.requires.reach c.in_err-step.ensures.stays
 
 pub loop-init : goal.loop-init
 loop-init g c = (
@@ -32,7 +35,7 @@ loop-init g c = (
 pub returns-in-At-clause-ends : goal.returns-in-At-clause-ends
 returns-in-At-clause-ends g c =
     let over = on_at c.in-At.is c.loop.invariant.0 in
-    record { ends = over.answered; unowed = over.unowed; between = over.between; reach = c.loop.invariant.2 }
+    record { ends = over.answered; unowed = over.unowed; between = over.between }
 
 pub returns-in-At-clause-more : goal.returns-in-At-clause-more
 returns-in-At-clause-more g c = λ is. (on_at c.in-At.is c.loop.invariant.0).more (same_ok _ _ _ refl is)
@@ -45,7 +48,10 @@ returns-in_err-step-in-Next-clause-ends g c =
     let p = err_from_is_err_and c.from_residual-in_err-step-in-Next.result c.from_residual-in_err-step-in-Next.ensures.1 in
     let cut = key_cut g.H.Health g.L.Links g.T.Trails g.C.Clock (snapshot c.next-in-Next.new.self c.next-in-Next.new.parts)
     c.requires.settled.unowed (on_next c.in-Next.is c.loop.invariant.0) c.in_err-step-in-Next.ensures.err in
-    rw (p.1, p.2) (record { ends = cut.part; unowed = cut.unowed; between = cut.between; reach = stays_reach c.loop.invariant.2 c.in_err-step-in-Next.ensures.stays })
+    rw (p.1, p.2) (record { ends = cut.part; unowed = cut.unowed; between = cut.between })
+
+pub returns-in_err-step-in-Next-clause-reach : goal.returns-in_err-step-in-Next-clause-reach
+returns-in_err-step-in-Next-clause-reach g c = stays_reach c.loop.invariant.2 c.in_err-step-in-Next.ensures.stays
 
 pub loop-preserved-in-Next : goal.loop-preserved-in-Next
 loop-preserved-in-Next g c = (
@@ -70,12 +76,10 @@ returns-in_err-step-in-Ok-clause-ends g c =
     (c.request.ensures out.it out.at) (record { item = came.record; spent = came.spent; sends = came.sends }) in
     let cut = outcome_cut g.H.Health g.L.Links g.T.Trails g.C.Clock (snapshot c.answered.new.self c.answered.new.parts)
     c.requires.settled.unowed out.under exchange came.probes (c.in_err-step-in-Ok.ensures.err out.it out.at) in
-    rw (p.1, p.2) (record {
-      ends = cut.part;
-      unowed = cut.unowed;
-      between = cut.between;
-      reach = stays_reach (linked_reach c.loop.invariant.2 came.servers) c.in_err-step-in-Ok.ensures.stays;
-    })
+    rw (p.1, p.2) (record { ends = cut.part; unowed = cut.unowed; between = cut.between })
+
+pub returns-in_err-step-in-Ok-clause-reach : goal.returns-in_err-step-in-Ok-clause-reach
+returns-in_err-step-in-Ok-clause-reach g c = stays_reach (linked_reach c.loop.invariant.2 c.in-Ok.ensures.servers) c.in_err-step-in-Ok.ensures.stays
 
 pub loop-preserved : goal.loop-preserved
 loop-preserved g c =
@@ -98,14 +102,12 @@ returns-in-Err-clause-ends g c =
     let came = c.in-Err.ensures in
     let exchange = subst (λ r. IsExchange (upstream g.H.Health g.L.Links) c.loop.parts.backend.links (record { server = c.in-Asks.clear; request = r; result = Err c.in-Err.fault }) c.exchange.new.self)
     (c.request.ensures out.it out.at) (record { item = came.record; spent = came.spent; sends = came.sends }) in
-    let noted = c.stop.ensures.noted out.it out.at in
     let cut = stop_cut g.H.Health g.L.Links g.T.Trails g.C.Clock (snapshot c.stop.new.self c.stop.new.parts)
-    c.requires.settled.unowed out.under exchange came.probes c.stop.ensures.dropped noted in
-    record {
-      ends = cut.part;
-      unowed = cut.unowed;
-      between = cut.between;
-      reach =
-          subst (λ p. Reaches g.H.Health.servers g.L.Links.servers p) (sym noted)
-          (noted_reach out.it.waiting.attempts (linked_reach c.loop.invariant.2 came.servers));
-    }
+    c.requires.settled.unowed out.under exchange came.probes c.stop.ensures.dropped (c.stop.ensures.noted out.it out.at) in
+    record { ends = cut.part; unowed = cut.unowed; between = cut.between }
+
+pub returns-in-Err-clause-reach : goal.returns-in-Err-clause-reach
+returns-in-Err-clause-reach g c =
+    let out = on_asks c.in-Asks.is c.loop.invariant.0 in
+    subst (λ p. Reaches g.H.Health.servers g.L.Links.servers p) (sym (c.stop.ensures.noted out.it out.at))
+    (noted_reach out.it.waiting.attempts (linked_reach c.loop.invariant.2 c.in-Err.ensures.servers))
