@@ -4,40 +4,35 @@ use Rattle.std.specs.Prelude.{IfOk}
 use Rattle.tko_model.specs.Records.{HealthItem}
 use Rattle.tko_text.specs.declared.request.Request.{Request}
 use Rattle.tko_answer.specs.Answering.{retrieval}
-use Rattle.tko_answer.specs.Asking.{Begins, BeginsKeys, IsFirst, answered, keyed, of_several}
-use Rattle.tko_answer.specs.declared.asking.Answer.TheVariants as answer
+use Rattle.tko_answer.specs.Asking.{Begins, IsFirst, answered, keyed, of_several}
+use Rattle.tko_answer.specs.Standing as answer
 use Rattle.tko_answer.specs.Answers.{AnswersItself}
 use Rattle.tko_answer.specs.Replies.{version_text}
 use Rattle.tko_answer.specs.Status.{IsStatusAfter}
 use Rattle.tko_text.specs.declared.request.Request.TheVariants.{Quit, StatsTko, Version}
-use Rattle.tko_answer.specs.declared.asking.Answer.{Answer}
 use Rattle.tko_answer.specs.declared.asking.OneKey.{OneKey}
 use Rattle.tko_answer.specs.declared.parts.Parts.{Parts}
 use Rattle.tko_answer.specs.declared.asking.Share.TheVariants as share
 
 pub first_alone : (keys : List (List ℕ)) (unique : Bool) (waiting : ℕ) (request : Request) (one : OneKey)
     → request ≡ retrieval keys unique → ((n : ℕ) → IsFirst request n one)
-    → BeginsKeys (retrieval keys unique) waiting (answer.Next one)
+    → IsFirst (retrieval keys unique) waiting one
 first_alone keys unique waiting request one is first =
-    (one, refl, subst (λ (r : Request). IsFirst r waiting one) is (first waiting))
+    subst (λ (r : Request). IsFirst r waiting one) is (first waiting)
 
 pub first_several : (keys : List (List ℕ)) (unique : Bool) (waiting : ℕ) (key : List ℕ) (left : List (List ℕ)) (request : Request)
     → keys ≡ key ∷ left → request ≡ retrieval (key ∷ []) unique
-    → BeginsKeys (retrieval keys unique) waiting (answer.Next (record { request = request; share = share.Joined waiting left }))
-first_several keys unique waiting key left request are is = (
-  record { request = request; share = share.Joined waiting left },
-  refl,
-  of_several key left unique (ap (λ ks. retrieval ks unique) are) (ap (λ (r : Request). record { request = r; share = share.Joined waiting left }) is),
-)
+    → IsFirst (retrieval keys unique) waiting (record { request = request; share = share.Joined waiting left })
+first_several keys unique waiting key left request are is =
+    of_several key left unique (ap (λ ks. retrieval ks unique) are) (ap (λ (r : Request). record { request = r; share = share.Joined waiting left }) is)
 
 -- a retrieval begins with its first key
-pub begins_keys : {H L T C E : Type 0} (steps : H → HealthItem → H → Type 0) (old : Parts H L T C) (outbox : List ℕ)
-    (result : Result Answer E) (keys : List (List ℕ)) (unique : Bool) (request : Request) (waiting : ℕ)
-    → IfOk result (λ at. BeginsKeys (retrieval keys unique) waiting at) → request ≡ retrieval keys unique → waiting ≡ length outbox
-    → IfOk result (λ at. Begins steps request (old, outbox) at (old, outbox))
-begins_keys steps old outbox (Ok at) keys unique request waiting begins is len =
-    keyed (subst (λ n. BeginsKeys request n at) len (subst (λ (r : Request). BeginsKeys r waiting at) (sym is) begins)) refl
-begins_keys steps old outbox (Err e) keys unique request waiting begins is len = tt
+pub begins_keyed : {H L T C : Type 0} (steps : H → HealthItem → H → Type 0) (old : Parts H L T C) (outbox : List ℕ)
+    (one : OneKey) (keys : List (List ℕ)) (unique : Bool) (request : Request) (waiting : ℕ)
+    → IsFirst (retrieval keys unique) waiting one → request ≡ retrieval keys unique → waiting ≡ length outbox
+    → Begins steps request (old, outbox) (answer.Next one) (old, outbox)
+begins_keyed steps old outbox one keys unique request waiting first is len =
+    keyed (one, refl, subst (λ n. IsFirst request n one) len (subst (λ (r : Request). IsFirst r waiting one) (sym is) first)) refl
 
 -- what follows from a fact on the value of an Ok
 pub if_ok : {A E : Type 0} {P : A → Type 0} {Q : A → Type 0} (r : Result A E) → IfOk r P → ((x : A) → P x → Q x) → IfOk r Q

@@ -23,9 +23,8 @@ use Rattle.tko_answer.specs.Asking as asked
 use Rattle.tko_answer.specs.Cuts.{IsAnswerCut, IsKeyCut, attempts_cut, in_status, reply_lost}
 use Rattle.tko_answer.specs.Replies.{joined, values_in}
 use Rattle.tko_answer.specs.TrailEvents.{TrailEvent, Tried}
-use Rattle.tko_answer.specs.declared.asking.Answer.{Answer}
-use Rattle.tko_answer.specs.declared.asking.Answer.TheVariants as answer
-use Rattle.tko_answer.specs.declared.asking.Asking.{Asking}
+use Rattle.tko_answer.specs.Standing.{Asking, Standing}
+use Rattle.tko_answer.specs.Standing as answer
 use Rattle.tko_answer.specs.declared.asking.OneKey.{OneKey}
 use Rattle.tko_answer.specs.declared.asking.Share.{Share}
 use Rattle.tko_answer.specs.declared.asking.Share.TheVariants as share
@@ -77,7 +76,7 @@ module _ {H L T C : Type 0} (steps : H → HealthItem → H → Type 0) (exchang
     pub keeps : it.key ≡ record { request = form_in new.config first.request (length it.waiting.attempts); share = first.share }
 
   -- how far a request was answered
-  abbrev pub Stands : Request → Parts H L T C → List ℕ → Answer → List ℕ → Parts H L T C → List ℕ → Type 0
+  abbrev pub Stands : Request → Parts H L T C → List ℕ → Standing → List ℕ → Parts H L T C → List ℕ → Type 0
   Stands request old outbox answer.Done targets new outbox' = AnsweredInto steps exchanges sent probed records request old outbox new outbox'
   Stands request old outbox (answer.Next one) targets new outbox' = (key : List ℕ) × IsAt request old outbox key one new outbox'
   Stands request old outbox (answer.Asks clear it) targets new outbox' = IsSending request old outbox clear it targets new outbox'
@@ -144,7 +143,7 @@ values_joined key trail outbox = ap (λ xs. outbox ++ xs) (sym (append-nil (unwr
 
 module _ {H L T C : Type 0} {steps : H → HealthItem → H → Type 0} {exchanges : L → LinksItem → L → Type 0} {sent probed : L → ℕ → ℕ} {records : T → TrailEvent → T → Type 0} where
   -- the values of one of several keys were joined, and another key is asked for or none is left
-  joins_on : {old start new : Parts H L T C} {outbox outbox' outbox'' : List ℕ} {at : Answer} (targets : List ℕ)
+  joins_on : {old start new : Parts H L T C} {outbox outbox' outbox'' : List ℕ} {at : Standing} (targets : List ℕ)
       (all left : List (List ℕ)) (unique : Bool) (key : List ℕ) (trail : List Attempt) (request : Request)
       → 0 < length all → JoinsOn steps exchanges sent probed records (retrieval all unique) all (key ∷ left) old outbox start outbox'
       → IsNext steps exchanges sent probed records (only key unique) key (length outbox) true start outbox' new (outbox' ++ unwrap_or (values_in (answer_of trail)) [])
@@ -164,7 +163,7 @@ module _ {H L T C : Type 0} {steps : H → HealthItem → H → Type 0} {exchang
       subst (λ a. Stands steps exchanges sent probed records (retrieval all unique) old outbox a targets new outbox'') (sym is) (key', it)
 
   -- one of several keys has ended
-  ended_among : {old start new : Parts H L T C} {outbox outbox' outbox'' : List ℕ} {at : Answer} (now : Parts H L T C) (targets : List ℕ)
+  ended_among : {old start new : Parts H L T C} {outbox outbox' outbox'' : List ℕ} {at : Standing} (now : Parts H L T C) (targets : List ℕ)
       (all left : List (List ℕ)) (unique : Bool) (key : List ℕ) (trail : List Attempt) (asking : Request)
       → 0 < length all → JoinsOn steps exchanges sent probed records (retrieval all unique) all (key ∷ left) old outbox start outbox'
       → IsTried steps exchanges sent probed (only key unique) key start trail (with_noted trail now)
@@ -183,7 +182,7 @@ module _ {H L T C : Type 0} {steps : H → HealthItem → H → Type 0} {exchang
       joins_on targets all left unique key trail asking some so_far listed form then
 
   -- a key has ended
-  ended : {request : Request} {old start now new : Parts H L T C} {outbox outbox' outbox'' : List ℕ} {key : List ℕ} {first : OneKey} {at : Answer} (targets : List ℕ)
+  ended : {request : Request} {old start now new : Parts H L T C} {outbox outbox' outbox'' : List ℕ} {key : List ℕ} {first : OneKey} {at : Standing} (targets : List ℕ)
       (trail : List Attempt) (asking : Request) (place exptime : ℕ)
       → IsAt steps exchanges sent probed records request old outbox key first start outbox'
       → IsTried steps exchanges sent probed first.request key start trail (with_noted trail now)
@@ -210,7 +209,7 @@ module _ {H L T C : Type 0} {steps : H → HealthItem → H → Type 0} {exchang
 
   -- where a routing came to a stage, its request may be sent or its key has ended
   settled : {request : Request} {old start now : Parts H L T C} {outbox outbox' : List ℕ} {key : List ℕ} {first : OneKey} {targets : List ℕ} {calls : List Call}
-      (to : Stage) (at : Answer) (new : Parts H L T C) (outbox'' : List ℕ)
+      (to : Stage) (at : Standing) (new : Parts H L T C) (outbox'' : List ℕ)
       → IsAt steps exchanges sent probed records request old outbox key first start outbox'
       → IsRun steps exchanges sent probed records key first targets calls to start now
       → Settles records to (record { request = form_in now.config first.request (last_place to); share = first.share }) (now, outbox') at (new, outbox'')
@@ -226,7 +225,7 @@ module _ {H L T C : Type 0} {steps : H → HealthItem → H → Type 0} {exchang
       (run_tried key first run.gains run.probes run.others run.aims run.reached.0 run.reached.1) refl ends
 
   -- a key was begun
-  pub begun : {request : Request} {old now new : Parts H L T C} {outbox outbox' outbox'' : List ℕ} {key : List ℕ} {one : OneKey} {at : Answer} {targets : List ℕ}
+  pub begun : {request : Request} {old now new : Parts H L T C} {outbox outbox' outbox'' : List ℕ} {key : List ℕ} {one : OneKey} {at : Standing} {targets : List ℕ}
       → IsAt steps exchanges sent probed records request old outbox key one now outbox'
       → targets ≡ targets_of now.config key
       → Goes steps records (record { targets = targets; form = form_in now.config one.request; share = one.share }) (λ more. more) (now, outbox') at (new, outbox'')
@@ -242,7 +241,7 @@ module _ {H L T C : Type 0} {steps : H → HealthItem → H → Type 0} {exchang
       }) goes.settles
 
   -- what came of a send was recorded
-  pub gone_on : {request : Request} {old now new : Parts H L T C} {outbox outbox' outbox'' : List ℕ} {clear : ℕ} {it : Asking} {at : Answer} {targets : List ℕ} {after : L} {got : Outcome}
+  pub gone_on : {request : Request} {old now new : Parts H L T C} {outbox outbox' outbox'' : List ℕ} {clear : ℕ} {it : Asking} {at : Standing} {targets : List ℕ} {after : L} {got : Outcome}
       → (sending : IsSending steps exchanges sent probed records request old outbox clear it targets now outbox')
       → IsExchange (record { steps = steps; exchanges = exchanges; sent = sent }) now.backend.links (record { server = clear; request = it.key.request; result = Ok got }) after
       → ((server : ℕ) → probed after server ≡ probed now.backend.links server)
@@ -399,7 +398,7 @@ is_first {records = records} old outbox targets request one (asked.of_several ke
 
 -- a request began to be answered
 pub stands : {H L T C : Type 0} (steps : H → HealthItem → H → Type 0) (exchanges : L → LinksItem → L → Type 0) (sent probed : L → ℕ → ℕ) (records : T → TrailEvent → T → Type 0)
-    {old new : Parts H L T C} {outbox outbox' : List ℕ} {request : Request} {at : Answer} {servers : H → ℕ} (targets : List ℕ)
+    {old new : Parts H L T C} {outbox outbox' : List ℕ} {request : Request} {at : Standing} {servers : H → ℕ} (targets : List ℕ)
     → Begins steps request (old, outbox) at (new, outbox') → Stays servers old new
     → Stands steps exchanges sent probed records request old outbox at targets new outbox'
 stands {H} {L} {T} {C} steps exchanges sent probed records {old} {new} {outbox} {outbox'} {request} {at} targets (asked.answered text done itself more) stays =

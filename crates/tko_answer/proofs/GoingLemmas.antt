@@ -14,7 +14,7 @@ use Rattle.tko_answer.specs.Answering.{Extends}
 use Rattle.tko_answer.specs.Asking.{Ended, Goes, GoesCut, IsSettleCut, JoinsNext, Replies, Settles, Stays, front_of, values, with_noted}
 use Rattle.tko_answer.specs.Replies.{text_of_answer, values_in}
 use Rattle.tko_answer.specs.TrailEvents.{TrailEvent, Tried}
-use Rattle.tko_answer.specs.declared.asking.Answer.{Answer}
+use Rattle.tko_answer.specs.Standing.{Standing}
 use Rattle.tko_answer.specs.declared.asking.OneKey.{OneKey}
 use Rattle.tko_answer.specs.declared.asking.Share.{Share}
 use Rattle.tko_answer.specs.declared.asking.Share.TheVariants as share
@@ -42,7 +42,7 @@ values_found false n found trail xs ys e is text same = absurd (false_is_true e)
 module _ {H L T C : Type 0} {records : T → TrailEvent → T → Type 0} where
   -- the values of one of several keys were joined
   pub ended_joined : {one : OneKey} {old noted : Parts H L T C} {trails : T} {trail : List Attempt} {begin : ℕ} {left : List (List ℕ)}
-      {outbox outbox' outbox'' : List ℕ} {at : Answer}
+      {outbox outbox' outbox'' : List ℕ} {at : Standing}
       → one.share ≡ share.Joined begin left → noted ≡ with_noted trail old → records noted.trails (Tried trail) trails
       → IsSome (values_in (answer_of trail)) × (outbox' ≡ outbox ++ unwrap_or (values_in (answer_of trail)) [])
       → JoinsNext one.request begin left outbox' at outbox''
@@ -64,7 +64,7 @@ form_then to original request request' place exptime exptime' same is then =
 
 module _ {H L T C : Type 0} {steps : H → HealthItem → H → Type 0} {records : T → TrailEvent → T → Type 0} where
   -- a key was begun
-  pub begin_goes : {old mid new : Parts H L T C} {outbox outbox' : List ℕ} {at : Answer} (to : Stage) (targets : List ℕ) (kind : Share)
+  pub begin_goes : {old mid new : Parts H L T C} {outbox outbox' : List ℕ} {at : Standing} (to : Stage) (targets : List ℕ) (kind : Share)
       (request : Request) (form : ℕ → Request) → mid ≡ record old { backend = record old.backend { health = mid.backend.health } }
       → request ≡ form (last_place to)
       → GoesOn steps old.backend.health (λ calls. Reached targets form calls to) mid.backend.health
@@ -93,7 +93,7 @@ module _ {H L T C : Type 0} {steps : H → HealthItem → H → Type 0} {records
   }
 
   -- what came of a send was recorded
-  pub answered_goes : {old new : Parts H L T C} {health : H} {outbox outbox' : List ℕ} {at : Answer} (to : Stage) (targets : List ℕ) (kind : Share)
+  pub answered_goes : {old new : Parts H L T C} {health : H} {outbox outbox' : List ℕ} {at : Standing} (to : Stage) (targets : List ℕ) (kind : Share)
       (server place exptime exptime' : ℕ) (got : Outcome) (original request request' : Request) (calls : List Call) → exptime' ≡ exptime
       → request ≡ form_at exptime original place
       → ((r : Request) → request ≡ form_at exptime' r place → request' ≡ form_at exptime' r (last_place to))

@@ -14,8 +14,8 @@ use Rattle.tko_answer.specs.Answering.{Extends}
 use Rattle.tko_answer.specs.Asking.{BeginsAt, Begins, Course, Goes, HasFront, IsFirst, IsSent, JoinsNext, Settles, front_of}
 use Rattle.tko_answer.specs.Asking as asked
 use Rattle.tko_answer.specs.TrailEvents.{TrailEvent}
-use Rattle.tko_answer.specs.declared.asking.Answer.{Answer}
-use Rattle.tko_answer.specs.declared.asking.Answer.TheVariants as answer
+use Rattle.tko_answer.specs.Standing.{Standing}
+use Rattle.tko_answer.specs.Standing as answer
 use Rattle.tko_answer.specs.declared.asking.OneKey.{OneKey}
 use Rattle.tko_answer.specs.declared.asking.Share.{Share}
 use Rattle.tko_answer.specs.declared.asking.Share.TheVariants as share
@@ -35,13 +35,13 @@ front_stays begin (share.Joined first left) outbox outbox' (same, within) more =
     ap (take begin) front ∙ take_at (take begin outbox) more.more begin (length-take-le begin outbox within)
 
 -- what is held of the reply where the answer came so far
-abbrev pub HoldsAt : ℕ → Answer → List ℕ → Type 0
+abbrev pub HoldsAt : ℕ → Standing → List ℕ → Type 0
 HoldsAt begin answer.Done outbox = Unit {0}
 HoldsAt begin (answer.Next one) outbox = BeginsAt begin one.share outbox
 HoldsAt begin (answer.Asks clear it) outbox = BeginsAt begin it.key.share outbox
 
 -- where a send is out, it is to one of the targets
-abbrev pub AwaitsAt : Configuration → List ℕ → Answer → Type 0
+abbrev pub AwaitsAt : Configuration → List ℕ → Standing → Type 0
 AwaitsAt config targets answer.Done = Unit {0}
 AwaitsAt config targets (answer.Next one) = Unit {0}
 AwaitsAt config targets (answer.Asks clear it) = IsSent config targets it
@@ -50,7 +50,7 @@ held_more : (begin : ℕ) (outbox more : List ℕ) → begin ≤ length outbox �
 held_more begin outbox more within = omega (arith, within, length-append outbox more)
 
 -- the next of several keys
-joins_held : {request : Request} {left : List (List ℕ)} {outbox outbox' : List ℕ} {at : Answer} (begin first : ℕ) → first ≡ begin
+joins_held : {request : Request} {left : List (List ℕ)} {outbox outbox' : List ℕ} {at : Standing} (begin first : ℕ) → first ≡ begin
     → begin ≤ length outbox → JoinsNext request first left outbox at outbox' → HoldsAt begin at outbox'
 joins_held {outbox' = outbox'} begin first same within (asked.last none done end) = subst (λ a. HoldsAt begin a outbox') (sym done) tt
 joins_held {outbox = outbox} {outbox' = outbox'} begin first same within (asked.next key rest one are is alike kept) =
@@ -59,7 +59,7 @@ joins_held {outbox = outbox} {outbox' = outbox'} begin first same within (asked.
     subst (λ a. HoldsAt begin a outbox') (sym is) held
 
 -- a key has ended
-ended_held : (request : Request) (at : Answer) (outbox outbox' : List ℕ) (trail : List Attempt) (begin : ℕ) (kind : Share) → BeginsAt begin kind outbox
+ended_held : (request : Request) (at : Standing) (outbox outbox' : List ℕ) (trail : List Attempt) (begin : ℕ) (kind : Share) → BeginsAt begin kind outbox
     → asked.Replies request kind trail outbox at outbox' → HoldsAt begin at outbox'
 ended_held request at outbox outbox' trail begin (share.Whole silent) within (done, text) = subst (λ a. HoldsAt begin a outbox') (sym done) tt
 ended_held request at outbox outbox' trail begin (share.Joined first left) (same, within) (asked.other none done text) = subst (λ a. HoldsAt begin a outbox') (sym done) tt
@@ -67,26 +67,26 @@ ended_held request at outbox outbox' trail begin (share.Joined first left) (same
     joins_held begin first same (held_more begin outbox _ within) then
 
 -- after a key nothing is out
-joins_awaits : {request : Request} {first : ℕ} {left : List (List ℕ)} {outbox outbox' : List ℕ} {at : Answer} (config : Configuration) (targets : List ℕ)
+joins_awaits : {request : Request} {first : ℕ} {left : List (List ℕ)} {outbox outbox' : List ℕ} {at : Standing} (config : Configuration) (targets : List ℕ)
     → JoinsNext request first left outbox at outbox' → AwaitsAt config targets at
 joins_awaits config targets (asked.last none done end) = subst (AwaitsAt config targets) (sym done) tt
 joins_awaits config targets (asked.next key rest one are is alike kept) = subst (AwaitsAt config targets) (sym is) tt
 
-ended_awaits : (request : Request) (at : Answer) (outbox outbox' : List ℕ) (trail : List Attempt) (config : Configuration) (targets : List ℕ) (kind : Share)
+ended_awaits : (request : Request) (at : Standing) (outbox outbox' : List ℕ) (trail : List Attempt) (config : Configuration) (targets : List ℕ) (kind : Share)
     → asked.Replies request kind trail outbox at outbox' → AwaitsAt config targets at
 ended_awaits request at outbox outbox' trail config targets (share.Whole silent) (done, text) = subst (AwaitsAt config targets) (sym done) tt
 ended_awaits request at outbox outbox' trail config targets (share.Joined first left) (asked.other none done text) = subst (AwaitsAt config targets) (sym done) tt
 ended_awaits request at outbox outbox' trail config targets (share.Joined first left) (asked.values found then) = joins_awaits config targets then
 
 module _ {H L T C : Type 0} (records : T → TrailEvent → T → Type 0) where
-  settled_held : (old new : Parts H L T C × List ℕ) (at : Answer) (begin : ℕ) (to : Stage) (one : OneKey) → BeginsAt begin one.share old.1
+  settled_held : (old new : Parts H L T C × List ℕ) (at : Standing) (begin : ℕ) (to : Stage) (one : OneKey) → BeginsAt begin one.share old.1
       → Settles records to one old at new → HoldsAt begin at new.1
   settled_held old new at begin (stage.Away clear waiting) one held (is, same) =
       let held' : BeginsAt begin one.share new.1 = subst (λ (w : Parts H L T C × List ℕ). BeginsAt begin one.share w.1) (sym same) held in
       subst (λ a. HoldsAt begin a new.1) (sym is) held'
   settled_held old new at begin (stage.Done routed) one held ends = ended_held one.request at old.1 new.1 routed.trail begin one.share held ends.replies
 
-  settled_awaits : (old new : Parts H L T C × List ℕ) (at : Answer) (targets : List ℕ) (original : Request) (calls : List Call) (config : Configuration) (to : Stage) (one : OneKey)
+  settled_awaits : (old new : Parts H L T C × List ℕ) (at : Standing) (targets : List ℕ) (original : Request) (calls : List Call) (config : Configuration) (to : Stage) (one : OneKey)
       → AreServers config targets → one.request ≡ form_at config.failover_exptime original (last_place to)
       → Reached targets (form_at config.failover_exptime original) calls to → Settles records to one old at new → AwaitsAt config targets at
   settled_awaits old new at targets original calls config (stage.Away clear waiting) one are form reached (is, same) =
@@ -98,12 +98,12 @@ module _ {H L T C : Type 0} (records : T → TrailEvent → T → Type 0) where
 
 module _ {H L T C : Type 0} {steps : H → HealthItem → H → Type 0} {records : T → TrailEvent → T → Type 0} where
   -- where the answer to a request goes on, its reply begins where it did
-  pub goes_held : {course : Course} {calls : List Call → List Call} {old new : Parts H L T C × List ℕ} {at : Answer} (begin : ℕ)
+  pub goes_held : {course : Course} {calls : List Call → List Call} {old new : Parts H L T C × List ℕ} {at : Standing} (begin : ℕ)
       → BeginsAt begin course.share old.1 → Goes steps records course calls old at new → HoldsAt begin at new.1
   goes_held {course} {calls} {old} {new} {at} begin held goes = settled_held records _ new at begin goes.stage _ held goes.settles
 
   -- the send that is out is to one of the targets
-  pub goes_awaits : {targets : List ℕ} {kind : Share} {calls : List Call → List Call} {old new : Parts H L T C × List ℕ} {at : Answer}
+  pub goes_awaits : {targets : List ℕ} {kind : Share} {calls : List Call → List Call} {old new : Parts H L T C × List ℕ} {at : Standing}
       (config : Configuration) (original : Request) → AreServers config targets
       → Goes steps records (record { targets = targets; form = form_at config.failover_exptime original; share = kind }) calls old at new
       → AwaitsAt config targets at
@@ -118,7 +118,7 @@ first_held request outbox one (asked.of_several key left unique is e) =
 
 module _ {H L T C : Type 0} {steps : H → HealthItem → H → Type 0} where
   -- where the answer to a request begins, its reply does
-  pub begins_held : {request : Request} {old new : Parts H L T C} {outbox outbox' : List ℕ} {at : Answer}
+  pub begins_held : {request : Request} {old new : Parts H L T C} {outbox outbox' : List ℕ} {at : Standing}
       → Begins steps request (old, outbox) at (new, outbox') → HoldsAt (length outbox) at outbox'
   begins_held {outbox = outbox} {outbox' = outbox'} (asked.answered text done itself more) = subst (λ a. HoldsAt (length outbox) a outbox') (sym done) tt
   begins_held {new = new} {outbox = outbox} {outbox' = outbox'} (asked.keyed (one, is, first) same) =
@@ -126,7 +126,7 @@ module _ {H L T C : Type 0} {steps : H → HealthItem → H → Type 0} where
       let held' = subst (λ (w : Parts H L T C × List ℕ). BeginsAt (length outbox) one.share w.1) (sym same) held in
       subst (λ a. HoldsAt (length outbox) a outbox') (sym is) held'
 
-  pub begins_awaits : {request : Request} {old new : Parts H L T C × List ℕ} {at : Answer} (config : Configuration) (targets : List ℕ)
+  pub begins_awaits : {request : Request} {old new : Parts H L T C × List ℕ} {at : Standing} (config : Configuration) (targets : List ℕ)
       → Begins steps request old at new → AwaitsAt config targets at
   begins_awaits config targets (asked.answered text done itself more) = subst (AwaitsAt config targets) (sym done) tt
   begins_awaits config targets (asked.keyed (one, is, first) same) = subst (AwaitsAt config targets) (sym is) tt

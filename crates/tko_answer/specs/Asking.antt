@@ -20,9 +20,8 @@ use Rattle.tko_answer.specs.Answers.{AnswersItself, request_keys}
 use Rattle.tko_answer.specs.Cuts.{LooksSome}
 use Rattle.tko_answer.specs.Replies.{end_line, reply_text, values_in}
 use Rattle.tko_answer.specs.TrailEvents.{TrailEvent, Tried}
-use Rattle.tko_answer.specs.declared.asking.Answer.{Answer}
-use Rattle.tko_answer.specs.declared.asking.Answer.TheVariants as answer
-use Rattle.tko_answer.specs.declared.asking.Asking.{Asking}
+use Rattle.tko_answer.specs.Standing.{Asking, Standing}
+use Rattle.tko_answer.specs.Standing as answer
 use Rattle.tko_answer.specs.declared.asking.OneKey.{OneKey}
 use Rattle.tko_answer.specs.declared.asking.Share.{Share}
 use Rattle.tko_answer.specs.declared.asking.Share.TheVariants as share
@@ -85,13 +84,13 @@ pub data IsFirst (request : Request) (waiting : ℕ) (one : OneKey) : Type 0 whe
       → IsFirst request waiting one
 
 -- it begins so
-abbrev pub BeginsKeys : Request → ℕ → Answer → Type 0
+abbrev pub BeginsKeys : Request → ℕ → Standing → Type 0
 BeginsKeys request waiting at =
     (one : OneKey) × (at ≡ answer.Next one) × IsFirst request waiting one
 
 -- how the answer to a request begins: the proxy answers it itself; or a key is to be asked for
 pub data Begins {H L T C : Type 0} (steps : H → HealthItem → H → Type 0) (request : Request)
-    (old : Parts H L T C × List ℕ) (at : Answer) (new : Parts H L T C × List ℕ) : Type 0 where
+    (old : Parts H L T C × List ℕ) (at : Standing) (new : Parts H L T C × List ℕ) : Type 0 where
   answered : (text : List ℕ) → at ≡ answer.Done → AnswersItself steps request old.0 text new.0
       → new.1 ≡ old.1 ++ text → Begins steps request old at new
   keyed : BeginsKeys request (length old.1) at → new ≡ old
@@ -115,7 +114,7 @@ pub record IsNextKey (request : Request) (begin : ℕ) (key : List ℕ) (left : 
 
 -- after the values of a key another one is asked for, or `END` follows those of the last
 pub data JoinsNext (request : Request) (begin : ℕ) (left : List (List ℕ)) (outbox : List ℕ)
-    (at : Answer) (outbox' : List ℕ) : Type 0 where
+    (at : Standing) (outbox' : List ℕ) : Type 0 where
   last : left ≡ [] → at ≡ answer.Done → outbox' ≡ outbox ++ end_line
       → JoinsNext request begin left outbox at outbox'
   next : (key : List ℕ) (rest : List (List ℕ)) (one : OneKey) → left ≡ key ∷ rest
@@ -125,7 +124,7 @@ pub data JoinsNext (request : Request) (begin : ℕ) (left : List (List ℕ)) (o
 -- the response to one of several keys: its values follow those before; or, if it is no list of
 -- values, it takes their place and ends the reply
 pub data Joins (request : Request) (begin : ℕ) (left : List (List ℕ)) (trail : List Attempt)
-    (outbox : List ℕ) (at : Answer) (outbox' : List ℕ) : Type 0 where
+    (outbox : List ℕ) (at : Standing) (outbox' : List ℕ) : Type 0 where
   other : ¬ (IsSome (values_in (answer_of trail))) → at ≡ answer.Done
       → outbox' ≡ take begin outbox ++ reply_text trail
       → Joins request begin left trail outbox at outbox'
@@ -135,7 +134,7 @@ pub data Joins (request : Request) (begin : ℕ) (left : List (List ℕ)) (trail
       → Joins request begin left trail outbox at outbox'
 
 -- what the response to a key is to the reply
-abbrev pub Replies : Request → Share → List Attempt → List ℕ → Answer → List ℕ → Type 0
+abbrev pub Replies : Request → Share → List Attempt → List ℕ → Standing → List ℕ → Type 0
 Replies request (share.Whole silent) trail outbox at outbox' =
     (at ≡ answer.Done) × (outbox' ≡ outbox ++ (if silent then [] else reply_text trail))
 Replies request (share.Joined begin left) trail outbox at outbox' =
@@ -149,7 +148,7 @@ with_noted trail old = record old {
 
 -- a key took this trail, which was recorded, and its response went into the reply
 pub record Ended {H L T C : Type 0} (records : T → TrailEvent → T → Type 0) (trail : List Attempt)
-    (one : OneKey) (old : Parts H L T C × List ℕ) (at : Answer) (new : Parts H L T C × List ℕ)
+    (one : OneKey) (old : Parts H L T C × List ℕ) (at : Standing) (new : Parts H L T C × List ℕ)
     : Type 0 where
   pub recorded : records old.0.trails (Tried trail) new.0.trails
   pub others : new.0 ≡ record (with_noted trail old.0) { trails = new.0.trails }
@@ -168,7 +167,7 @@ pub data IsEndCut {H L T C : Type 0} (records : T → TrailEvent → T → Type 
 
 -- where a routing came to a stage: its request may be sent, or its key has ended
 abbrev pub Settles : {H L T C : Type 0} → (T → TrailEvent → T → Type 0) → Stage → OneKey
-    → Parts H L T C × List ℕ → Answer → Parts H L T C × List ℕ → Type 0
+    → Parts H L T C × List ℕ → Standing → Parts H L T C × List ℕ → Type 0
 Settles records (stage.Away clear waiting) one old at new =
     (at ≡ answer.Asks clear (record { waiting = waiting; key = one })) × (new ≡ old)
 Settles records (stage.Done routed) one old at new = Ended records routed.trail one old at new
@@ -192,8 +191,8 @@ course_of config targets one original = record {
   share = one.share;
 }
 
--- what holds of a request and the calls of its key where the send came to this, whatever calls stood
--- before: the request is in the form of its place, and those calls found its server up
+-- what holds of a request and the calls of its key where the send came to this, whatever calls
+-- stood before: the request is in the form of its place, and those calls found its server up
 abbrev pub AfterSend : Configuration → Asking → Outcome
     → (Request → (List Call → List Call) → Type 0) → Type 0
 AfterSend config it outcome Holds = (original : Request) (calls : List Call)
@@ -206,7 +205,7 @@ module _ {H L T C : Type 0} (steps : H → HealthItem → H → Type 0)
     (records : T → TrailEvent → T → Type 0) where
   -- health was asked or told more, with that the routing came to a stage, and it was settled
   pub record Goes (course : Course) (calls : List Call → List Call)
-      (old : Parts H L T C × List ℕ) (at : Answer) (new : Parts H L T C × List ℕ) : Type 0 where
+      (old : Parts H L T C × List ℕ) (at : Standing) (new : Parts H L T C × List ℕ) : Type 0 where
     pub stage : Stage
     pub health : H
     pub on : GoesOn steps old.0.backend.health

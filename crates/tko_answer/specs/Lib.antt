@@ -4,5 +4,6 @@ pub mod Asking
 pub mod Counting
 pub mod Cuts
 pub mod Replies
+pub mod Standing
 pub mod Status
 pub mod TrailEvents

@@ -3,12 +3,13 @@
 ghost use Rattle.std.specs.Prelude.{◌≡◌, ◌∷◌, [], ℕ, List, IfOk, OnOk, OnErr, length};
 ghost use Rattle.tko_answer.specs.Answering.{Extends, retrieval};
 ghost use Rattle.tko_answer.specs.Answers.{request_keys};
-ghost use Rattle.tko_answer.specs.Asking.{AfterSend, Begins, Goes, GoesCut, BeginsKeys, HasFront, HasServers, IsBeginCut, IsFirst, IsKeyBeginCut, Stays, course_of, front_of, with_noted};
+ghost use Rattle.tko_answer.specs.Asking.{AfterSend, Begins, Ended, Goes, GoesCut, HasFront, HasServers, IsBeginCut, IsEndCut, IsFirst, IsKeyBeginCut, IsSettleCut, Settles, Stays, course_of, front_of};
+ghost use Rattle.tko_answer.specs.Standing.{asking, first_standing, standing_of};
 ghost use Rattle.tko_pools.specs.Configs.{AreServers, targets_of};
 ghost use Rattle.tko_route.specs.Routing.{IsAwaited};
 ghost use Rattle.tko_text.specs.SentRequests.{without_noreply};
 
-use crate::ending::settle;
+use crate::ending::{join_next, note};
 use crate::keys_left::KeysLeft;
 use crate::outbox::Outbox;
 use crate::parts::begin_route;
@@ -19,37 +20,31 @@ use std::sync::Wait;
 use tko_bytes::NoMemory;
 use tko_links::{IoRuntime, Outcome};
 use tko_model::Clear;
-use tko_route::{Health, Waiting};
+use tko_route::{Health, Routed, Stage, Waiting};
 use tko_text::{Keys, Request};
 
 /// The reply to `version`.
 const VERSION: &[u8] = b"VERSION tkoproxy 1\r\n";
 
-/// How far the answer to a request came. It borrows nothing, so that other requests may be answered
-/// between two calls; but nothing else is put into its outbox until it is done.
+/// How far the answer to a key came. Nothing is borrowed, so that other requests may be answered
+/// between two calls; but nothing else is put into its outbox until the reply is complete.
 #[derive(Drop)]
 pub enum Answer {
-    /// The request of this key, as it is now, may be sent once to the server that the permission
-    /// names.
-    Asks(Clear, Asking),
-    /// This key is to be asked for.
-    Next(OneKey),
+    /// The request of the key, as it is now, may be sent once to the server that the permission
+    /// names. What came of it is passed to `answered`.
+    Asks(Clear, Waiting),
+    /// The key is now the next one, which is to be asked for.
+    Next,
     /// The reply is at the end of the outbox.
     Done,
 }
 
-/// A key whose request was sent to a server, until the outcome is recorded.
-#[derive(Drop)]
-pub struct Asking {
-    pub(crate) waiting: Waiting,
-    pub(crate) key: OneKey,
-}
-
-/// One key of a request, in a request of its own.
+/// One key of a request, in a request of its own. It is changed in place from one key to the next,
+/// since to move a request costs more than all that is decided about it.
 #[derive(Drop)]
 pub struct OneKey {
-    pub(crate) request: Request,
-    pub(crate) share: Share,
+    request: Request,
+    share: Share,
 }
 
 /// What the response to a key is to the reply.
@@ -62,18 +57,19 @@ pub(crate) enum Share {
     Joined(usize, KeysLeft),
 }
 
-impl Answer {
-    /// Begins to answer a request. One without a key is answered at once, by the proxy itself.
-    pub fn begin<R: Wait, H: Health, L, T, C>(
+impl OneKey {
+    /// Begins to answer a request: gives its first key. One without a key is answered at once, by
+    /// the proxy itself.
+    pub fn first<R: Wait, H: Health, L, T, C>(
         rt: &R,
         alloc: Global,
         parts: &mut Parts<H, L, T, C>,
         outbox: &mut Outbox,
         request: Request,
-    ) -> Result<Answer, NoMemory>
+    ) -> Result<Option<OneKey>, NoMemory>
         requires servers { HasServers H.servers parts.old }
-        ensures ok { IfOk result (λ answer. Begins H.steps request (parts.old, outbox.old)
-            answer (parts.new, outbox.new)) }
+        ensures ok { IfOk result (λ found. Begins H.steps request (parts.old, outbox.old)
+            (first_standing found) (parts.new, outbox.new)) }
         ensures err { OnErr result (Extends outbox.old outbox.new) }
         ensures cut { OnErr result (IsBeginCut H.steps request parts.old parts.new) }
         ensures stays { Stays H.servers parts.old parts.new }
@@ -81,27 +77,25 @@ impl Answer {
         match request {
             Request::Version => {
                 outbox.append(VERSION)?;
-                Ok(Answer::Done)
+                Ok(None)
             }
-            Request::Quit => Ok(Answer::Done),
+            Request::Quit => Ok(None),
             Request::StatsTko => {
                 outbox.append_status(rt, &mut parts.backend.health, parts.config.addresses())?;
-                Ok(Answer::Done)
+                Ok(None)
             }
-            Request::Get { keys } => Answer::of_keys(alloc, outbox.len(), keys, false),
-            Request::Gets { keys } => Answer::of_keys(alloc, outbox.len(), keys, true),
-            request => Ok(Answer::Next(OneKey::whole(request))),
+            Request::Get { keys } => Ok(Some(OneKey::of_keys(alloc, outbox.len(), keys, false)?)),
+            Request::Gets { keys } => Ok(Some(OneKey::of_keys(alloc, outbox.len(), keys, true)?)),
+            request => Ok(Some(OneKey::whole(request))),
         }
     }
-}
 
-impl Answer {
-    /// Begins with the first key of a retrieval.
-    fn of_keys(alloc: Global, waiting: usize, keys: Keys, unique: bool) -> Result<Answer, NoMemory>
-        ensures { IfOk result (λ answer. BeginsKeys (retrieval keys unique) waiting answer) }
+    /// The first key of a retrieval.
+    fn of_keys(alloc: Global, waiting: usize, keys: Keys, unique: bool) -> Result<OneKey, NoMemory>
+        ensures { IfOk result (λ one. IsFirst (retrieval keys unique) waiting one) }
     {
         if keys.as_slice().len() == 1 {
-            return Ok(Answer::Next(OneKey::whole(retrieval(keys, unique))));
+            return Ok(OneKey::whole(retrieval(keys, unique)));
         }
         let mut left = KeysLeft::of(keys.into_keys());
         let Some(first) = left.next() else {
@@ -109,11 +103,9 @@ impl Answer {
         };
         let request = alone(Vec::new(alloc), first, unique)?;
         let share = Share::Joined(waiting, left);
-        Ok(Answer::Next(OneKey { request, share }))
+        Ok(OneKey { request, share })
     }
-}
 
-impl OneKey {
     /// The one key of a request.
     fn whole(request: Request) -> OneKey
         requires { length (request_keys request) ≡ 1 }
@@ -124,10 +116,17 @@ impl OneKey {
         OneKey { request, share }
     }
 
+    /// The request in the form in which the server gets it.
+    pub fn request(&self) -> &Request
+        ensures { result.now ≡ self.now.request }
+    {
+        &self.request
+    }
+
     /// Begins to route the key: looks for the first of its targets to send to. They are put into a
     /// list, in place of what it held.
     pub fn begin<R: IoRuntime, H: Health, L, T: Trails, C>(
-        self,
+        &mut self,
         rt: &R,
         alloc: Global,
         parts: &mut Parts<H, L, T, C>,
@@ -135,82 +134,113 @@ impl OneKey {
         outbox: &mut Outbox,
     ) -> Result<Answer, NoMemory>
         requires servers { HasServers H.servers parts.old }
-        requires front { HasFront self.share outbox.old }
-        ensures ok { IfOk result (λ answer. Goes H.steps T.records
-            (course_of parts.old.config targets.new.items self (without_noreply self.request))
-            (λ more. more) (parts.old, outbox.old) answer (parts.new, outbox.new)) }
-        ensures err { OnErr result (Extends (front_of self.share outbox.old) outbox.new) }
-        ensures cut { OnErr result ((key : List ℕ) → request_keys self.request ≡ key ∷ []
-            → IsKeyBeginCut H.steps T.records (course_of
-            parts.old.config (targets_of parts.old.config key) self (without_noreply self.request))
+        requires front { HasFront self.old.share outbox.old }
+        ensures ok { IfOk result (λ answer. Goes H.steps T.records (course_of parts.old.config
+            targets.new.items self.old (without_noreply self.old.request)) (λ more. more)
+            (parts.old, outbox.old) (standing_of answer self.new) (parts.new, outbox.new)) }
+        ensures err { OnErr result (Extends (front_of self.old.share outbox.old) outbox.new) }
+        ensures cut { OnErr result ((key : List ℕ) → request_keys self.old.request ≡ key ∷ []
+            → IsKeyBeginCut H.steps T.records (course_of parts.old.config
+            (targets_of parts.old.config key) self.old (without_noreply self.old.request))
             parts.old parts.new) }
         ensures stays { Stays H.servers parts.old parts.new }
-        ensures targets { OnOk result ((key : List ℕ) → request_keys self.request ≡ key ∷ []
+        ensures targets { OnOk result ((key : List ℕ) → request_keys self.old.request ≡ key ∷ []
             → targets.new.items ≡ targets_of parts.old.config key) }
         ensures within { AreServers parts.old.config targets.new.items }
     {
-        let OneKey { mut request, share } = self;
-        let stage = begin_route(rt, alloc, parts, targets, &mut request)?;
-        settle(rt, parts, outbox, stage, OneKey { request, share })
-    }
-}
-
-impl Asking {
-    /// The request in the form in which the server gets it.
-    pub fn request(&self) -> &Request
-        ensures { result.now ≡ self.now.key.request }
-    {
-        &self.key.request
+        let stage = begin_route(rt, alloc, parts, targets, &mut self.request)?;
+        self.settle(rt, parts, outbox, stage)
     }
 
     /// Records what came of the send, and goes on to the next target unless it was answered.
     pub fn answered<R: IoRuntime, H: Health, L, T: Trails, C>(
-        self,
+        &mut self,
         rt: &R,
         parts: &mut Parts<H, L, T, C>,
         targets: &[usize],
         outbox: &mut Outbox,
+        waiting: Waiting,
         outcome: Outcome,
     ) -> Result<Answer, NoMemory>
         requires servers { HasServers H.servers parts.old }
-        requires front { HasFront self.key.share outbox.old }
+        requires front { HasFront self.old.share outbox.old }
         requires within { AreServers parts.old.config targets.now }
-        requires awaited { IsAwaited targets.now self.waiting }
-        ensures ok { IfOk result (λ answer. AfterSend parts.old.config self outcome
-            (λ original calls. Goes H.steps T.records
-            (course_of parts.old.config targets.now self.key original) calls
-            (parts.old, outbox.old) answer (parts.new, outbox.new))) }
-        ensures err { OnErr result (Extends (front_of self.key.share outbox.old) outbox.new) }
-        ensures cut { OnErr result (AfterSend parts.old.config self outcome
+        requires awaited { IsAwaited targets.now waiting }
+        ensures ok { IfOk result (λ answer. AfterSend parts.old.config (asking waiting self.old)
+            outcome (λ original calls. Goes H.steps T.records
+            (course_of parts.old.config targets.now self.old original) calls
+            (parts.old, outbox.old) (standing_of answer self.new) (parts.new, outbox.new))) }
+        ensures err { OnErr result (Extends (front_of self.old.share outbox.old) outbox.new) }
+        ensures cut { OnErr result (AfterSend parts.old.config (asking waiting self.old) outcome
             (λ original calls. GoesCut H.steps T.records
-            (course_of parts.old.config targets.now self.key original) calls
+            (course_of parts.old.config targets.now self.old original) calls
             parts.old parts.new)) }
         ensures stays { Stays H.servers parts.old parts.new }
     {
-        let Asking { waiting, mut key } = self;
         let exptime = parts.config.failover_exptime();
         let stage = waiting.answered(
             rt,
             &mut parts.backend.health,
             targets,
-            &mut key.request,
+            &mut self.request,
             exptime,
             outcome,
         );
-        settle(rt, parts, outbox, stage, key)
+        self.settle(rt, parts, outbox, stage)
     }
 
-    /// Ends the answer where memory ran out at the send. The servers that the attempts before it
-    /// marked are going to be probed.
-    pub fn stop<H, L, T, C>(
-        self,
+    /// Sends the request, or ends the key.
+    fn settle<R: IoRuntime, H, L, T: Trails, C>(
+        &mut self,
+        rt: &R,
         parts: &mut Parts<H, L, T, C>,
-        fault: tko_links::NoMemory,
-    ) -> NoMemory
-        ensures { parts.new ≡ with_noted self.waiting.attempts parts.old }
+        outbox: &mut Outbox,
+        stage: Stage,
+    ) -> Result<Answer, NoMemory>
+        requires front { HasFront self.old.share outbox.old }
+        ensures ok { IfOk result (λ answer. Settles T.records stage self.old
+            (parts.old, outbox.old) (standing_of answer self.new) (parts.new, outbox.new)) }
+        ensures err { OnErr result (Extends (front_of self.old.share outbox.old) outbox.new) }
+        ensures cut { OnErr result (IsSettleCut T.records stage self.old parts.old parts.new) }
+        ensures stays { (servers : H → ℕ) → Stays servers parts.old parts.new }
     {
-        let fault = self.waiting.stop(fault);
-        parts.backend.probers.note(fault.trail.attempts());
-        NoMemory
+        match stage {
+            Stage::Away(clear, waiting) => Ok(Answer::Asks(clear, waiting)),
+            Stage::Done(routed) => self.end(rt, parts, outbox, routed),
+        }
+    }
+
+    /// Puts the response to the key into the reply, and records its trail. Where values are joined,
+    /// the key becomes the next one.
+    fn end<R: IoRuntime, H, L, T: Trails, C>(
+        &mut self,
+        rt: &R,
+        parts: &mut Parts<H, L, T, C>,
+        outbox: &mut Outbox,
+        routed: Routed,
+    ) -> Result<Answer, NoMemory>
+        requires front { HasFront self.old.share outbox.old }
+        ensures ok { IfOk result (λ answer. Ended T.records routed.trail self.old
+            (parts.old, outbox.old) (standing_of answer self.new) (parts.new, outbox.new)) }
+        ensures err { OnErr result (Extends (front_of self.old.share outbox.old) outbox.new) }
+        ensures cut { OnErr result (IsEndCut T.records routed.trail self.old parts.old parts.new) }
+        ensures stays { (servers : H → ℕ) → Stays servers parts.old parts.new }
+    {
+        note(parts, &routed.trail);
+        match &mut self.share {
+            Share::Whole(silent) => {
+                outbox.append_unless(*silent, routed.response())?;
+                parts.trails.trail(rt, routed.trail)?;
+                Ok(Answer::Done)
+            }
+            Share::Joined(begin, left) => {
+                let listed = outbox.append_next(*begin, routed.response())?;
+                parts.trails.trail(rt, routed.trail)?;
+                if !listed {
+                    return Ok(Answer::Done);
+                }
+                join_next(outbox, &mut self.request, left)
+            }
+        }
     }
 }

@@ -1,11 +1,11 @@
 //! Requests by their keys.
-ghost use Rattle.std.specs.Prelude.{◌≡◌, ◌<◌, [], ◌∷◌, ℕ, Bool, List, false, true, IfOk, length, slice_get};
+ghost use Rattle.std.specs.Prelude.{◌≡◌, ◌<◌, [], ◌∷◌, ℕ, Bool, List, false, true, IfOk, OnOk, length, slice_get};
 ghost use Rattle.std.specs.Option.{option_copied};
 ghost use Rattle.tko_text.specs.declared.request.Request.TheVariants.{Get, Gets};
 ghost use Rattle.tko_answer.specs.Answers.{request_keys};
 ghost use Rattle.tko_answer.specs.Answering.{retrieval};
 
-use std::alloc::Global;
+use std::mem::replace;
 use tko_bytes::NoMemory;
 use tko_text::{Key, Keys, Request};
 
@@ -46,6 +46,16 @@ pub(crate) fn alone(mut room: Vec<Key>, key: Key, unique: bool) -> Result<Reques
     room.clear();
     room.push(key)?;
     Ok(retrieval(Keys::new(room), unique))
+}
+
+/// Puts another key into a request for values.
+pub(crate) fn set_key(request: &mut Request, key: Key) -> Result<(), NoMemory>
+    ensures { OnOk result ((keys : List (List ℕ)) (unique : Bool)
+        → request.old ≡ retrieval keys unique → request.new ≡ retrieval (key ∷ []) unique) }
+{
+    let before = replace(request, Request::Quit);
+    *request = with_key(before, key)?;
+    Ok(())
 }
 
 /// A request for the value of another key, in the room of one for values.

@@ -15,7 +15,7 @@ pub use tko_backend::{
     Backend, Clock, FrozenClock, ListedClock, MonotonicClock, ProbeSlot, Probers,
 };
 pub use tko_io::{Inlet, Outlet, Piped, Stop, Taped};
-pub use tko_turns::{Progress, Report, Session, Step, Work, round};
+pub use tko_turns::{Progress, Report, Session, Step, round};
 
 #[cfg(test)]
 mod tests;

@@ -9,7 +9,7 @@ ghost use Rattle.tko_session.specs.Ends.{DeliveryEnds, PieceEnds, SessionEnds};
 ghost use Rattle.tko_session.specs.Served.{context, delivering, delivery, serving};
 ghost use Rattle.tko_answer.specs.Answers.{Reaches};
 ghost use Rattle.tko_turns.specs.SessionState.{fed_state};
-ghost use Rattle.tko_turns.specs.declared.step.Work.TheVariants.{Between};
+ghost use Rattle.tko_turns.specs.Working.{Between};
 
 use crate::{Parts, Progress, Report, Session, SessionFault, Trails, round};
 use std::alloc::Global;

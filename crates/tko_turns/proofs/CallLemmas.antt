@@ -1,5 +1,5 @@
 -- What each call of a session makes of its fields.
-use Rattle.std.proofs.Common.{◌≡◌, ℕ, Bool, true, List, [], ◌∷◌, ◌++◌, length, take, refl, sym, ap, subst, ◌∙◌}
+use Rattle.std.proofs.Common.{◌≡◌, ℕ, Bool, Option, Some, None, false, true, List, [], ◌∷◌, ◌++◌, length, take, refl, sym, ap, subst, ◌∙◌}
 use Rattle.tko_model.specs.Records.{HealthItem}
 use Rattle.tko_links.specs.declared.links.Outcome.{Outcome}
 use Rattle.tko_text.specs.Reading.{Emits, Reading}
@@ -11,17 +11,17 @@ use Rattle.tko_text.specs.declared.request.Request.{Request}
 use Rattle.tko_pools.specs.Configs.{Configuration, targets_of}
 use Rattle.tko_answer.specs.Answering.{Extends}
 use Rattle.tko_answer.specs.Answers.{request_keys}
-use Rattle.tko_answer.specs.Asking.{Begins, BeginsAt, Goes, GoesCut, IsFirst, Stays, with_noted, AfterSend, course_of}
+use Rattle.tko_answer.specs.Asking.{Begins, BeginsAt, Goes, GoesCut, IsFirst, IsKeyBeginCut, Stays, with_noted, AfterSend, course_of}
 use Rattle.tko_answer.specs.Asking as begins
 use Rattle.tko_answer.specs.TrailEvents.{Asked, TrailEvent}
-use Rattle.tko_answer.specs.declared.asking.Answer.{Answer}
-use Rattle.tko_answer.specs.declared.asking.Answer.TheVariants as answer
-use Rattle.tko_answer.specs.declared.asking.Asking.{Asking}
+use Rattle.tko_route.specs.Underway.{Awaited}
+use Rattle.tko_answer.specs.Standing.{Asking, Standing, asking}
+use Rattle.tko_answer.specs.Standing as answer
 use Rattle.tko_answer.specs.declared.asking.OneKey.{OneKey}
 use Rattle.tko_answer.specs.declared.parts.Parts.{Parts}
 use Rattle.tko_answer.proofs.DrivingLemmas.{begun}
 use Rattle.tko_answer.proofs.HeldLemmas.{AwaitsAt, HoldsAt, goes_awaits, goes_held}
-use Rattle.tko_turns.specs.Driven.{IsOut, IsReady, IsReadyFor, ItemDropped, ItemRead, KeyBegun, KeyDropped, OutcomeDropped, OutcomeTaken, RequestBegun, RequestDropped, WasDropped, WentOn, begun_at, dropped, requests_after, send_outcome, step_of, stepped, went, work_of}
+use Rattle.tko_turns.specs.Driven.{IsOut, IsReady, IsReadyFor, ItemDropped, ItemRead, KeyBegun, KeyDropped, MayGoOn, OutcomeDropped, OutcomeTaken, RequestBegun, RequestDropped, WasDropped, WentOn, begun_at, dropped, requests_after, send_outcome, step_of, stepped, went, work_of}
 use Rattle.tko_turns.specs.Ghosts.{recording}
 use Rattle.tko_turns.specs.Driven as driven
 use Rattle.tko_turns.specs.SessionState.{SessionState, Snapshot, progress_after, progress_of, snapshot}
@@ -29,11 +29,11 @@ use Rattle.tko_turns.specs.declared.step.Progress.{Progress}
 use Rattle.tko_turns.specs.declared.step.Progress.TheVariants as progress
 use Rattle.tko_turns.specs.declared.step.Step.{Step}
 use Rattle.tko_turns.specs.declared.step.Step.TheVariants as step
-use Rattle.tko_turns.specs.declared.step.Work.TheVariants as work
+use Rattle.tko_turns.specs.Working as work
 use Rattle.tko_turns.proofs.DrivenLemmas.{taken}
 
 -- what a call leaves for the next one
-ready_at : (config : Configuration) (state : SessionState) (at : Answer) → HoldsAt state.begin at state.outbox
+ready_at : (config : Configuration) (state : SessionState) (at : Standing) → HoldsAt state.begin at state.outbox
     → AwaitsAt config state.targets at → IsReady config (went at state)
 ready_at config state answer.Done held awaits = tt
 ready_at config state (answer.Next one) held awaits = held
@@ -42,11 +42,11 @@ ready_at config state (answer.Asks clear it) held awaits = record { begins = hel
 next_same : (one other : OneKey) → answer.Next one ≡ answer.Next other → one ≡ other
 next_same one other same = cc
 
-not_both : (at : Answer) (one : OneKey) → at ≡ answer.Next one → at ≡ answer.Done → ⊥
+not_both : (at : Standing) (one : OneKey) → at ≡ answer.Next one → at ≡ answer.Done → ⊥
 not_both at one next done = cc
 
 module _ {H L T C : Type 0} {steps : H → HealthItem → H → Type 0} where
-  begins_first : {old mid : SessionState} {told : Parts H L T C} {to : Parts H L T C × List ℕ} {request : Request} {at : Answer} {one : OneKey}
+  begins_first : {old mid : SessionState} {told : Parts H L T C} {to : Parts H L T C × List ℕ} {request : Request} {at : Standing} {one : OneKey}
       → mid ≡ old → at ≡ answer.Next one → Begins steps request (told, mid.outbox) at to
       → IsFirst request (length old.outbox) one × (to ≡ (told, old.outbox))
   begins_first same is (begins.answered text done itself more) = absurd (not_both _ _ is done)
@@ -58,35 +58,37 @@ module _ {H L T C : Type 0} {steps : H → HealthItem → H → Type 0} where
       )
 
   -- a request began with its first key, and nothing else was done
-  pub first_at : {old mid : SessionState} {told after : Parts H L T C} {outbox : List ℕ} {begin : ℕ} {request : Request} {at : Answer} {one : OneKey}
+  pub first_at : {old mid : SessionState} {told after : Parts H L T C} {outbox : List ℕ} {begin : ℕ} {request : Request} {at : Standing} {one : OneKey}
       → mid ≡ old → begin ≡ length mid.outbox → at ≡ answer.Next one → Begins steps request (told, mid.outbox) at (after, outbox)
       → IsFirst request (length old.outbox) one
-      × (snapshot (record mid { outbox = outbox; owes = true; begin = begin }) after ≡ snapshot (begun_at old) told)
-  first_at {old} {mid} {told} {after} {outbox} {begin} same at is began =
+      × (snapshot (record mid { outbox = outbox; owes = true; work = work.AtKey one; begin = begin }) after ≡ snapshot (record (begun_at old) { work = work.AtKey one }) told)
+  first_at {old} {mid} {told} {after} {outbox} {begin} {request} {at} {one} same from is began =
       let it = begins_first same is began in (
         it.0,
-        ap (λ (s : SessionState). snapshot (record s { outbox = outbox; owes = true; begin = begin }) after) same
-            ∙ ap (λ n. snapshot (record old { outbox = outbox; owes = true; begin = n }) after) (at ∙ ap (λ (s : SessionState). length s.outbox) same)
-            ∙ ap (λ (w : Parts H L T C × List ℕ). snapshot (record (begun_at old) { outbox = w.1 }) w.0) it.1,
+        ap (λ (s : SessionState). snapshot (record s { outbox = outbox; owes = true; work = work.AtKey one; begin = begin }) after) same
+            ∙ ap (λ n. snapshot (record old { outbox = outbox; owes = true; work = work.AtKey one; begin = n }) after) (from ∙ ap (λ (s : SessionState). length s.outbox) same)
+            ∙ ap (λ (w : Parts H L T C × List ℕ). snapshot (record (begun_at old) { outbox = w.1; work = work.AtKey one }) w.0) it.1,
       )
 
 module _ {H L T C : Type 0} {steps : H → HealthItem → H → Type 0} {records : T → TrailEvent → T → Type 0} where
   pub by_first : {old : SessionState} {told : T} {parts : Parts H L T C} {request : Request} {wanted : Step} {from new : Snapshot (Parts H L T C)} (one : OneKey)
       → records parts.trails (Asked request) told
-      → IsFirst request (length old.outbox) one × (from ≡ snapshot (begun_at old) (record parts { trails = told }))
+      → IsFirst request (length old.outbox) one × (from ≡ snapshot (record (begun_at old) { work = work.AtKey one }) (record parts { trails = told }))
       → KeyBegun (recording steps records) one from (stepped wanted new) → RequestBegun (recording steps records) request (snapshot old parts) (stepped wanted new)
   by_first {old} {told} {parts} {request} {wanted} {from} {new} one recorded (first, same) key =
-      driven.by_key told one recorded first (subst (λ s. KeyBegun (recording steps records) one s (stepped wanted new)) same key)
+      let to = subst (λ s. KeyBegun (recording steps records) one s (stepped wanted new)) same key in
+      driven.by_key told one recorded first (record { at = to.at; goes = to.goes; targets = to.targets; asks = to.asks; state = to.state })
 
   pub first_lost : {old : SessionState} {told : T} {parts : Parts H L T C} {request : Request} {from new : Snapshot (Parts H L T C)} (one : OneKey)
       → records parts.trails (Asked request) told
-      → IsFirst request (length old.outbox) one × (from ≡ snapshot (begun_at old) (record parts { trails = told }))
+      → IsFirst request (length old.outbox) one × (from ≡ snapshot (record (begun_at old) { work = work.AtKey one }) (record parts { trails = told }))
       → KeyDropped (recording steps records) one from new → RequestDropped (recording steps records) request (snapshot old parts) new
   first_lost {old} {told} {parts} {request} {from} {new} one recorded (first, same) lost =
-      driven.at_key told one recorded first (subst (λ s. KeyDropped (recording steps records) one s new) same lost)
+      let to = subst (λ s. KeyDropped (recording steps records) one s new) same lost in
+      driven.at_key told one recorded first (record { cut = to.cut; state = to.state })
 
   -- the proxy answered a request itself
-  pub by_itself : {old mid new : SessionState} {told : T} {parts after : Parts H L T C} {outbox : List ℕ} {begin : ℕ} {request : Request} {at : Answer} {progress : Progress} {wanted : Step}
+  pub by_itself : {old mid new : SessionState} {told : T} {parts after : Parts H L T C} {outbox : List ℕ} {begin : ℕ} {request : Request} {at : Standing} {progress : Progress} {wanted : Step}
       → records parts.trails (Asked request) told → mid ≡ old → begin ≡ length mid.outbox → at ≡ answer.Done
       → Begins steps request (record parts { trails = told }, mid.outbox) at (after, outbox)
       → progress ≡ progress_of request → wanted ≡ step.At progress
@@ -111,7 +113,7 @@ dropped_begun old reading outbox requests owes begin targets begins more between
     rw (taken more begins, begins, between, reads, counts, owed, aims) refl
 
 -- the session after a call, field by field
-abbrev is_went : Answer → Reading → List ℕ → ℕ → Bool → ℕ → List ℕ → SessionState
+abbrev is_went : Standing → Reading → List ℕ → ℕ → Bool → ℕ → List ℕ → SessionState
 is_went at reading outbox requests owes begin targets = record {
   reading = reading;
   outbox = outbox;
@@ -122,7 +124,7 @@ is_went at reading outbox requests owes begin targets = record {
   targets = targets;
 }
 
-pub ready_went : {new : SessionState} (config : Configuration) (at : Answer) (reading : Reading) (outbox : List ℕ) (requests : ℕ) (owes : Bool) (begin : ℕ) (targets : List ℕ)
+pub ready_went : {new : SessionState} (config : Configuration) (at : Standing) (reading : Reading) (outbox : List ℕ) (requests : ℕ) (owes : Bool) (begin : ℕ) (targets : List ℕ)
     → new ≡ is_went at reading outbox requests owes begin targets → HoldsAt begin at outbox → AwaitsAt config targets at → IsReady config new
 ready_went config at reading outbox requests owes begin targets is held awaits =
     let state : SessionState =
@@ -131,7 +133,7 @@ ready_went config at reading outbox requests owes begin targets is held awaits =
 
 module _ {H L T C : Type 0} {steps : H → HealthItem → H → Type 0} {records : T → TrailEvent → T → Type 0} where
   -- a key was asked for
-  pub key_begun : {old new : SessionState} {parts parts' : Parts H L T C} {wanted : Step} (one : OneKey) (at : Answer)
+  pub key_begun : {old new : SessionState} {parts parts' : Parts H L T C} {wanted : Step} (one : OneKey) (at : Standing)
       (front : List ℕ) (reading : Reading) (outbox : List ℕ) (requests : ℕ) (owes : Bool) (begin : ℕ) (targets : List ℕ)
       → Goes steps records (course_of parts.config targets one (without_noreply one.request)) (λ more. more) (parts, front) at (parts', outbox)
       → ((key : List ℕ) → request_keys one.request ≡ key ∷ [] → targets ≡ targets_of parts.config key)
@@ -151,8 +153,19 @@ module _ {H L T C : Type 0} {steps : H → HealthItem → H → Type 0} {records
         state = is ∙ rw (reads, counts, owed, begins, o, t) refl;
       }
 
+  -- memory ran out there
+  pub key_lost : {old new : SessionState} {parts parts' : Parts H L T C} (one : OneKey) (targets : List ℕ)
+      → ((key : List ℕ) → request_keys one.request ≡ key ∷ []
+      → IsKeyBeginCut steps records (course_of parts.config (targets_of parts.config key) one (without_noreply one.request)) parts parts')
+      → new ≡ record (dropped old) { targets = targets }
+      → KeyDropped (recording steps records) one (snapshot old parts) (snapshot new parts')
+  key_lost {old} {new} one targets cut is = record {
+    cut = cut;
+    state = is ∙ ap (λ ts. record (dropped old) { targets = ts }) (sym (ap (λ (s : SessionState). s.targets) is));
+  }
+
   -- what came of a send was recorded
-  pub outcome_taken : {old new : SessionState} {parts parts' : Parts H L T C} {wanted : Step} (outcome : Outcome) (it : Asking) (at : Answer)
+  pub outcome_taken : {old new : SessionState} {parts parts' : Parts H L T C} {wanted : Step} (outcome : Outcome) (it : Asking) (at : Standing)
       (aimed front : List ℕ) (reading : Reading) (outbox : List ℕ) (requests : ℕ) (owes : Bool) (begin : ℕ) (targets : List ℕ)
       → AfterSend parts.config it outcome (λ original calls. Goes steps records (course_of parts.config aimed it.key original) calls (parts, front) at (parts', outbox))
       → wanted ≡ step_of progress.More at → new ≡ is_went at reading outbox requests owes begin targets
@@ -242,21 +255,51 @@ module _ {H L T C : Type 0} {steps : H → HealthItem → H → Type 0} {records
       driven.cut it (subst (λ r. Emits old.reading (item.Request it) r) (sym to) told)
       (subst (λ (s : SessionState). RequestDropped (recording steps records) it (snapshot s parts) new) same lost)
 
+-- the key that is at work
+pub key_same : (one other : OneKey) → work.AtKey one ≡ work.AtKey other → one ≡ other
+key_same one other same = cc
+
+not_awaits : (one : OneKey) (it : Asking) → work.Awaits it ≡ work.AtKey one → ⊥
+not_awaits one it same = cc
+
+pub key_at : (key one : OneKey) (sent : Option Awaited) → work.key_work key sent ≡ work.AtKey one → key ≡ one
+key_at key one None same = key_same key one same
+key_at key one (Some waiting) same = absurd (not_awaits one (asking waiting key) same)
+
+not_at : (one : OneKey) (it : Asking) → work.AtKey one ≡ work.Awaits it → ⊥
+not_at one it same = cc
+
 -- one send is out
-awaits_same : (it other : Asking) → work.Awaits it ≡ work.Awaits other → it ≡ other
+pub awaits_same : (it other : Asking) → work.Awaits it ≡ work.Awaits other → it ≡ other
 awaits_same it other same = cc
 
-pub out_between : {config : Configuration} {old mid : SessionState} {it : Asking} → IsReady config old → old.work ≡ work.Awaits it
-    → mid ≡ record old { work = work.Between } → IsOut config mid it
-out_between {config} {old} {mid} {it} ready at same =
-    let out : IsOut config old it = subst (IsReadyFor config old) at ready in
-    subst (λ (s : SessionState). IsOut config s it) (sym same) (record { begins = out.begins; sent = out.sent })
+pub sent_at : (key : OneKey) (sent : Option Awaited) (it : Asking) → work.key_work key sent ≡ work.Awaits it → sent ≡ Some it.waiting × (key ≡ it.key)
+sent_at key None it same = absurd (not_at key it same)
+sent_at key (Some waiting) it same =
+    let is = awaits_same (asking waiting key) it same in
+    (ap (λ (a : Asking). Some a.waiting) is, ap (λ (a : Asking). a.key) is)
 
-pub begins_between : {old mid : SessionState} {one : OneKey} (config : Configuration) → IsReady config old → old.work ≡ work.AtKey one
-    → mid ≡ record old { work = work.Between } → BeginsAt mid.begin one.share mid.outbox
-begins_between {old} {mid} {one} config ready at same =
-    let begins : BeginsAt old.begin one.share old.outbox = subst (IsReadyFor config old) at ready in
-    subst (λ (s : SessionState). BeginsAt s.begin one.share s.outbox) (sym same) begins
+-- no send is out
+pub none_at : (key : OneKey) (sent : Option Awaited) → work.IsAtKey (work.key_work key sent) → sent ≡ None
+none_at key None at = refl
+none_at key (Some waiting) at = absurd at
+
+pub begins_at : (config : Configuration) (state : SessionState) (key : OneKey) (sent : Option Awaited) → IsReady config state
+    → state.work ≡ work.key_work key sent → sent ≡ None → BeginsAt state.begin key.share state.outbox
+begins_at config state key sent ready is none = subst (IsReadyFor config state) (is ∙ ap (work.key_work key) none) ready
+
+pub out_at : {config : Configuration} {state : SessionState} {key : OneKey} {waiting : Awaited} (sent : Option Awaited) → sent ≡ Some waiting
+    → IsReadyFor config state (work.key_work key sent) → IsOut config state (asking waiting key)
+out_at {config} {state} {key} {waiting} sent is ready = subst (λ s. IsReadyFor config state (work.key_work key s)) is ready
+
+pub false_true : {b : Bool} → b ≡ true → b ≡ false → ⊥
+false_true is other = cc
+
+-- no send is out, and a request is being answered
+pub at_key : (at : work.Work) → MayGoOn at → (at ≡ work.Between → ⊥) → work.IsAtKey at
+at_key work.Between may not = absurd (not refl)
+at_key (work.AtKey one) may not = tt
+at_key (work.Awaits it) may not = absurd may
 
 module _ {H L T C : Type 0} {steps : H → HealthItem → H → Type 0} {records : T → TrailEvent → T → Type 0} {parts : Parts H L T C} {new : Snapshot (Parts H L T C)} where
   pub went_item : {old : SessionState} {wanted : Step} → old.work ≡ work.Between
@@ -267,39 +310,17 @@ module _ {H L T C : Type 0} {steps : H → HealthItem → H → Type 0} {records
       → ItemDropped (recording steps records) (snapshot old parts) new → WasDropped (recording steps records) old.work (snapshot old parts) new
   dropped_item {old} at lost = subst (λ w. WasDropped (recording steps records) w (snapshot old parts) new) (sym at) lost
 
-  -- what was at work was taken out of the session, and then it went on
-  pub went_key : {old mid : SessionState} {wanted : Step} (one : OneKey) → old.work ≡ work.AtKey one → mid ≡ record old { work = work.Between }
-      → KeyBegun (recording steps records) one (snapshot mid parts) (stepped wanted new) → WentOn (recording steps records) old.work (snapshot old parts) (stepped wanted new)
-  went_key {old} {mid} {wanted} one at same key =
-      let from : KeyBegun (recording steps records) one (snapshot (record old { work = work.Between }) parts) (stepped wanted new) =
-      subst (λ (s : SessionState). KeyBegun (recording steps records) one (snapshot s parts) (stepped wanted new)) same key in
-      let to : KeyBegun (recording steps records) one (snapshot old parts) (stepped wanted new) =
-      record { at = from.at; goes = from.goes; targets = from.targets; asks = from.asks; state = from.state } in
-      subst (λ w. WentOn (recording steps records) w (snapshot old parts) (stepped wanted new)) (sym at) to
+  -- a request is being answered, and its key was asked for
+  pub went_key : {old : SessionState} {wanted : Step} (at : work.Work) → MayGoOn at → (at ≡ work.Between → ⊥)
+      → ((one : OneKey) → at ≡ work.AtKey one → KeyBegun (recording steps records) one (snapshot old parts) (stepped wanted new))
+      → WentOn (recording steps records) at (snapshot old parts) (stepped wanted new)
+  went_key work.Between may not key = absurd (not refl)
+  went_key (work.AtKey one) may not key = key one refl
+  went_key (work.Awaits it) may not key = absurd may
 
-  pub dropped_key : {old mid : SessionState} (one : OneKey) → old.work ≡ work.AtKey one → mid ≡ record old { work = work.Between }
-      → KeyDropped (recording steps records) one (snapshot mid parts) new → WasDropped (recording steps records) old.work (snapshot old parts) new
-  dropped_key {old} {mid} one at same lost =
-      let from : KeyDropped (recording steps records) one (snapshot (record old { work = work.Between }) parts) new =
-      subst (λ (s : SessionState). KeyDropped (recording steps records) one (snapshot s parts) new) same lost in
-      let to : KeyDropped (recording steps records) one (snapshot old parts) new = record { cut = from.cut; state = from.state } in
-      subst (λ w. WasDropped (recording steps records) w (snapshot old parts) new) (sym at) to
-
-  pub taken_between : {old mid : SessionState} {wanted : Step} {outcome : Outcome} {asking it : Asking} → mid ≡ record old { work = work.Between }
-      → work.Awaits asking ≡ work.Awaits it → OutcomeTaken (recording steps records) (send_outcome asking outcome) (snapshot mid parts) (stepped wanted new)
-      → OutcomeTaken (recording steps records) (send_outcome it outcome) (snapshot old parts) (stepped wanted new)
-  taken_between {old} {mid} {wanted} {outcome} {asking} {it} same one outcome' =
-      let from : OutcomeTaken (recording steps records) (send_outcome asking outcome) (snapshot (record old { work = work.Between }) parts) (stepped wanted new) =
-      subst (λ (s : SessionState). OutcomeTaken (recording steps records) (send_outcome asking outcome) (snapshot s parts) (stepped wanted new)) same outcome' in
-      let to : OutcomeTaken (recording steps records) (send_outcome asking outcome) (snapshot old parts) (stepped wanted new) =
-      record { at = from.at; goes = from.goes; asks = from.asks; state = from.state } in
-      subst (λ a. OutcomeTaken (recording steps records) (send_outcome a outcome) (snapshot old parts) (stepped wanted new)) (awaits_same asking it one) to
-
-  pub lost_between : {old mid : SessionState} {outcome : Outcome} {asking it : Asking} → mid ≡ record old { work = work.Between }
-      → work.Awaits asking ≡ work.Awaits it → OutcomeDropped (recording steps records) (send_outcome asking outcome) (snapshot mid parts) new
-      → OutcomeDropped (recording steps records) (send_outcome it outcome) (snapshot old parts) new
-  lost_between {old} {mid} {outcome} {asking} {it} same one lost =
-      let from : OutcomeDropped (recording steps records) (send_outcome asking outcome) (snapshot (record old { work = work.Between }) parts) new =
-      subst (λ (s : SessionState). OutcomeDropped (recording steps records) (send_outcome asking outcome) (snapshot s parts) new) same lost in
-      let to : OutcomeDropped (recording steps records) (send_outcome asking outcome) (snapshot old parts) new = record { cut = from.cut; state = from.state } in
-      subst (λ a. OutcomeDropped (recording steps records) (send_outcome a outcome) (snapshot old parts) new) (awaits_same asking it one) to
+  pub dropped_key : {old : SessionState} (at : work.Work) → MayGoOn at → (at ≡ work.Between → ⊥)
+      → ((one : OneKey) → at ≡ work.AtKey one → KeyDropped (recording steps records) one (snapshot old parts) new)
+      → WasDropped (recording steps records) at (snapshot old parts) new
+  dropped_key work.Between may not key = absurd (not refl)
+  dropped_key (work.AtKey one) may not key = key one refl
+  dropped_key (work.Awaits it) may not key = absurd may

@@ -19,9 +19,8 @@ use Rattle.tko_answer.specs.Asking as begins
 use Rattle.tko_answer.specs.Cuts.{IsAnswerCut}
 use Rattle.tko_answer.specs.Replies.{reply_bound}
 use Rattle.tko_answer.specs.TrailEvents.{Asked}
-use Rattle.tko_answer.specs.declared.asking.Answer.{Answer}
-use Rattle.tko_answer.specs.declared.asking.Answer.TheVariants as answer
-use Rattle.tko_answer.specs.declared.asking.Asking.{Asking}
+use Rattle.tko_answer.specs.Standing.{Asking, Standing}
+use Rattle.tko_answer.specs.Standing as answer
 use Rattle.tko_answer.specs.declared.asking.OneKey.{OneKey}
 use Rattle.tko_answer.specs.declared.parts.Parts.{Parts}
 use Rattle.tko_answer.specs.declared.trails.Trails.{Ghosts as TrailsGhosts}
@@ -37,7 +36,7 @@ use Rattle.tko_turns.specs.declared.step.Progress.{Progress}
 use Rattle.tko_turns.specs.declared.step.Progress.TheVariants as progress
 use Rattle.tko_turns.specs.declared.step.Step.{Step}
 use Rattle.tko_turns.specs.declared.step.Step.TheVariants as step
-use Rattle.tko_turns.specs.declared.step.Work.TheVariants as work
+use Rattle.tko_turns.specs.Working as work
 use Rattle.tko_turns.proofs.TurnLemmas.{answered_fault, answered_open, answered_request, part_cut, part_none}
 
 pub owed_or_not : {owes : Bool} → owes ≡ true → owes ≡ false → ⊥
@@ -67,19 +66,19 @@ pub taken : {xs ys : List ℕ} {n : ℕ} → Extends xs ys → n ≡ length xs �
 taken {xs} {ys} {n} more same = ap (take n) more.is ∙ take_at xs more.more n (sym same)
 
 -- a request that is not answered yet goes on
-abbrev MayPause : Progress → Answer → Type 0
+abbrev MayPause : Progress → Standing → Type 0
 MayPause at answer.Done = Unit {0}
 MayPause at (answer.Next one) = at ≡ progress.More
 MayPause at (answer.Asks clear it) = at ≡ progress.More
 
-pauses : (at : Answer) → MayPause progress.More at
+pauses : (at : Standing) → MayPause progress.More at
 pauses answer.Done = tt
 pauses (answer.Next one) = refl
 pauses (answer.Asks clear it) = refl
 
 module _ {H L T C : Type 0} (health : HealthGhosts H) (links : LinksGhosts L) (trails : TrailsGhosts T) where
   -- the answer to the next item came so far, and with its reply the session is at `end`
-  pub record IsUnder (end : Progress) (old : Snapshot (Parts H L T C)) (at : Answer) (now : Snapshot (Parts H L T C)) : Type 0 where
+  pub record IsUnder (end : Progress) (old : Snapshot (Parts H L T C)) (at : Standing) (now : Snapshot (Parts H L T C)) : Type 0 where
     pub it : Request
     pub told : T
     pub emits : Emits old.state.reading (item.Request it) now.state.reading
@@ -156,7 +155,7 @@ module _ {H L T C : Type 0} (health : HealthGhosts H) (links : LinksGhosts L) (t
       }
 
   -- the session goes on, as what is under way says
-  paused : {at : Progress} {to : Answer} {old mid : Snapshot (Parts H L T C)} → at ≡ progress.More
+  paused : {at : Progress} {to : Standing} {old mid : Snapshot (Parts H L T C)} → at ≡ progress.More
       → requests_after to mid.state.requests ≡ mid.state.requests → IsUnder health links trails at old to mid
       → IsUnder health links trails progress.More old to (snapshot (went to mid.state) mid.parts)
   paused pause same under = record {
@@ -172,7 +171,7 @@ module _ {H L T C : Type 0} (health : HealthGhosts H) (links : LinksGhosts L) (t
   }
 
   -- a call of the session led to this answer
-  lands : {at : Progress} {old mid : Snapshot (Parts H L T C)} (to : Answer) → old.state.owes ≡ false → length old.state.outbox < reply_bound
+  lands : {at : Progress} {old mid : Snapshot (Parts H L T C)} (to : Standing) → old.state.owes ≡ false → length old.state.outbox < reply_bound
       → MayPause at to → IsUnder health links trails at old to mid
       → IsOn health links trails clock old (step_of at to) (snapshot (went to mid.state) mid.parts)
   lands answer.Done none room pause under = record { on = complete none room under }
@@ -181,7 +180,7 @@ module _ {H L T C : Type 0} (health : HealthGhosts H) (links : LinksGhosts L) (t
   lands {at} {old} {mid} (answer.Asks clear it) none room pause under =
       record { on = record { it = it; at = refl; under = paused pause refl under } }
 
-  landed : {at : Progress} {old mid : Snapshot (Parts H L T C)} {wanted : Step} {new : SessionState} (to : Answer) → old.state.owes ≡ false
+  landed : {at : Progress} {old mid : Snapshot (Parts H L T C)} {wanted : Step} {new : SessionState} (to : Standing) → old.state.owes ≡ false
       → length old.state.outbox < reply_bound → MayPause at to → IsUnder health links trails at old to mid
       → wanted ≡ step_of at to → new ≡ went to mid.state → IsOn health links trails clock old wanted (snapshot new mid.parts)
   landed {at} {old} {mid} {wanted} {new} to none room pause under asks is =
@@ -306,7 +305,7 @@ module _ {H L T C : Type 0} (health : HealthGhosts H) (links : LinksGhosts L) (t
       }) outcome.asks outcome.state
 
   -- the request was dropped
-  drop_cut : {at : Progress} {to : Answer} {old now new : Snapshot (Parts H L T C)} → old.state.owes ≡ false → (under : IsUnder health links trails at old to now)
+  drop_cut : {at : Progress} {to : Standing} {old now new : Snapshot (Parts H L T C)} → old.state.owes ≡ false → (under : IsUnder health links trails at old to now)
       → Extends old.state.outbox now.state.outbox
       → IsAnswerCut health.steps links.exchanges links.sent links.probed trails.records under.it (record old.parts { trails = under.told }) new.parts
       → new.state.outbox ≡ take now.state.begin now.state.outbox → new.state.owes ≡ now.state.owes → new.state.work ≡ work.Between

@@ -13,39 +13,38 @@ use Rattle.tko_io.specs.Io.{capped}
 use Rattle.tko_answer.specs.Answers.{AnswersItself, request_keys}
 use Rattle.tko_answer.specs.Asking.{AfterSend, BeginsAt, Goes, GoesCut, IsBeginCut, IsFirst, IsKeyBeginCut, IsSent, course_of}
 use Rattle.tko_answer.specs.TrailEvents.{Asked}
-use Rattle.tko_answer.specs.declared.asking.Answer.{Answer}
-use Rattle.tko_answer.specs.declared.asking.Answer.TheVariants as answer
-use Rattle.tko_answer.specs.declared.asking.Asking.{Asking}
+use Rattle.tko_answer.specs.Standing.{Asking, Standing}
+use Rattle.tko_answer.specs.Standing as answer
 use Rattle.tko_answer.specs.declared.asking.OneKey.{OneKey}
 use Rattle.tko_answer.specs.declared.parts.Parts.{Parts}
 use Rattle.tko_turns.specs.declared.step.Progress.{Progress}
 use Rattle.tko_turns.specs.declared.step.Progress.TheVariants as progress
 use Rattle.tko_turns.specs.declared.step.Step.{Step}
 use Rattle.tko_turns.specs.declared.step.Step.TheVariants as step
-use Rattle.tko_turns.specs.declared.step.Work.{Work}
-use Rattle.tko_turns.specs.declared.step.Work.TheVariants as work
+use Rattle.tko_turns.specs.Working.{Work}
+use Rattle.tko_turns.specs.Working as work
 use Rattle.tko_turns.specs.Ghosts.{Recording}
 use Rattle.tko_turns.specs.SessionState.{SessionState, Snapshot, progress_after, progress_of, snapshot}
 
 -- what the session asks for, where an answer came so far
-abbrev pub step_of : Progress → Answer → Step
+abbrev pub step_of : Progress → Standing → Step
 step_of at (answer.Asks clear it) = step.Asks clear
 step_of at (answer.Next one) = step.Next
 step_of at answer.Done = step.At at
 
 -- what the session is at there
-abbrev pub work_of : Answer → Work
+abbrev pub work_of : Standing → Work
 work_of (answer.Asks clear it) = work.Awaits it
 work_of (answer.Next one) = work.AtKey one
 work_of answer.Done = work.Between
 
 -- the number of requests there: a request counts once it was answered
-abbrev pub requests_after : Answer → ℕ → ℕ
+abbrev pub requests_after : Standing → ℕ → ℕ
 requests_after answer.Done requests = capped (requests + 1)
 requests_after _ requests = requests
 
 -- the session there
-abbrev pub went : Answer → SessionState → SessionState
+abbrev pub went : Standing → SessionState → SessionState
 went at old =
     record old { work = work_of at; requests = requests_after at old.requests }
 
@@ -104,7 +103,7 @@ module _ {H L T C : Type 0} (ghosts : Recording H T) where
   -- a key was asked for over its targets
   pub record KeyBegun (one : OneKey) (old : Snapshot (Parts H L T C))
       (to : Stepped (Parts H L T C)) : Type 0 where
-    pub at : Answer
+    pub at : Standing
     pub goes : Goes ghosts.steps ghosts.records
         (course_of old.parts.config to.session.state.targets one (without_noreply one.request))
         (λ more. more) (old.parts, old.state.outbox) at
@@ -193,7 +192,7 @@ module _ {H L T C : Type 0} (ghosts : Recording H T) where
   -- what came of the send was recorded
   pub record OutcomeTaken (came : SendOutcome) (old : Snapshot (Parts H L T C))
       (to : Stepped (Parts H L T C)) : Type 0 where
-    pub at : Answer
+    pub at : Standing
     pub goes : AfterSend old.parts.config came.asking came.outcome
         (λ original calls. Goes ghosts.steps ghosts.records
         (course_of old.parts.config old.state.targets came.asking.key original) calls

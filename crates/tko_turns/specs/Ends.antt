@@ -3,7 +3,7 @@ use Rattle.std.specs.Prelude.{◌≡◌, Bool, false, MatchBool, Result, Ok, Err
 use Rattle.tko_bytes.specs.declared.memory.NoMemory.{NoMemory}
 use Rattle.tko_answer.specs.declared.parts.Parts.{Parts}
 use Rattle.tko_turns.specs.declared.step.Progress.{Progress}
-use Rattle.tko_turns.specs.declared.step.Work.TheVariants.{Between}
+use Rattle.tko_turns.specs.Working.{Between}
 use Rattle.tko_turns.specs.Events.{Effects, Rounded}
 use Rattle.tko_turns.specs.Ghosts.{BackendGhosts}
 use Rattle.tko_turns.specs.SessionState.{Answered, AnsweredPart, SessionState, Snapshot}

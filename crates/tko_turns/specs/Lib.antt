@@ -5,3 +5,4 @@ pub mod Events
 pub mod Ghosts
 pub mod SessionState
 pub mod Turns
+pub mod Working

@@ -12,8 +12,8 @@ use Rattle.tko_route.specs.declared.attempt.Attempt.{Attempt}
 use Rattle.tko_answer.specs.declared.parts.Parts.{Parts}
 use Rattle.tko_turns.specs.declared.step.Progress.{Progress}
 use Rattle.tko_turns.specs.declared.step.Progress.TheVariants as progress
-use Rattle.tko_turns.specs.declared.step.Work.{Work}
-use Rattle.tko_turns.specs.declared.step.Work.TheVariants as work
+use Rattle.tko_turns.specs.Working.{Work}
+use Rattle.tko_turns.specs.Working as work
 use Rattle.tko_turns.specs.Events.{Effects, Event, NoneShort, idle_rounds, owed_after, turns_of, visits_of}
 use Rattle.tko_io.specs.Io.{capped}
 use Rattle.tko_answer.specs.Replies.{RoutedKey, reply_bound, sends_to, trails_in}

@@ -8,7 +8,7 @@ ghost use Rattle.tko_turns.specs.Effects.{effects};
 ghost use Rattle.tko_turns.specs.Ends.{AnsweringEnds, IsRun, IsSettled, ItemEnds};
 ghost use Rattle.tko_turns.specs.Ghosts.{backend_ghosts};
 ghost use Rattle.tko_turns.specs.SessionState.{snapshot};
-ghost use Rattle.tko_turns.specs.declared.step.Work.TheVariants.{Between};
+ghost use Rattle.tko_turns.specs.Working.{Between};
 
 use crate::{Parts, Progress, Session, Step, Trails, round};
 use std::alloc::Global;

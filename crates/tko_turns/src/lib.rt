@@ -17,5 +17,5 @@ mod step;
 pub use answering::{answer, run_owed_round};
 pub use rounds::round;
 pub use session::Session;
-pub use step::{Progress, Report, Step, Work};
+pub use step::{Progress, Report, Step};
 pub use tko_answer::{Parts, Trails};

@@ -5,19 +5,22 @@ ghost use Rattle.tko_text.specs.Reading.{Emits, NeedsMore, Never};
 ghost use Rattle.tko_text.specs.Requests.{fault_text};
 ghost use Rattle.tko_answer.specs.Asking.{BeginsAt, HasServers, Stays, with_noted};
 ghost use Rattle.tko_answer.specs.Replies.{reply_bound};
-ghost use Rattle.tko_turns.specs.Driven.{IsAwaiting, IsOut, IsReady, KeyBegun, KeyDropped, ItemDropped, ItemRead, MayGoOn, OutcomeDropped, OutcomeTaken, RequestBegun, RequestDropped, WasDropped, WentOn, dropped, send_outcome, step_of, stepped, went};
+ghost use Rattle.tko_turns.specs.Driven.{IsAwaiting, IsReady, KeyBegun, KeyDropped, ItemDropped, ItemRead, MayGoOn, OutcomeDropped, OutcomeTaken, RequestBegun, RequestDropped, WasDropped, WentOn, dropped, send_outcome, step_of, stepped, went};
+ghost use Rattle.tko_answer.specs.Standing.{Asking, Done, standing_of};
+ghost use Rattle.tko_answer.specs.declared.asking.OneKey.{OneKey};
 ghost use Rattle.tko_turns.specs.Ghosts.{recording};
+ghost use Rattle.tko_turns.specs.Working.{AtKey, Awaits, Between, IsAtKey};
 ghost use Rattle.tko_turns.specs.SessionState.{fed_state, fresh, progress_after, progress_of, snapshot};
 
-use crate::step::{Progress, Report, Step, Work};
+use crate::step::{Progress, Report, Step};
 use crate::{Parts, Trails};
 use std::alloc::Global;
 use std::marker::Model;
 use std::mem::replace;
-use tko_answer::{Answer, Asking, OneKey, Outbox};
+use tko_answer::{Answer, OneKey, Outbox, stop};
 use tko_bytes::NoMemory;
 use tko_links::{IoRuntime, Outcome};
-use tko_route::Health;
+use tko_route::{Health, Waiting};
 use tko_text::{FeedFault, Item, Reader, Request, TextFault};
 
 /// One client's session: the reader of its bytes, the replies that wait to be written, the number
@@ -29,15 +32,25 @@ pub struct Session {
     outbox: Outbox,
     requests: u64,
     owes: bool,
-    work: Work,
+    /// The key of the request that is being answered.
+    work: Option<KeyAtWork>,
     /// Where the reply to the request begins in the outbox.
     begin: usize,
     /// The targets of the key that is asked for, and the room for those of the next one.
     targets: Vec<usize>,
 }
 
+/// A key of a request, and what is known of its send while one is out. It stays where it is from
+/// the first key to the last.
+#[derive(Drop)]
+struct KeyAtWork {
+    key: OneKey,
+    waiting: Option<Waiting>,
+}
+
 impl Model for Session {
     ghost use Rattle.tko_turns.specs.SessionState.{SessionState};
+    ghost use Rattle.tko_turns.specs.Working.{work_at};
 
     ghost Value = { SessionState };
 
@@ -46,7 +59,7 @@ impl Model for Session {
       outbox = s.outbox;
       requests = s.requests;
       owes = s.owes;
-      work = s.work;
+      work = work_at s.work;
       begin = s.begin;
       targets = s.targets.items;
     } };
@@ -61,7 +74,7 @@ impl Session {
             outbox: Outbox::new(alloc),
             requests: 0,
             owes: false,
-            work: Work::Between,
+            work: None,
             begin: 0,
             targets: Vec::new(alloc),
         }
@@ -98,22 +111,17 @@ impl Session {
         if self.is_between() {
             return self.next_item(rt, alloc, parts);
         }
-        match self.take_work() {
-            Work::AtKey(key) => self.begin_key(rt, alloc, parts, key),
-            Work::Between => unreachable!(),
-            Work::Awaits(_) => unreachable!(),
-        }
+        self.begin_key(rt, alloc, parts)
     }
 
     /// The request that may be sent, to the server that the last permission names.
     pub fn request(&self) -> &Request
         requires { IsAwaiting self.now.work }
-        ensures { (it : Asking) → self.now.work ≡ Work.Awaits it → result.now ≡ it.key.request }
+        ensures { (it : Asking) → self.now.work ≡ Awaits it → result.now ≡ it.key.request }
     {
         match &self.work {
-            Work::Awaits(asking) => asking.request(),
-            Work::Between => unreachable!(),
-            Work::AtKey(_) => unreachable!(),
+            Some(at) => at.key.request(),
+            None => unreachable!(),
         }
     }
 
@@ -127,20 +135,27 @@ impl Session {
         requires servers { HasServers H.servers parts.old }
         requires ready { IsReady parts.old.config self.old }
         requires awaiting { IsAwaiting self.old.work }
-        ensures ok { IfOk result (λ step. (it : Asking) → self.old.work ≡ Work.Awaits it
+        ensures ok { IfOk result (λ step. (it : Asking) → self.old.work ≡ Awaits it
             → OutcomeTaken (recording H.steps T.records) (send_outcome it outcome)
             (snapshot self.old parts.old) (stepped step (snapshot self.new parts.new))) }
-        ensures err { OnErr result ((it : Asking) → self.old.work ≡ Work.Awaits it
+        ensures err { OnErr result ((it : Asking) → self.old.work ≡ Awaits it
             → OutcomeDropped (recording H.steps T.records) (send_outcome it outcome)
             (snapshot self.old parts.old) (snapshot self.new parts.new)) }
         ensures ready { OnOk result (IsReady parts.new.config self.new) }
         ensures stays { Stays H.servers parts.old parts.new }
     {
-        match self.take_work() {
-            Work::Awaits(asking) => self.take_outcome(rt, parts, asking, outcome),
-            Work::Between => unreachable!(),
-            Work::AtKey(_) => unreachable!(),
-        }
+        let Some(KeyAtWork { key, waiting }) = &mut self.work else {
+            unreachable!();
+        };
+        let Some(sent) = replace(waiting, None) else {
+            unreachable!();
+        };
+        let targets = self.targets.as_slice();
+        let outbox = &mut self.outbox;
+        let Ok(answer) = key.answered(rt, parts, targets, outbox, sent, outcome) else {
+            return Err(self.drop_request());
+        };
+        Ok(self.go_to(answer))
     }
 
     /// Drops the request where memory ran out at the send. The servers that the attempts before it
@@ -152,17 +167,17 @@ impl Session {
     ) -> NoMemory
         requires awaiting { IsAwaiting self.old.work }
         ensures dropped { self.new ≡ dropped self.old }
-        ensures noted { (it : Asking) → self.old.work ≡ Work.Awaits it
+        ensures noted { (it : Asking) → self.old.work ≡ Awaits it
             → parts.new ≡ with_noted it.waiting.attempts parts.old }
     {
-        match self.take_work() {
-            Work::Awaits(asking) => {
-                let _stopped = asking.stop(parts, fault);
-                self.drop_request()
-            }
-            Work::Between => unreachable!(),
-            Work::AtKey(_) => unreachable!(),
-        }
+        let Some(KeyAtWork { key: _, waiting }) = &mut self.work else {
+            unreachable!();
+        };
+        let Some(sent) = replace(waiting, None) else {
+            unreachable!();
+        };
+        let _stopped = stop(parts, sent, fault);
+        self.drop_request()
     }
 
     /// The replies that wait to be written. That to a request whose answer is under way is not
@@ -182,7 +197,7 @@ impl Session {
 
     /// Drops the first `count` bytes of the replies, which were written.
     pub fn sent(&mut self, count: usize)
-        requires between { self.old.work ≡ Work.Between }
+        requires between { self.old.work ≡ Between }
         ensures { self.new ≡ record self.old { outbox = drop count self.old.outbox } }
     {
         self.outbox.drop_front(count);
@@ -224,24 +239,12 @@ impl Session {
         }
     }
 
-    /// Whether no request is being answered. Asked first, since to take what is at work copies it.
+    /// Whether no request is being answered.
     #[inline(always)]
     fn is_between(&self) -> bool
-        ensures { IsTrue result ↔ (self.now.work ≡ Work.Between) }
+        ensures { IsTrue result ↔ (self.now.work ≡ Between) }
     {
-        match &self.work {
-            Work::Between => true,
-            Work::AtKey(_) => false,
-            Work::Awaits(_) => false,
-        }
-    }
-
-    #[inline(always)]
-    fn take_work(&mut self) -> Work
-        ensures work { result ≡ self.old.work }
-        ensures between { self.new ≡ record self.old { work = Work.Between } }
-    {
-        replace(&mut self.work, Work::Between)
+        self.work.is_none()
     }
 
     /// Reads the next item, if one is decided. A fault is answered at once, a request begun.
@@ -252,7 +255,7 @@ impl Session {
         parts: &mut Parts<H, L, T, C>,
     ) -> Result<Step, NoMemory>
         requires servers { HasServers H.servers parts.old }
-        requires between { self.old.work ≡ Work.Between }
+        requires between { self.old.work ≡ Between }
         ensures ok { IfOk result (λ step. ItemRead (recording H.steps T.records)
             (snapshot self.old parts.old) (stepped step (snapshot self.new parts.new))) }
         ensures err { OnErr result (ItemDropped (recording H.steps T.records)
@@ -297,7 +300,7 @@ impl Session {
         request: Request,
     ) -> Result<Step, NoMemory>
         requires servers { HasServers H.servers parts.old }
-        requires between { self.old.work ≡ Work.Between }
+        requires between { self.old.work ≡ Between }
         ensures ok { IfOk result (λ step. RequestBegun (recording H.steps T.records) request
             (snapshot self.old parts.old) (stepped step (snapshot self.new parts.new))) }
         ensures err { OnErr result (RequestDropped (recording H.steps T.records) request
@@ -309,94 +312,82 @@ impl Session {
         self.begin = self.outbox.len();
         parts.trails.request(rt, &request)?;
         let progress = progress_of(&request);
-        let Ok(answer) = Answer::begin(rt, alloc, parts, &mut self.outbox, request) else {
+        let Ok(first) = OneKey::first(rt, alloc, parts, &mut self.outbox, request) else {
             return Err(self.drop_request());
         };
-        match answer {
-            Answer::Next(key) => self.begin_key(rt, alloc, parts, key),
-            Answer::Done => Ok(self.go_to(Answer::Done, progress)),
-            Answer::Asks(_, _) => unreachable!(),
+        match first {
+            Some(key) => {
+                self.work = Some(KeyAtWork { key, waiting: None });
+                self.begin_key(rt, alloc, parts)
+            }
+            None => Ok(self.finish(progress)),
         }
     }
 
-    /// Begins a key of a request.
+    /// Begins the key that is at work.
     #[inline(always)]
     fn begin_key<R: IoRuntime, H: Health, L, T: Trails, C>(
         &mut self,
         rt: &R,
         alloc: Global,
         parts: &mut Parts<H, L, T, C>,
-        key: OneKey,
     ) -> Result<Step, NoMemory>
         requires servers { HasServers H.servers parts.old }
-        requires begins { BeginsAt self.old.begin key.share self.old.outbox }
-        ensures ok { IfOk result (λ step. KeyBegun (recording H.steps T.records) key
+        requires at { IsAtKey self.old.work }
+        requires ready { IsReady parts.old.config self.old }
+        ensures ok { IfOk result (λ step. (one : OneKey) → self.old.work ≡ AtKey one
+            → KeyBegun (recording H.steps T.records) one
             (snapshot self.old parts.old) (stepped step (snapshot self.new parts.new))) }
-        ensures err { OnErr result (KeyDropped (recording H.steps T.records) key
+        ensures err { OnErr result ((one : OneKey) → self.old.work ≡ AtKey one
+            → KeyDropped (recording H.steps T.records) one
             (snapshot self.old parts.old) (snapshot self.new parts.new)) }
         ensures ready { OnOk result (IsReady parts.new.config self.new) }
         ensures stays { Stays H.servers parts.old parts.new }
     {
+        let Some(KeyAtWork { key, waiting: _ }) = &mut self.work else {
+            unreachable!();
+        };
         let Ok(answer) = key.begin(rt, alloc, parts, &mut self.targets, &mut self.outbox) else {
             return Err(self.drop_request());
         };
-        Ok(self.go_to(answer, Progress::More))
-    }
-
-    /// Records what came of a send, and goes on with its key.
-    fn take_outcome<R: IoRuntime, H: Health, L, T: Trails, C>(
-        &mut self,
-        rt: &R,
-        parts: &mut Parts<H, L, T, C>,
-        asking: Asking,
-        outcome: Outcome,
-    ) -> Result<Step, NoMemory>
-        requires servers { HasServers H.servers parts.old }
-        requires out { IsOut parts.old.config self.old asking }
-        ensures ok { IfOk result (λ step. OutcomeTaken (recording H.steps T.records)
-            (send_outcome asking outcome)
-            (snapshot self.old parts.old) (stepped step (snapshot self.new parts.new))) }
-        ensures err { OnErr result (OutcomeDropped (recording H.steps T.records)
-            (send_outcome asking outcome)
-            (snapshot self.old parts.old) (snapshot self.new parts.new)) }
-        ensures ready { OnOk result (IsReady parts.new.config self.new) }
-        ensures stays { Stays H.servers parts.old parts.new }
-    {
-        let targets = self.targets.as_slice();
-        let Ok(answer) = asking.answered(rt, parts, targets, &mut self.outbox, outcome) else {
-            return Err(self.drop_request());
-        };
-        Ok(self.go_to(answer, Progress::More))
+        Ok(self.go_to(answer))
     }
 
     /// Keeps how far the answer came, and says what it asks for.
     #[inline(always)]
-    fn go_to(&mut self, answer: Answer, progress: Progress) -> Step
-        ensures asks { result ≡ step_of progress answer }
-        ensures went { self.new ≡ went answer self.old }
+    fn go_to(&mut self, answer: Answer) -> Step
+        ensures asks { (one : OneKey) → self.old.work ≡ AtKey one
+            → result ≡ step_of Progress.More (standing_of answer one) }
+        ensures went { (one : OneKey) → self.old.work ≡ AtKey one
+            → self.new ≡ went (standing_of answer one) self.old }
     {
         match answer {
-            Answer::Asks(clear, asking) => {
-                self.work = Work::Awaits(asking);
+            Answer::Asks(clear, waiting) => {
+                if let Some(at) = &mut self.work {
+                    at.waiting = Some(waiting);
+                }
                 Step::Asks(clear)
             }
-            Answer::Next(key) => {
-                self.work = Work::AtKey(key);
-                Step::Next
-            }
-            Answer::Done => {
-                self.work = Work::Between;
-                self.requests = self.requests.saturating_add(1);
-                Step::At(progress)
-            }
+            Answer::Next => Step::Next,
+            Answer::Done => self.finish(Progress::More),
         }
+    }
+
+    /// Counts a request that was answered.
+    fn finish(&mut self, progress: Progress) -> Step
+        ensures step { result ≡ Step.At progress }
+        ensures went { self.new ≡ went Done self.old }
+    {
+        self.work = None;
+        self.requests = self.requests.saturating_add(1);
+        Step::At(progress)
     }
 
     /// Drops what there is of the reply to the request.
     fn drop_request(&mut self) -> NoMemory
         ensures { self.new ≡ dropped self.old }
     {
-        self.work = Work::Between;
+        self.work = None;
         self.outbox.truncate(self.begin);
         NoMemory
     }

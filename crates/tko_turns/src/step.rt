@@ -1,6 +1,5 @@
 //! What a session is at, and what it asks of who drives it.
 
-use tko_answer::{Asking, OneKey};
 use tko_model::Clear;
 
 /// What a session came to, at the end of its input.
@@ -34,15 +33,4 @@ pub enum Step {
     Next,
     /// An item was answered, or none is decided.
     At(Progress),
-}
-
-/// How far the answer to a request came.
-#[derive(Drop)]
-pub enum Work {
-    /// No request is being answered.
-    Between,
-    /// This key is to be asked for.
-    AtKey(OneKey),
-    /// What comes of a send is awaited.
-    Awaits(Asking),
 }

@@ -1,6 +1,6 @@
 use Rattle.std.proofs.Common.{◌≡◌, ◌<◌, vec_len}
 use Rattle.tko_turns.specs.declared.step.Progress.TheVariants.{NeedsInput}
-use Rattle.tko_turns.specs.declared.step.Work.TheVariants.{Between}
+use Rattle.tko_turns.specs.Working.{Between}
 use Rattle.tko_backend.specs.Probers.{NoneMarked}
 use Rattle.tko_turns.specs.Effects.{effects}
 use Rattle.tko_answer.specs.Answers.{Reaches}

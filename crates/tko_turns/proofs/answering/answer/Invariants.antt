@@ -1,5 +1,5 @@
 use Rattle.tko_turns.specs.declared.step.Progress.TheVariants.{More}
-use Rattle.tko_turns.specs.declared.step.Work.TheVariants.{Between}
+use Rattle.tko_turns.specs.Working.{Between}
 use Rattle.std.proofs.Common.{◌≡◌, false, true}
 use Rattle.tko_backend.specs.Probers.{AreQuiet, NoneMarked}
 use Rattle.tko_turns.specs.Effects.{effects}

@@ -1,15 +1,15 @@
 use Rattle.std.proofs.Common.{false, length, refl, true}
 use Rattle.tko_answer.specs.Asking.{keyed}
-use Rattle.tko_answer.proofs.AskingLemmas.{begins_keys, begins_quit, begins_status, begins_version}
-use Rattle.tko_answer.proofs.asking.Answer.begin.Goals as goal
+use Rattle.tko_answer.proofs.AskingLemmas.{begins_keyed, begins_quit, begins_status, begins_version}
+use Rattle.tko_answer.proofs.asking.OneKey.first.Goals as goal
 
-pub returns-in-Get-clause-ok : goal.returns-in-Get-clause-ok
-returns-in-Get-clause-ok g c =
-    begins_keys g.H.Health.steps c.args.parts.now c.args.outbox.now c.of_keys.result c.in-Get.keys false c.args.request _ c.of_keys.ensures c.in-Get.is c.len.ensures
+pub returns-in_ok-of_keys-in-Get-clause-ok : goal.returns-in_ok-of_keys-in-Get-clause-ok
+returns-in_ok-of_keys-in-Get-clause-ok g c =
+    begins_keyed g.H.Health.steps c.args.parts.now c.args.outbox.now _ c.in-Get.keys false c.args.request _ c.in_ok-of_keys-in-Get.ensures c.in-Get.is c.len.ensures
 
-pub returns-in-Gets-clause-ok : goal.returns-in-Gets-clause-ok
-returns-in-Gets-clause-ok g c =
-    begins_keys g.H.Health.steps c.args.parts.now c.args.outbox.now c.of_keys-in-Gets.result c.in-Gets.keys true c.args.request _ c.of_keys-in-Gets.ensures c.in-Gets.is c.len-in-Gets.ensures
+pub returns-in_ok-of_keys-in-Gets-clause-ok : goal.returns-in_ok-of_keys-in-Gets-clause-ok
+returns-in_ok-of_keys-in-Gets-clause-ok g c =
+    begins_keyed g.H.Health.steps c.args.parts.now c.args.outbox.now _ c.in-Gets.keys true c.args.request _ c.in_ok-of_keys-in-Gets.ensures c.in-Gets.is c.len-in-Gets.ensures
 
 pub returns-in_ok-append-in-Version-clause-ok : goal.returns-in_ok-append-in-Version-clause-ok
 returns-in_ok-append-in-Version-clause-ok g c = begins_version c.in-Version.is c.in_ok-append-in-Version.ensures.ok

@@ -1,6 +1,6 @@
 use Rattle.std.proofs.Common.{sym, ◌∙◌}
 use Rattle.tko_answer.proofs.AskingLemmas.{first_alone, first_several}
-use Rattle.tko_answer.proofs.asking.Answer.of_keys.Goals as goal
+use Rattle.tko_answer.proofs.asking.OneKey.of_keys.Goals as goal
 
 pub returns-then-as_slice-eq1 : goal.returns-then-as_slice-eq1
 returns-then-as_slice-eq1 c =
