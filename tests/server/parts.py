@@ -114,8 +114,8 @@ class Proxy:
             raise AssertionError(f"the program printed {line!r}, and on standard error {text!r}")
 
     def error_text(self):
-        self.errors.seek(0)
-        return self.errors.read()
+        # The program writes at the offset that this descriptor shares with it, so reading must not move it.
+        return os.pread(self.errors.fileno(), os.fstat(self.errors.fileno()).st_size, 0)
 
     def client(self, **options):
         return Client(self.port, **options)
