@@ -91,7 +91,7 @@ module _ {H L T C : Type 0} (records : T → TrailEvent → T → Type 0) where
       → Reached targets (form_at config.failover_exptime original) calls to → Settles records to one old at new → AwaitsAt config targets at
   settled_awaits old new at targets original calls config (stage.Away clear waiting) one are form reached (is, same) =
       let sent : IsSent config targets (record { waiting = waiting; key = one }) =
-      record { within = are; awaited = reached.0; original = original; calls = calls; form = form; found = reached.2 } in
+      record { out = record { within = are; awaited = reached.0 }; original = original; calls = calls; form = form; found = reached.2 } in
       subst (AwaitsAt config targets) (sym is) sent
   settled_awaits old new at targets original calls config (stage.Done routed) one are form reached ends =
       ended_awaits one.request at old.1 new.1 routed.trail config targets one.share ends.replies

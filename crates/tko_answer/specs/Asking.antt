@@ -5,12 +5,13 @@ use Rattle.std.specs.Prelude.{◌≡◌, ◌≤◌, ℕ, Bool, List, [], ◌∷�
 use Rattle.tko_model.specs.Records.{HealthItem}
 use Rattle.tko_text.specs.declared.request.Request.{Request}
 use Rattle.tko_text.specs.declared.request.Request.TheVariants.{StatsTko}
-use Rattle.tko_text.specs.SentRequests.{is_silent}
-use Rattle.tko_pools.specs.Configs.{AreServers, Configuration}
+use Rattle.tko_text.specs.SentRequests.{is_silent, without_noreply}
+use Rattle.tko_pools.specs.Configs.{AreServers, Configuration, targets_of}
 use Rattle.tko_links.specs.declared.links.Outcome.{Outcome}
 use Rattle.tko_route.specs.Calls.{Call, came}
 use Rattle.tko_route.specs.Routing.{FindsUp, GoesOn, IsAwaited, Reached, last_place}
 use Rattle.tko_route.specs.Trail.{answer_of, form_at}
+use Rattle.tko_route.specs.Underway.{Awaited}
 use Rattle.tko_route.specs.declared.attempt.Attempt.{Attempt}
 use Rattle.tko_route.specs.declared.routing.Stage.{Stage}
 use Rattle.tko_route.specs.declared.routing.Stage.TheVariants as stage
@@ -18,6 +19,7 @@ use Rattle.tko_backend.specs.Probers.{noted}
 use Rattle.tko_answer.specs.Answering.{retrieval}
 use Rattle.tko_answer.specs.Answers.{AnswersItself, request_keys}
 use Rattle.tko_answer.specs.Cuts.{LooksSome}
+use Rattle.tko_answer.specs.Ghosts.{Recording}
 use Rattle.tko_answer.specs.Replies.{end_line, reply_text, values_in}
 use Rattle.tko_answer.specs.TrailEvents.{TrailEvent, Tried}
 use Rattle.tko_answer.specs.Standing.{Asking, Standing}
@@ -31,6 +33,17 @@ use Rattle.tko_answer.specs.declared.parts.Parts.{Parts}
 pub record HasServers {H L T C : Type 0} (servers : H → ℕ) (parts : Parts H L T C) : Type 0 where
   pub health : servers parts.backend.health ≡ length parts.config.addresses
   pub probers : length parts.backend.probers.slots ≡ length parts.config.addresses
+
+-- a request for one key goes to these targets
+abbrev pub GoesTo : Configuration → Request → List ℕ → Type 0
+GoesTo config request targets =
+    (key : List ℕ) → request_keys request ≡ key ∷ [] → targets ≡ targets_of config key
+
+-- the same parts with another health
+abbrev pub with_health : {H L T C : Type 0} → H → Parts H L T C → Parts H L T C
+with_health health parts = record parts {
+  backend = record parts.backend { health = health };
+}
 
 -- links, clock and configuration are as they were, and the servers are as many
 pub record Stays {H L T C : Type 0} (servers : H → ℕ) (old new : Parts H L T C) : Type 0 where
@@ -60,11 +73,15 @@ abbrev pub BeginsAt : ℕ → Share → List ℕ → Type 0
 BeginsAt begin (share.Whole silent) outbox = begin ≤ length outbox
 BeginsAt begin (share.Joined first left) outbox = (first ≡ begin) × (begin ≤ length outbox)
 
--- a send is out to one of these targets, which are servers; what is sent is some request in the
--- form of its place, and calls of its key found the server up
-pub record IsSent (config : Configuration) (targets : List ℕ) (it : Asking) : Type 0 where
+-- a send is out to one of these targets, which are servers
+pub record IsOutTo (config : Configuration) (targets : List ℕ) (waiting : Awaited) : Type 0 where
   pub within : AreServers config targets
-  pub awaited : IsAwaited targets it.waiting
+  pub awaited : IsAwaited targets waiting
+
+-- a send is out so; what is sent is some request in the form of its place, and calls of its key
+-- found the server up
+pub record IsSent (config : Configuration) (targets : List ℕ) (it : Asking) : Type 0 where
+  pub out : IsOutTo config targets it.waiting
   pub original : Request
   pub calls : List Call
   pub form : it.key.request
@@ -102,7 +119,7 @@ pub data IsBeginCut {H L T C : Type 0} (steps : H → HealthItem → H → Type 
   nothing : new ≡ old → IsBeginCut steps request old new
   in_status : request ≡ StatsTko
       → LooksSome steps old.config.addresses old.backend.health new.backend.health
-      → new ≡ record old { backend = record old.backend { health = new.backend.health } }
+      → new ≡ with_health new.backend.health old
       → IsBeginCut steps request old new
 
 -- the next of several keys is asked for as the one before was
@@ -191,6 +208,16 @@ course_of config targets one original = record {
   share = one.share;
 }
 
+-- a send to one of these targets, and what came of it
+pub record SendOutcome : Type 0 where
+  pub targets : List ℕ
+  pub asking : Asking
+  pub outcome : Outcome
+
+abbrev pub send_outcome : List ℕ → Asking → Outcome → SendOutcome
+send_outcome targets asking outcome =
+    record { targets = targets; asking = asking; outcome = outcome }
+
 -- what holds of a request and the calls of its key where the send came to this, whatever calls
 -- stood before: the request is in the form of its place, and those calls found its server up
 abbrev pub AfterSend : Configuration → Asking → Outcome
@@ -212,7 +239,7 @@ module _ {H L T C : Type 0} (steps : H → HealthItem → H → Type 0)
         (λ more. Reached course.targets course.form (calls more) stage) health
     pub settles : Settles records stage
         (record { request = course.form (last_place stage); share = course.share })
-        (record old.0 { backend = record old.0.backend { health = health } }, old.1) at new
+        (with_health health old.0, old.1) at new
 
   -- memory ran out after that
   pub record GoesCut (course : Course) (calls : List Call → List Call)
@@ -223,9 +250,35 @@ module _ {H L T C : Type 0} (steps : H → HealthItem → H → Type 0)
         (λ more. Reached course.targets course.form (calls more) stage) health
     pub cut : IsSettleCut records stage
         (record { request = course.form (last_place stage); share = course.share })
-        (record old { backend = record old.backend { health = health } }) new
+        (with_health health old) new
 
   -- memory ran out before a key was routed, or after that
   pub data IsKeyBeginCut (course : Course) (old new : Parts H L T C) : Type 0 where
     untried : new ≡ old → IsKeyBeginCut course old new
     ended : GoesCut course (λ more. more) old new → IsKeyBeginCut course old new
+
+module _ {H L T C : Type 0} (ghosts : Recording H T) where
+  -- a key was asked for over these targets
+  abbrev pub KeyTaken : List ℕ → OneKey → Parts H L T C × List ℕ → Standing
+      → Parts H L T C × List ℕ → Type 0
+  KeyTaken targets one old at new = Goes ghosts.steps ghosts.records
+      (course_of old.0.config targets one (without_noreply one.request)) (λ more. more) old at new
+
+  -- memory ran out there
+  abbrev pub KeyCut : OneKey → Parts H L T C → Parts H L T C → Type 0
+  KeyCut one old new = (key : List ℕ) → request_keys one.request ≡ key ∷ []
+      → IsKeyBeginCut ghosts.steps ghosts.records
+      (course_of old.config (targets_of old.config key) one (without_noreply one.request)) old new
+
+  -- what came of a send was recorded, and its key went on
+  abbrev pub SendTaken : SendOutcome → Parts H L T C × List ℕ → Standing
+      → Parts H L T C × List ℕ → Type 0
+  SendTaken came old at new = AfterSend old.0.config came.asking came.outcome
+      (λ original calls. Goes ghosts.steps ghosts.records
+      (course_of old.0.config came.targets came.asking.key original) calls old at new)
+
+  -- memory ran out there
+  abbrev pub SendCut : SendOutcome → Parts H L T C → Parts H L T C → Type 0
+  SendCut came old new = AfterSend old.config came.asking came.outcome
+      (λ original calls. GoesCut ghosts.steps ghosts.records
+      (course_of old.config came.targets came.asking.key original) calls old new)

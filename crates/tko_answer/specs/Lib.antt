@@ -3,6 +3,7 @@ pub mod Answers
 pub mod Asking
 pub mod Counting
 pub mod Cuts
+pub mod Ghosts
 pub mod Replies
 pub mod Standing
 pub mod Status

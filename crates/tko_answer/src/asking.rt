@@ -1,13 +1,12 @@
 //! The answer to one request as a value that sends nothing itself: its caller sends. The keys of a
 //! request, values that are joined, a silent request and the status are its states.
-ghost use Rattle.std.specs.Prelude.{◌≡◌, ◌∷◌, [], ℕ, List, IfOk, OnOk, OnErr, length};
+ghost use Rattle.std.specs.Prelude.{◌≡◌, ◌∷◌, [], ℕ, IfOk, OnOk, OnErr, length};
 ghost use Rattle.tko_answer.specs.Answering.{Extends, retrieval};
 ghost use Rattle.tko_answer.specs.Answers.{request_keys};
-ghost use Rattle.tko_answer.specs.Asking.{AfterSend, Begins, Ended, Goes, GoesCut, HasFront, HasServers, IsBeginCut, IsEndCut, IsFirst, IsKeyBeginCut, IsSettleCut, Settles, Stays, course_of, front_of};
+ghost use Rattle.tko_answer.specs.Asking.{Begins, Ended, GoesTo, HasFront, HasServers, IsBeginCut, IsEndCut, IsFirst, IsOutTo, IsSettleCut, KeyCut, KeyTaken, SendCut, SendTaken, Settles, Stays, front_of, send_outcome};
+ghost use Rattle.tko_answer.specs.Ghosts.{recording};
 ghost use Rattle.tko_answer.specs.Standing.{asking, first_standing, standing_of};
-ghost use Rattle.tko_pools.specs.Configs.{AreServers, targets_of};
-ghost use Rattle.tko_route.specs.Routing.{IsAwaited};
-ghost use Rattle.tko_text.specs.SentRequests.{without_noreply};
+ghost use Rattle.tko_pools.specs.Configs.{AreServers};
 
 use crate::ending::{join_next, note};
 use crate::keys_left::KeysLeft;
@@ -135,17 +134,13 @@ impl OneKey {
     ) -> Result<Answer, NoMemory>
         requires servers { HasServers H.servers parts.old }
         requires front { HasFront self.old.share outbox.old }
-        ensures ok { IfOk result (λ answer. Goes H.steps T.records (course_of parts.old.config
-            targets.new.items self.old (without_noreply self.old.request)) (λ more. more)
-            (parts.old, outbox.old) (standing_of answer self.new) (parts.new, outbox.new)) }
+        ensures ok { IfOk result (λ it. KeyTaken (recording H.steps T.records) targets.new.items
+            self.old (parts.old, outbox.old) (standing_of it self.new) (parts.new, outbox.new)) }
         ensures err { OnErr result (Extends (front_of self.old.share outbox.old) outbox.new) }
-        ensures cut { OnErr result ((key : List ℕ) → request_keys self.old.request ≡ key ∷ []
-            → IsKeyBeginCut H.steps T.records (course_of parts.old.config
-            (targets_of parts.old.config key) self.old (without_noreply self.old.request))
-            parts.old parts.new) }
+        ensures cut { OnErr result (KeyCut (recording H.steps T.records)
+            self.old parts.old parts.new) }
         ensures stays { Stays H.servers parts.old parts.new }
-        ensures targets { OnOk result ((key : List ℕ) → request_keys self.old.request ≡ key ∷ []
-            → targets.new.items ≡ targets_of parts.old.config key) }
+        ensures targets { OnOk result (GoesTo parts.old.config self.old.request targets.new.items) }
         ensures within { AreServers parts.old.config targets.new.items }
     {
         let stage = begin_route(rt, alloc, parts, targets, &mut self.request)?;
@@ -164,17 +159,13 @@ impl OneKey {
     ) -> Result<Answer, NoMemory>
         requires servers { HasServers H.servers parts.old }
         requires front { HasFront self.old.share outbox.old }
-        requires within { AreServers parts.old.config targets.now }
-        requires awaited { IsAwaited targets.now waiting }
-        ensures ok { IfOk result (λ answer. AfterSend parts.old.config (asking waiting self.old)
-            outcome (λ original calls. Goes H.steps T.records
-            (course_of parts.old.config targets.now self.old original) calls
-            (parts.old, outbox.old) (standing_of answer self.new) (parts.new, outbox.new))) }
+        requires out { IsOutTo parts.old.config targets.now waiting }
+        ensures ok { IfOk result (λ answer. SendTaken (recording H.steps T.records)
+            (send_outcome targets.now (asking waiting self.old) outcome) (parts.old, outbox.old)
+            (standing_of answer self.new) (parts.new, outbox.new)) }
         ensures err { OnErr result (Extends (front_of self.old.share outbox.old) outbox.new) }
-        ensures cut { OnErr result (AfterSend parts.old.config (asking waiting self.old) outcome
-            (λ original calls. GoesCut H.steps T.records
-            (course_of parts.old.config targets.now self.old original) calls
-            parts.old parts.new)) }
+        ensures cut { OnErr result (SendCut (recording H.steps T.records)
+            (send_outcome targets.now (asking waiting self.old) outcome) parts.old parts.new) }
         ensures stays { Stays H.servers parts.old parts.new }
     {
         let exptime = parts.config.failover_exptime();

@@ -1,8 +1,7 @@
 //! What a request is answered over.
-ghost use Rattle.std.specs.Prelude.{◌≡◌, ◌∷◌, [], List, ℕ, IfOk, OnErr, OnOk};
-ghost use Rattle.tko_answer.specs.Answers.{request_keys};
-ghost use Rattle.tko_answer.specs.Asking.{HasServers};
-ghost use Rattle.tko_pools.specs.Configs.{AreServers, targets_of};
+ghost use Rattle.std.specs.Prelude.{◌≡◌, ℕ, IfOk, OnErr, OnOk};
+ghost use Rattle.tko_answer.specs.Asking.{GoesTo, HasServers, with_health};
+ghost use Rattle.tko_pools.specs.Configs.{AreServers};
 ghost use Rattle.tko_route.specs.Routing.{GoesOn, Reached, last_place};
 ghost use Rattle.tko_route.specs.Trail.{form_at};
 ghost use Rattle.tko_text.specs.SentRequests.{without_noreply};
@@ -36,18 +35,14 @@ pub(crate) fn begin_route<R: Wait, H: Health, L, T, C>(
     request: &mut Request,
 ) -> Result<Stage, NoMemory>
     requires servers { HasServers H.servers parts.old }
-    ensures ok { IfOk result (λ stage. (form : ℕ → Request)
-        → GoesOn H.steps parts.old.backend.health
-        (λ calls. Reached targets.new.items form calls stage) parts.new.backend.health) }
+    ensures ok { IfOk result (λ to. (form : ℕ → Request) → GoesOn H.steps parts.old.backend.health
+        (λ calls. Reached targets.new.items form calls to) parts.new.backend.health) }
     ensures request { IfOk result (λ stage. request.new ≡ form_at parts.old.config.failover_exptime
         (without_noreply request.old) (last_place stage)) }
-    ensures others { parts.new ≡ record parts.old {
-      backend = record parts.old.backend { health = parts.new.backend.health };
-    } }
+    ensures others { parts.new ≡ with_health parts.new.backend.health parts.old }
     ensures servers { H.servers parts.new.backend.health ≡ H.servers parts.old.backend.health }
     ensures err { OnErr result (parts.new ≡ parts.old) }
-    ensures targets { OnOk result ((key : List ℕ) → request_keys request.old ≡ key ∷ []
-        → targets.new.items ≡ targets_of parts.old.config key) }
+    ensures targets { OnOk result (GoesTo parts.old.config request.old targets.new.items) }
     ensures within { AreServers parts.old.config targets.new.items }
 {
     find_targets(&parts.config, request, targets)?;
@@ -69,8 +64,7 @@ fn find_targets(
     request: &Request,
     targets: &mut Vec<usize>,
 ) -> Result<(), NoMemory>
-    ensures ok { OnOk result ((key : List ℕ) → request_keys request.now ≡ key ∷ []
-        → targets.new.items ≡ targets_of config.now key) }
+    ensures ok { OnOk result (GoesTo config.now request.now targets.new.items) }
     ensures within { AreServers config.now targets.new.items }
 {
     match first_key(request) {

@@ -1,7 +1,6 @@
 -- After a round each server that was marked has its prober.
 use Rattle.std.proofs.Common.{◌≡◌, ℕ, zero, suc, Bool, List, [], ◌∷◌, ap, map, slice_set}
-use Rattle.tko_model.specs.Records.{HealthItem, Lead}
-use Rattle.tko_links.specs.Links.{LinksItem}
+use Rattle.tko_model.specs.Records.{Lead}
 use Rattle.tko_prober.specs.declared.delays.Delays.{Delays}
 use Rattle.tko_prober.specs.declared.prober.Probed.{Probed}
 use Rattle.tko_prober.specs.declared.prober.Probed.TheVariants as probe
@@ -9,6 +8,7 @@ use Rattle.tko_prober.specs.declared.prober.Prober.{Prober}
 use Rattle.tko_backend.specs.declared.backend.Backend.{Backend}
 use Rattle.tko_backend.specs.declared.probers.ProbeSlot.{ProbeSlot}
 use Rattle.tko_backend.specs.declared.probers.ProbeSlot.TheVariants.{Quiet, Marked, Probing}
+use Rattle.tko_backend.specs.Ghosts.{BackendGhosts}
 use Rattle.tko_backend.specs.Probers.{AreBegun, NoneMarked, begun_at, begun_slot, probed_of, slot_after, with_slot}
 use Rattle.tko_backend.specs.Round as at_round
 use Rattle.tko_backend.specs.Round.{Absent, IsRound, IsVisit, Rested, Stopped, Visit}
@@ -40,9 +40,9 @@ slot_after-begun prober moment probe.Answered = tt
 slot_after-begun prober moment probe.Refused = tt
 slot_after-begun prober moment probe.Failed = tt
 
-module _ {H L C : Type 0} (steps : H → HealthItem → H → Type 0) (grants : H → ℕ → Type 0) (exchanges : L → LinksItem → L → Type 0) (probed : L → ℕ → ℕ) (reads : C → ℕ → C → Type 0) where
+module _ {H L C : Type 0} (ghosts : BackendGhosts H L C) where
   visit-begun : (moment : ℕ) (old : Backend H L C) (visit : Visit) (new : Backend H L C)
-      → IsVisit steps grants exchanges probed reads moment old visit new → AreBegun old.probers.slots → AreBegun new.probers.slots
+      → IsVisit ghosts moment old visit new → AreBegun old.probers.slots → AreBegun new.probers.slots
   visit-begun moment old (Absent server) new (none, same) begun = rw same begun
   visit-begun moment old (Stopped server) new stopped begun =
       let is : new.probers ≡ with_slot old.probers server Quiet = ap (λ (p : Backend H L C). p.probers) stopped.others in
@@ -54,18 +54,18 @@ module _ {H L C : Type 0} (steps : H → HealthItem → H → Type 0) (grants : 
       rw is (begun-set old.probers.slots server slot begun (slot_after-begun was.prober later (probed_of came)))
 
   visits-begun : (moment : ℕ) (old : Backend H L C) (visits : List Visit) (new : Backend H L C)
-      → Lead (IsVisit steps grants exchanges probed reads moment) old visits new → AreBegun old.probers.slots → AreBegun new.probers.slots
+      → Lead (IsVisit ghosts moment) old visits new → AreBegun old.probers.slots → AreBegun new.probers.slots
   visits-begun moment old [] new same begun = rw same begun
   visits-begun moment old (visit ∷ visits) new (mid, first, rest) begun =
       visits-begun moment mid visits new rest (visit-begun moment old visit mid first begun)
 
-module _ {H L C : Type 0} {steps : H → HealthItem → H → Type 0} {grants : H → ℕ → Type 0} {exchanges : L → LinksItem → L → Type 0} {probed : L → ℕ → ℕ} {reads : C → ℕ → C → Type 0} where
+module _ {H L C : Type 0} {ghosts : BackendGhosts H L C} where
   -- after a round each server that was marked has its prober
-  pub round-begun : {old new : Backend H L C} {short : Bool} → IsRound steps grants exchanges probed reads old short new
+  pub round-begun : {old new : Backend H L C} {short : Bool} → IsRound ghosts old short new
       → NoneMarked new.probers
   round-begun {old} {new} {short} round = record {
     begun =
-        visits-begun steps grants exchanges probed reads round.moment
+        visits-begun ghosts round.moment
         (record old { clock = round.clock; probers = begun_at round.moment old.probers }) round.visits new
         round.each.leads (begun-all old.probers.delays round.moment old.probers.slots);
   }

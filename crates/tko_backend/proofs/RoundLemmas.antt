@@ -6,12 +6,12 @@ use Rattle.std.proofs.lemmas.List.Folds.{list_any-append}
 use Rattle.std.proofs.lemmas.List.FromFn.{map-range_with_len_more}
 use Rattle.std.proofs.lemmas.List.Sums.{sum_by-cons}
 use Rattle.tko_model.specs.declared.mark.Reply.{Reply}
-use Rattle.tko_model.specs.Records.{HealthItem, Lead, NoDuty}
+use Rattle.tko_model.specs.Records.{Lead, NoDuty}
 use Rattle.tko_model.proofs.RecordLemmas.{gains_none, gains_push}
 use Rattle.tko_links.specs.declared.links.NoMemory.{NoMemory}
 use Rattle.tko_links.specs.declared.links.Outcome.{Outcome}
 use Rattle.tko_links.specs.declared.links.Outcome.TheVariants as outcome
-use Rattle.tko_links.specs.Links.{LinksItem, WasProbed, is_counted, most_sends, part_of}
+use Rattle.tko_links.specs.Links.{WasProbed, is_counted, most_sends, part_of}
 use Rattle.tko_pools.specs.Configs.{numbers_below}
 use Rattle.tko_prober.specs.declared.prober.Prober.{Prober}
 use Rattle.tko_prober.specs.declared.prober.ProbeTurn.TheVariants.{Rest, Send}
@@ -20,6 +20,7 @@ use Rattle.tko_route.specs.Trail.{IsRecorded}
 use Rattle.tko_backend.specs.declared.backend.Backend.{Backend}
 use Rattle.tko_backend.specs.declared.probers.ProbeSlot.{ProbeSlot}
 use Rattle.tko_backend.specs.declared.probers.ProbeSlot.TheVariants.{Quiet, Probing}
+use Rattle.tko_backend.specs.Ghosts.{BackendGhosts}
 use Rattle.tko_backend.specs.Probers.{AreQuiet, ProbersState, begun_at, begun_slot, op_asked, probed_of, prober_of, slot_after, with_slot}
 use Rattle.tko_backend.specs.Round.{Absent, AreVisited, IsRound, IsVisit, IsVisited, Probed, Rested, Stopped, Visit, is_probe, probes_in, ran_out, visited}
 use Rattle.tko_backend.proofs.ProberLemmas.{begun-quiet, prober-quiet, set-prober}
@@ -42,11 +43,10 @@ set_emptied probers server slot =
 pub rest_is_send : Rest ≡ Send → ⊥
 rest_is_send same = cc
 
-module _ {H L C : Type 0} {steps : H → HealthItem → H → Type 0} {grants : H → ℕ → Type 0}
-    {exchanges : L → LinksItem → L → Type 0} {probed : L → ℕ → ℕ} {reads : C → ℕ → C → Type 0} where
+module _ {H L C : Type 0} {ghosts : BackendGhosts H L C} where
   pub visited_absent : (moment : ℕ) (old : Backend H L C) (server : ℕ) (probers : ProbersState)
       → prober_of old.probers server ≡ None → probers ≡ old.probers
-      → IsVisited steps grants exchanges probed reads moment old server false (record old { probers = probers })
+      → IsVisited ghosts moment old server false (record old { probers = probers })
   visited_absent moment old server probers none same = record {
     visit = Absent server;
     at = refl;
@@ -55,9 +55,9 @@ module _ {H L C : Type 0} {steps : H → HealthItem → H → Type 0} {grants : 
   }
 
   pub visited_stopped : (moment : ℕ) (old : Backend H L C) (server : ℕ) (prober : Prober) (health : H) (probers : ProbersState)
-      → prober_of old.probers server ≡ Some prober → steps old.health (NoDuty server) health
+      → prober_of old.probers server ≡ Some prober → ghosts.steps old.health (NoDuty server) health
       → probers ≡ with_slot old.probers server Quiet
-      → IsVisited steps grants exchanges probed reads moment old server false (record old { health = health; probers = probers })
+      → IsVisited ghosts moment old server false (record old { health = health; probers = probers })
   visited_stopped moment old server prober health probers has refused slot = record {
     visit = Stopped server;
     at = refl;
@@ -73,7 +73,7 @@ module _ {H L C : Type 0} {steps : H → HealthItem → H → Type 0} {grants : 
   pub visited_rested : (moment : ℕ) (old : Backend H L C) (server : ℕ) (prober : Prober) (health : H) (probers : ProbersState)
       → prober_of old.probers server ≡ Some prober → ¬ IsDue prober.stage moment → health ≡ old.health
       → probers ≡ with_slot (with_slot old.probers server Quiet) server (Probing prober)
-      → IsVisited steps grants exchanges probed reads moment old server false (record old { health = health; probers = probers })
+      → IsVisited ghosts moment old server false (record old { health = health; probers = probers })
   visited_rested moment old server prober health probers has early same slot =
       let back : probers ≡ old.probers =
       slot ∙ set_emptied old.probers server (Probing prober)
@@ -93,15 +93,15 @@ module _ {H L C : Type 0} {steps : H → HealthItem → H → Type 0} {grants : 
   pub visited_probed : (moment : ℕ) (old : Backend H L C) (server : ℕ) (prober : Prober)
       (came : Result Outcome NoMemory) (later : ℕ) (reply : Option Reply)
       (short : Bool) (health : H) (links : L) (clock : C) (probers : ProbersState)
-      → prober_of old.probers server ≡ Some prober → IsDue prober.stage moment → grants old.health server
-      → WasProbed exchanges old.links server came links
-      → ((came ≡ Ok outcome.Spent) ↔ (probed old.links server ≡ most_sends))
-      → ((at : ℕ) → probed links at ≡ probed old.links at + part_of (is_counted came) server at)
-      → reads old.clock later clock
-      → IsRecorded steps old.health (record { server = server; op = op_asked (asked_after (probed_of came)); reply = reply }) health
+      → prober_of old.probers server ≡ Some prober → IsDue prober.stage moment → ghosts.grants old.health server
+      → WasProbed ghosts.exchanges old.links server came links
+      → ((came ≡ Ok outcome.Spent) ↔ (ghosts.probed old.links server ≡ most_sends))
+      → ((at : ℕ) → ghosts.probed links at ≡ ghosts.probed old.links at + part_of (is_counted came) server at)
+      → ghosts.reads old.clock later clock
+      → IsRecorded ghosts.steps old.health (record { server = server; op = op_asked (asked_after (probed_of came)); reply = reply }) health
       → probers ≡ with_slot (with_slot old.probers server Quiet) server (slot_after (sent prober) later (probed_of came))
       → short ≡ is_err came
-      → IsVisited steps grants exchanges probed reads moment old server short
+      → IsVisited ghosts moment old server short
       (record old { health = health; links = links; probers = probers; clock = clock })
   visited_probed moment old server prober came later reply short health links clock probers has due right probe spent counted read recorded slot ran =
       let settled = slot ∙ set_emptied old.probers server (slot_after (sent prober) later (probed_of came)) in
@@ -124,13 +124,13 @@ module _ {H L C : Type 0} {steps : H → HealthItem → H → Type 0} {grants : 
         memory = ran;
       }
 
-  pub visited_none : (moment : ℕ) (at : Backend H L C) → AreVisited steps grants exchanges probed reads moment at 0 false at
+  pub visited_none : (moment : ℕ) (at : Backend H L C) → AreVisited ghosts moment at 0 false at
   visited_none moment at = record { visits = []; each = gains_none at; servers = refl; memory = refl }
 
   pub visited_more : {moment : ℕ} {old mid new : Backend H L C} {count : ℕ} {short next : Bool}
-      → AreVisited steps grants exchanges probed reads moment old count short mid
-      → IsVisited steps grants exchanges probed reads moment mid count next new
-      → AreVisited steps grants exchanges probed reads moment old (count + 1) (short || next) new
+      → AreVisited ghosts moment old count short mid
+      → IsVisited ghosts moment mid count next new
+      → AreVisited ghosts moment old (count + 1) (short || next) new
   visited_more {count} front last = record {
     visits = front.visits ++ last.visit ∷ [];
     each = gains_push front.each last.is;
@@ -141,25 +141,24 @@ module _ {H L C : Type 0} {steps : H → HealthItem → H → Type 0} {grants : 
         refl;
   }
 
-module _ {H L C : Type 0} (steps : H → HealthItem → H → Type 0) (grants : H → ℕ → Type 0)
-    (exchanges : L → LinksItem → L → Type 0) (probed : L → ℕ → ℕ) (reads : C → ℕ → C → Type 0) where
+module _ {H L C : Type 0} (ghosts : BackendGhosts H L C) where
   -- what a visit adds to the probes of a server
   visit_probes : (moment : ℕ) (old new : Backend H L C) (visit : Visit)
-      → IsVisit steps grants exchanges probed reads moment old visit new → (server : ℕ)
-      → probed new.links server ≡ probed old.links server + cond (is_probe server visit) 1 0
+      → IsVisit ghosts moment old visit new → (server : ℕ)
+      → ghosts.probed new.links server ≡ ghosts.probed old.links server + cond (is_probe server visit) 1 0
   visit_probes moment old new (Absent at) (none, same) server =
-      omega (arith, ap (λ (p : Backend H L C). probed p.links server) same)
+      omega (arith, ap (λ (p : Backend H L C). ghosts.probed p.links server) same)
   visit_probes moment old new (Stopped at) is server =
-      omega (arith, ap (λ (p : Backend H L C). probed p.links server) is.others)
+      omega (arith, ap (λ (p : Backend H L C). ghosts.probed p.links server) is.others)
   visit_probes moment old new (Rested at) is server =
-      omega (arith, ap (λ (p : Backend H L C). probed p.links server) is.same)
+      omega (arith, ap (λ (p : Backend H L C). ghosts.probed p.links server) is.same)
   visit_probes moment old new (Probed at came later reply) is server = is.counted server
 
   -- the probes of a server are those of the visits
   probes_gained : (moment : ℕ) (old new : Backend H L C) (visits : List Visit)
-      → Lead (IsVisit steps grants exchanges probed reads moment) old visits new → (server : ℕ)
-      → probed new.links server ≡ probed old.links server + probes_in server visits
-  probes_gained moment old new [] same server = omega (arith, ap (λ (p : Backend H L C). probed p.links server) same)
+      → Lead (IsVisit ghosts moment) old visits new → (server : ℕ)
+      → ghosts.probed new.links server ≡ ghosts.probed old.links server + probes_in server visits
+  probes_gained moment old new [] same server = omega (arith, ap (λ (p : Backend H L C). ghosts.probed p.links server) same)
   probes_gained moment old new (visit ∷ visits) (mid, step, rest) server =
       omega (
         arith,
@@ -168,14 +167,13 @@ module _ {H L C : Type 0} (steps : H → HealthItem → H → Type 0) (grants : 
         sum_by-cons (λ (x : Visit). cond {A = ℕ} (is_probe server x) 1 0) visit visits,
       )
 
-module _ {H L C : Type 0} {steps : H → HealthItem → H → Type 0} {grants : H → ℕ → Type 0}
-    {exchanges : L → LinksItem → L → Type 0} {probed : L → ℕ → ℕ} {reads : C → ℕ → C → Type 0} where
+module _ {H L C : Type 0} {ghosts : BackendGhosts H L C} where
   -- a moment was read, the probers began, and all servers were visited
   pub round_of : (moment : ℕ) (old : Backend H L C) (clock : C) (short : Bool) (new : Backend H L C)
-      → reads old.clock moment clock
-      → AreVisited steps grants exchanges probed reads moment
+      → ghosts.reads old.clock moment clock
+      → AreVisited ghosts moment
       (record old { clock = clock; probers = begun_at moment old.probers }) (length old.probers.slots) short new
-      → IsRound steps grants exchanges probed reads old short new
+      → IsRound ghosts old short new
   round_of moment old clock short new read all = record {
     moment = moment;
     clock = clock;
@@ -183,39 +181,39 @@ module _ {H L C : Type 0} {steps : H → HealthItem → H → Type 0} {grants : 
     visits = all.visits;
     each = all.each;
     servers = all.servers;
-    probes = probes_gained steps grants exchanges probed reads moment _ new all.visits all.each.leads;
+    probes = probes_gained ghosts moment _ new all.visits all.each.leads;
     memory = all.memory;
   }
 
   -- the same where the probers are given by an equation
   pub round_after : (moment : ℕ) (old : Backend H L C) (clock : C) (probers : ProbersState) (short : Bool) (new : Backend H L C)
-      → reads old.clock moment clock → probers ≡ begun_at moment old.probers
-      → AreVisited steps grants exchanges probed reads moment
+      → ghosts.reads old.clock moment clock → probers ≡ begun_at moment old.probers
+      → AreVisited ghosts moment
       (record old { clock = clock; probers = probers }) (length probers.slots) short new
-      → IsRound steps grants exchanges probed reads old short new
+      → IsRound ghosts old short new
   round_after moment old clock probers short new read began all =
       let len : length probers.slots ≡ length old.probers.slots =
       ap (λ (p : ProbersState). length p.slots) began
       ∙ length-map old.probers.slots (begun_slot old.probers.delays moment) in
-      let moved : AreVisited steps grants exchanges probed reads moment
+      let moved : AreVisited ghosts moment
       (record old { clock = clock; probers = begun_at moment old.probers }) (length probers.slots) short new =
-      subst (λ (p : ProbersState). AreVisited steps grants exchanges probed reads moment
+      subst (λ (p : ProbersState). AreVisited ghosts moment
       (record old { clock = clock; probers = p }) (length probers.slots) short new) began all in
       round_of moment old clock short new read
-      (subst (λ n. AreVisited steps grants exchanges probed reads moment
+      (subst (λ n. AreVisited ghosts moment
       (record old { clock = clock; probers = begun_at moment old.probers }) n short new) len moved)
 
   visited_quiet : (moment : ℕ) (at : Backend H L C) → AreQuiet at.probers → (count : ℕ)
-      → AreVisited steps grants exchanges probed reads moment at count false at
+      → AreVisited ghosts moment at count false at
   visited_quiet moment at quiet zero = visited_none moment at
   visited_quiet moment at quiet (suc count) =
       let none = prober-quiet at.probers.slots count quiet in
       let all = visited_more (visited_quiet moment at quiet count) (visited_absent moment at count at.probers none refl) in
-      subst (λ n. AreVisited steps grants exchanges probed reads moment at n false at) (add-one count) all
+      subst (λ n. AreVisited ghosts moment at n false at) (add-one count) all
 
   -- where no server is probed or going to be, a round reads its moment and changes nothing else
-  pub round_quiet : (moment : ℕ) (old : Backend H L C) (clock : C) → reads old.clock moment clock → AreQuiet old.probers
-      → IsRound steps grants exchanges probed reads old false (record old { clock = clock })
+  pub round_quiet : (moment : ℕ) (old : Backend H L C) (clock : C) → ghosts.reads old.clock moment clock → AreQuiet old.probers
+      → IsRound ghosts old false (record old { clock = clock })
   round_quiet moment old clock read quiet =
       let at = record old { clock = clock; probers = begun_at moment old.probers } in
       let same : begun_at moment old.probers ≡ old.probers =
@@ -223,5 +221,5 @@ module _ {H L C : Type 0} {steps : H → HealthItem → H → Type 0} {grants : 
       (begun-quiet old.probers.delays moment old.probers.slots quiet) in
       let all = visited_quiet moment (record old { clock = clock }) quiet (length old.probers.slots) in
       round_of moment old clock false (record old { clock = clock }) read
-      (subst (λ (p : ProbersState). AreVisited steps grants exchanges probed reads moment (record old { clock = clock; probers = p })
+      (subst (λ (p : ProbersState). AreVisited ghosts moment (record old { clock = clock; probers = p })
       (length old.probers.slots) false (record old { clock = clock })) (sym same) all)

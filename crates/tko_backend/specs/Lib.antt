@@ -1,4 +1,5 @@
 pub mod Clocks
+pub mod Ghosts
 pub mod Probers
 pub mod Round
 pub mod Servers

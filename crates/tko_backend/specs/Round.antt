@@ -3,17 +3,18 @@
 use Rattle.std.specs.Prelude.{◌≡◌, ◌↔◌, ℕ, ◌+◌, Bool, false, ◌&&◌, ◌==◌, List, length, map, count_by, Option, Some, None, Result, Ok, is_err}
 use Rattle.std.specs.List.{list_any}
 use Rattle.tko_model.specs.declared.mark.Reply.{Reply}
-use Rattle.tko_model.specs.Records.{Gains, HealthItem, NoDuty}
+use Rattle.tko_model.specs.Records.{Gains, NoDuty}
 use Rattle.tko_links.specs.declared.links.NoMemory.{NoMemory}
 use Rattle.tko_links.specs.declared.links.Outcome.{Outcome}
 use Rattle.tko_links.specs.declared.links.Outcome.TheVariants as outcome
-use Rattle.tko_links.specs.Links.{LinksItem, WasProbed, is_counted, most_sends, part_of}
+use Rattle.tko_links.specs.Links.{WasProbed, is_counted, most_sends, part_of}
 use Rattle.tko_pools.specs.Configs.{numbers_below}
 use Rattle.tko_prober.specs.declared.prober.Prober.{Prober}
 use Rattle.tko_prober.specs.Probes.{IsDue, asked_after, sent}
 use Rattle.tko_route.specs.Trail.{IsRecorded}
 use Rattle.tko_backend.specs.declared.backend.Backend.{Backend}
 use Rattle.tko_backend.specs.declared.probers.ProbeSlot.TheVariants.{Quiet}
+use Rattle.tko_backend.specs.Ghosts.{BackendGhosts}
 use Rattle.tko_backend.specs.Probers.{begun_at, op_asked, probed_of, prober_of, slot_after, with_slot}
 
 -- what a round did at a server: it has no prober; its prober was stopped; its prober rests; or it
@@ -50,14 +51,12 @@ ran_out (Stopped server) = false
 ran_out (Rested server) = false
 ran_out (Probed server came moment reply) = is_err came
 
-module _ {H L C : Type 0} (steps : H → HealthItem → H → Type 0) (grants : H → ℕ → Type 0)
-    (exchanges : L → LinksItem → L → Type 0) (probed : L → ℕ → ℕ)
-    (reads : C → ℕ → C → Type 0) where
+module _ {H L C : Type 0} (ghosts : BackendGhosts H L C) where
   -- the server is not this thread's to probe: its prober is stopped
   pub record IsStopped (old : Backend H L C) (server : ℕ) (new : Backend H L C) : Type 0 where
     pub prober : Prober
     pub has : prober_of old.probers server ≡ Some prober
-    pub refused : steps old.health (NoDuty server) new.health
+    pub refused : ghosts.steps old.health (NoDuty server) new.health
     pub others : new ≡ record old {
       health = new.health;
       probers = with_slot old.probers server Quiet;
@@ -80,13 +79,13 @@ module _ {H L C : Type 0} (steps : H → HealthItem → H → Type 0) (grants : 
     pub prober : Prober
     pub has : prober_of old.probers server ≡ Some prober
     pub due : IsDue prober.stage moment
-    pub right : grants old.health server
-    pub probe : WasProbed exchanges old.links server came new.links
-    pub spent : (came ≡ Ok outcome.Spent) ↔ (probed old.links server ≡ most_sends)
-    pub counted : (at : ℕ)
-        → probed new.links at ≡ probed old.links at + part_of (is_counted came) server at
-    pub read : reads old.clock later new.clock
-    pub recorded : IsRecorded steps old.health
+    pub right : ghosts.grants old.health server
+    pub probe : WasProbed ghosts.exchanges old.links server came new.links
+    pub spent : (came ≡ Ok outcome.Spent) ↔ (ghosts.probed old.links server ≡ most_sends)
+    pub counted : (at : ℕ) → ghosts.probed new.links at
+        ≡ ghosts.probed old.links at + part_of (is_counted came) server at
+    pub read : ghosts.reads old.clock later new.clock
+    pub recorded : IsRecorded ghosts.steps old.health
         (record { server = server; op = op_asked (asked_after (probed_of came)); reply = reply })
         new.health
     pub others : new ≡ record old {
@@ -108,13 +107,13 @@ module _ {H L C : Type 0} (steps : H → HealthItem → H → Type 0) (grants : 
   pub record IsRound (old : Backend H L C) (short : Bool) (new : Backend H L C) : Type 0 where
     pub moment : ℕ
     pub clock : C
-    pub read : reads old.clock moment clock
+    pub read : ghosts.reads old.clock moment clock
     pub visits : List Visit
     pub each : Gains (IsVisit moment)
         (record old { clock = clock; probers = begun_at moment old.probers }) visits new
     pub servers : map visited visits ≡ numbers_below (length old.probers.slots)
     pub probes : (server : ℕ)
-        → probed new.links server ≡ probed old.links server + probes_in server visits
+        → ghosts.probed new.links server ≡ ghosts.probed old.links server + probes_in server visits
     pub memory : short ≡ list_any ran_out visits
 
   -- a server was visited, and memory ran out or did not

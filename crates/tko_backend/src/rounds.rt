@@ -3,6 +3,7 @@ ghost use Rattle.std.specs.Prelude.{◌≡◌, ◌+◌, ◌<◌, ◌↔◌, ℕ,
 ghost use Rattle.tko_links.specs.Links.{WasProbed, is_counted, most_sends, part_of};
 ghost use Rattle.tko_prober.specs.Probes.{asked_after};
 ghost use Rattle.tko_route.specs.Trail.{IsRecorded};
+ghost use Rattle.tko_backend.specs.Ghosts.{backend_ghosts};
 ghost use Rattle.tko_backend.specs.Probers.{op_asked, probed_of, slot_after};
 ghost use Rattle.tko_backend.specs.Round.{AreVisited, IsRound, IsVisited};
 ghost use Rattle.tko_backend.specs.Servers.{HaveServers};
@@ -21,7 +22,7 @@ impl<H: Health, L: Links, C: Clock> Backend<H, L, C> {
     /// goes on to the other servers before it returns `NoMemory`.
     pub fn round<R: IoRuntime>(&mut self, rt: &R) -> Result<(), NoMemory>
         requires servers { HaveServers H.servers L.servers self.old }
-        ensures round { IsRound H.steps H.grants L.exchanges L.probed C.reads
+        ensures round { IsRound (backend_ghosts H.Health L.Links C.Clock)
             self.old (is_err result) self.new }
         ensures sends { (server : ℕ) → L.sent self.new.links server ≡ L.sent self.old.links server }
         ensures servers { HaveServers H.servers L.servers self.new }
@@ -41,7 +42,7 @@ impl<H: Health, L: Links, C: Clock> Backend<H, L, C> {
     /// Visits each server in number order, and returns whether memory ran out.
     fn visit_all<R: IoRuntime>(&mut self, rt: &R, moment: u64) -> bool
         requires servers { HaveServers H.servers L.servers self.old }
-        ensures visits { AreVisited H.steps H.grants L.exchanges L.probed C.reads moment
+        ensures visits { AreVisited (backend_ghosts H.Health L.Links C.Clock) moment
             self.old (length self.old.probers.slots) result self.new }
         ensures sends { (server : ℕ) → L.sent self.new.links server ≡ L.sent self.old.links server }
         ensures servers { HaveServers H.servers L.servers self.new }
@@ -59,7 +60,7 @@ impl<H: Health, L: Links, C: Clock> Backend<H, L, C> {
     fn visit<R: IoRuntime>(&mut self, rt: &R, server: usize, moment: u64) -> bool
         requires servers { HaveServers H.servers L.servers self.old }
         requires within { server < length self.old.probers.slots }
-        ensures visit { IsVisited H.steps H.grants L.exchanges L.probed C.reads moment
+        ensures visit { IsVisited (backend_ghosts H.Health L.Links C.Clock) moment
             self.old server result self.new }
         ensures sends { (at : ℕ) → L.sent self.new.links at ≡ L.sent self.old.links at }
         ensures slots { length self.new.probers.slots ≡ length self.old.probers.slots }

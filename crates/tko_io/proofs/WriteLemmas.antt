@@ -9,8 +9,8 @@ capped-more a b c n m first second = omega arith
 module _ {O : Type 0} {takes : O → List ℕ → O → Type 0} where
   -- two writes are one
   pub writes_append : ((x y z : O) (bytes more : List ℕ) → takes x bytes y → takes y more z → takes x (bytes ++ more) z)
-      → {x y z : O} {text more : List ℕ} {a b c : ℕ} → Writes takes x text y a b → Writes takes y more z b c
-      → Writes takes x (text ++ more) z a c
+      → {x y z : O} {text more : List ℕ} {a b c : ℕ} → Writes takes (x, a) text (y, b) → Writes takes (y, b) more (z, c)
+      → Writes takes (x, a) (text ++ more) (z, c)
   writes_append goes_on {x} {y} {z} {text} {more} {a} {b} {c} front back = record {
     output = goes_on x y z text more front.output back.output;
     counted =
@@ -20,17 +20,17 @@ module _ {O : Type 0} {takes : O → List ℕ → O → Type 0} where
 
   -- some more of a text was written
   pub writes_some : ((x y z : O) (bytes more : List ℕ) → takes x bytes y → takes y more z → takes x (bytes ++ more) z)
-      → {x y z : O} {text more : List ℕ} {a b c : ℕ} → Writes takes x text y a b → takes y more z
-      → capped c ≡ capped (b + length more) → Writes takes x (text ++ more) z a c
+      → {x y z : O} {text more : List ℕ} {a b c : ℕ} → Writes takes (x, a) text (y, b) → takes y more z
+      → capped c ≡ capped (b + length more) → Writes takes (x, a) (text ++ more) (z, c)
   writes_some goes_on front took counted = writes_append goes_on front (record { output = took; counted = counted })
 
   -- nothing more was written
   pub writes_failed : ((x y z : O) (bytes more : List ℕ) → takes x bytes y → takes y more z → takes x (bytes ++ more) z)
-      → {x y z : O} {text : List ℕ} {a b : ℕ} → Writes takes x text y a b → takes y [] z → Writes takes x text z a b
+      → {x y z : O} {text : List ℕ} {a b : ℕ} → Writes takes (x, a) text (y, b) → takes y [] z → Writes takes (x, a) text (z, b)
   writes_failed goes_on {x} {y} {z} {text} front nothing = record {
     output = subst (λ bytes. takes x bytes z) (append-nil text) (goes_on x y z text [] front.output nothing);
     counted = front.counted;
   }
 
-  pub writes_none : (x : O) (a : ℕ) → takes x [] x → Writes takes x [] x a a
+  pub writes_none : (x : O) (a : ℕ) → takes x [] x → Writes takes (x, a) [] (x, a)
   writes_none x a nothing = record { output = nothing; counted = ap capped (sym (add-zero a)) }

@@ -63,15 +63,15 @@ write_result (Err error) = Err (write_stop (error_kind error))
 abbrev pub capped : ℕ → ℕ
 capped n = min n (2 ^ 64 - 1)
 
--- a text was written, and counted
+-- a text was written, and counted: the writer and the count before and after
 pub record Writes {O : Type 0} (takes : O → List ℕ → O → Type 0)
-    (old : O) (text : List ℕ) (new : O) (written written' : ℕ) : Type 0 where
-  pub output : takes old text new
-  pub counted : capped written' ≡ capped (written + length text)
+    (old : O × ℕ) (text : List ℕ) (new : O × ℕ) : Type 0 where
+  pub output : takes old.0 text new.0
+  pub counted : capped new.1 ≡ capped (old.1 + length text)
 
 -- the front of a text was written, and counted
 pub record WritesPart {O : Type 0} (takes : O → List ℕ → O → Type 0)
-    (old : O) (text : List ℕ) (new : O) (written written' : ℕ) : Type 0 where
+    (old : O × ℕ) (text : List ℕ) (new : O × ℕ) : Type 0 where
   pub count : ℕ
   pub within : count ≤ length text
-  pub front : Writes takes old (take count text) new written written'
+  pub front : Writes takes old (take count text) new

@@ -15,9 +15,9 @@ pub fn write_all<R: IoRuntime, O: Outlet>(
     written: &mut u64,
 ) -> bool
     ensures all { OnTrue result
-        (Writes O.takes writer.old text.now writer.new written.old written.new) }
+        (Writes O.takes (writer.old, written.old) text.now (writer.new, written.new)) }
     ensures part { OnFalse result
-        (WritesPart O.takes writer.old text.now writer.new written.old written.new) }
+        (WritesPart O.takes (writer.old, written.old) text.now (writer.new, written.new)) }
     ensures calm { OnTrue result (O.failures writer.new ≡ O.failures writer.old) }
     ensures failed { OnFalse result (O.failures writer.old < O.failures writer.new) }
 {

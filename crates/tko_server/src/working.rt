@@ -4,6 +4,7 @@ ghost use Rattle.tko_server.specs.Rounds.{IsRoundNoted};
 ghost use Rattle.tko_server.specs.Reports.{IsSessionCounted, ending_of};
 ghost use Rattle.tko_server.specs.Workers.{IsEquipped};
 ghost use Rattle.tko_answer.specs.Answers.{Reaches};
+ghost use Rattle.tko_backend.specs.Ghosts.{backend_ghosts};
 
 use crate::metered::Metered;
 use crate::{Account, Next, Source, WorkerReport};
@@ -117,8 +118,8 @@ impl<H: Health, L: Links, M: Clock> Working<H, L, M> {
     fn round<R: IoRuntime>(&mut self, rt: &R)
         requires reach { Reaches H.servers L.servers self.old.parts }
         ensures reach { Reaches H.servers L.servers self.new.parts }
-        ensures round { IsRoundNoted H.steps H.grants L.exchanges L.probed M.reads
-            self.old.parts.backend self.old.report self.new.parts.backend self.new.report }
+        ensures round { IsRoundNoted (backend_ghosts H.Health L.Links M.Clock)
+            (self.old.parts.backend, self.old.report) (self.new.parts.backend, self.new.report) }
     {
         let rounded = round(rt, &mut self.parts);
         self.report.note_round(rounded.is_err());

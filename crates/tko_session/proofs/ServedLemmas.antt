@@ -63,7 +63,7 @@ module _ {O W : Type 0} {outlet : OutletGhosts O} {does : Effects W} where
       → (part : AnsweredPart does old.session mid)
       → EndsAt does (stop_point (items_of (turns_of part.events)) part.left part.reached) new.session.parts
       → old.session.state.outbox ≡ [] → mid.state.outbox ≡ front ++ unwritten
-      → Writes outlet.takes old.writer front new.writer old.written new.written
+      → Writes outlet.takes (old.writer, old.written) front (new.writer, new.written)
       → DeliveredPart (delivering outlet does) 0 old new
   part_delivered front unwritten part ends empty split wrote = record {
     events = part.events;
@@ -110,7 +110,7 @@ module _ {O W : Type 0} {outlet : OutletGhosts O} {does : Effects W} where
   -- cleared
   pub all_of : {progress : Progress} {old : Delivery O W} {mid : Snapshot W} {state : SessionState} {writer : O} {written : ℕ}
       → Answered does progress old.session mid → old.session.state.outbox ≡ [] → mid.state.owes ≡ false
-      → Writes outlet.takes old.writer mid.state.outbox writer old.written written → outlet.failures writer ≡ outlet.failures old.writer
+      → Writes outlet.takes (old.writer, old.written) mid.state.outbox (writer, written) → outlet.failures writer ≡ outlet.failures old.writer
       → state ≡ record mid.state { outbox = [] }
       → AllDelivered (delivering outlet does) progress old (delivery state mid.parts writer written)
   all_of {progress} {old} {mid} {state} {writer} {written} answered empty none wrote calm cleared =
@@ -128,7 +128,7 @@ module _ {O W : Type 0} {outlet : OutletGhosts O} {does : Effects W} where
           output =
               let text : mid.state.outbox ≡ text_of (turns_of answered.events) =
               answered.outbox ∙ ap (λ xs. xs ++ text_of (turns_of answered.events)) empty in
-              subst (λ xs. Writes outlet.takes old.writer xs writer old.written written) text wrote;
+              subst (λ xs. Writes outlet.takes (old.writer, old.written) xs (writer, written)) text wrote;
           outbox = refl;
           owes = none;
           progress_is = answered.progress_is;
@@ -145,7 +145,7 @@ module _ {O W : Type 0} {outlet : OutletGhosts O} {does : Effects W} where
     turned = turned_append front.turned back.turned;
     output =
         let all = writes_append joins front.output back.output in
-        subst (λ text. Writes outlet.takes old.writer text new.writer old.written new.written) (sym (text-append front.events back.events)) all;
+        subst (λ text. Writes outlet.takes (old.writer, old.written) text (new.writer, new.written)) (sym (text-append front.events back.events)) all;
     outbox = back.outbox;
     owes = back.owes;
     progress_is = events_progress progress front.events back.events new.session.state.reading front.progress_is back.progress_is;
@@ -467,7 +467,7 @@ module _ {I O H L T C : Type 0} {inlet : InletGhosts I} {outlet : OutletGhosts O
         delivered = record {
           events = before.events ++ last;
           turned = turned_append before.turned (turned_idle {ghosts = ghosts} before.owes rounded);
-          output = subst (λ xs. Writes outlet.takes old.writer xs mid.writer 0 mid.written) (sym text) before.output;
+          output = subst (λ xs. Writes outlet.takes (old.writer, 0) xs (mid.writer, mid.written)) (sym text) before.output;
           outbox = before.outbox;
           owes = before.owes;
           progress_is = subst (λ xs. ProgressIs NeedsInput xs mid.session.state.reading) (sym items) before.progress_is;
@@ -529,7 +529,7 @@ module _ {O H L T C : Type 0} {outlet : OutletGhosts O} {ghosts : PartsGhosts H 
       → Answered (effects_of ghosts) progress old.session mid
       → IsRun ghosts.backend mid short new.session.parts
       → old.session.state.outbox ≡ [] → mid.state.outbox ≡ front ++ unwritten
-      → Writes outlet.takes old.writer front new.writer old.written new.written
+      → Writes outlet.takes (old.writer, old.written) front (new.writer, new.written)
       → DeliveredPart (delivering outlet (effects_of ghosts)) 0 old new
   ok_delivered {progress} {short} {old} {new} {mid} front unwritten answered run empty split wrote =
       let settled : SessionState = record mid.state { owes = false } in
@@ -543,7 +543,7 @@ module _ {O H L T C : Type 0} {outlet : OutletGhosts O} {ghosts : PartsGhosts H 
       → AnsweredPart (effects_of ghosts) old.session mid
       → IsRun ghosts.backend mid short new.session.parts
       → old.session.state.outbox ≡ [] → mid.state.outbox ≡ front ++ unwritten
-      → Writes outlet.takes old.writer front new.writer old.written new.written
+      → Writes outlet.takes (old.writer, old.written) front (new.writer, new.written)
       → DeliveredPart (delivering outlet (effects_of ghosts)) 0 old new
   err_delivered front unwritten part run empty split wrote =
       part_delivered front unwritten part (ends_paid {ghosts = ghosts} part.behind run) empty split wrote
@@ -554,7 +554,7 @@ module _ {O H L T C : Type 0} {outlet : OutletGhosts O} {ghosts : PartsGhosts H 
       → AnsweringEnds (effects_of ghosts) old.session answered mid
       → IsRun ghosts.backend mid short new.session.parts
       → old.session.state.outbox ≡ [] → mid.state.outbox ≡ front ++ unwritten
-      → Writes outlet.takes old.writer front new.writer old.written new.written
+      → Writes outlet.takes (old.writer, old.written) front (new.writer, new.written)
       → DeliveredPart (delivering outlet (effects_of ghosts)) 0 old new
   ends_delivered mid front unwritten (Ok progress) all run empty split wrote =
       ok_delivered front unwritten all run empty split wrote

@@ -146,8 +146,8 @@ module _ {O W : Type 0} (ghosts : Delivering O W) where
   pub record Delivered (progress : Progress) (old new : Delivery O W) : Type 0 where
     pub events : List Event
     pub turned : Turned ghosts.effects old.session events new.session
-    pub output : Writes ghosts.outlet.takes old.writer (text_of (turns_of events)) new.writer
-        old.written new.written
+    pub output : Writes ghosts.outlet.takes (old.writer, old.written) (text_of (turns_of events))
+        (new.writer, new.written)
     pub outbox : new.session.state.outbox ≡ []
     pub owes : new.session.state.owes ≡ false
     pub progress_is : ProgressIs progress (items_of (turns_of events)) new.session.state.reading
@@ -169,7 +169,7 @@ module _ {O W : Type 0} (ghosts : Delivering O W) where
     pub front : List ℕ
     pub unwritten : List ℕ
     pub text : text_of (turns_of events) ≡ front ++ unwritten
-    pub output : Writes ghosts.outlet.takes old.writer front new.writer old.written new.written
+    pub output : Writes ghosts.outlet.takes (old.writer, old.written) front (new.writer, new.written)
 
 -- what serving a client works with at a moment: its reader, and its session with the writer
 pub record ServeState (I O W : Type 0) : Type 0 where

@@ -141,11 +141,11 @@ fn write_replies<R: IoRuntime, O: Outlet>(
     requires between { session.old.work ≡ Between }
     ensures taken { OnOk result (session.new ≡ record session.old { outbox = [] }) }
     ensures all { OnOk result (Writes O.takes
-        writer.old session.old.outbox writer.new written.old written.new) }
+        (writer.old, written.old) session.old.outbox (writer.new, written.new)) }
     ensures calm { OnOk result (O.failures writer.new ≡ O.failures writer.old) }
     ensures kept { OnErr result (session.new ≡ session.old) }
     ensures part { OnErr result (WritesPart O.takes
-        writer.old session.old.outbox writer.new written.old written.new) }
+        (writer.old, written.old) session.old.outbox (writer.new, written.new)) }
     ensures failed { OnErr result (O.failures writer.old < O.failures writer.new) }
     ensures fault { IfErr result (λ fault. fault ≡ SessionFault.Write (capped written.new)) }
 {

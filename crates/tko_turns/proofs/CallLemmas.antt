@@ -11,8 +11,9 @@ use Rattle.tko_text.specs.declared.request.Request.{Request}
 use Rattle.tko_pools.specs.Configs.{Configuration, targets_of}
 use Rattle.tko_answer.specs.Answering.{Extends}
 use Rattle.tko_answer.specs.Answers.{request_keys}
-use Rattle.tko_answer.specs.Asking.{Begins, BeginsAt, Goes, GoesCut, IsFirst, IsKeyBeginCut, Stays, with_noted, AfterSend, course_of}
+use Rattle.tko_answer.specs.Asking.{Begins, BeginsAt, Goes, GoesCut, IsFirst, IsKeyBeginCut, Stays, with_noted, AfterSend, course_of, send_outcome}
 use Rattle.tko_answer.specs.Asking as begins
+use Rattle.tko_answer.specs.Ghosts.{recording}
 use Rattle.tko_answer.specs.TrailEvents.{Asked, TrailEvent}
 use Rattle.tko_route.specs.Underway.{Awaited}
 use Rattle.tko_answer.specs.Standing.{Asking, Standing, asking}
@@ -21,8 +22,7 @@ use Rattle.tko_answer.specs.declared.asking.OneKey.{OneKey}
 use Rattle.tko_answer.specs.declared.parts.Parts.{Parts}
 use Rattle.tko_answer.proofs.DrivingLemmas.{begun}
 use Rattle.tko_answer.proofs.HeldLemmas.{AwaitsAt, HoldsAt, goes_awaits, goes_held}
-use Rattle.tko_turns.specs.Driven.{IsOut, IsReady, IsReadyFor, ItemDropped, ItemRead, KeyBegun, KeyDropped, MayGoOn, OutcomeDropped, OutcomeTaken, RequestBegun, RequestDropped, WasDropped, WentOn, begun_at, dropped, requests_after, send_outcome, step_of, stepped, went, work_of}
-use Rattle.tko_turns.specs.Ghosts.{recording}
+use Rattle.tko_turns.specs.Driven.{IsOut, IsReady, IsReadyFor, ItemDropped, ItemRead, KeyBegun, KeyDropped, MayGoOn, OutcomeDropped, OutcomeTaken, RequestBegun, RequestDropped, WasDropped, WentOn, begun_at, dropped, requests_after, step_of, stepped, went, work_of}
 use Rattle.tko_turns.specs.Driven as driven
 use Rattle.tko_turns.specs.SessionState.{SessionState, Snapshot, progress_after, progress_of, snapshot}
 use Rattle.tko_turns.specs.declared.step.Progress.{Progress}
@@ -170,7 +170,7 @@ module _ {H L T C : Type 0} {steps : H → HealthItem → H → Type 0} {records
       → AfterSend parts.config it outcome (λ original calls. Goes steps records (course_of parts.config aimed it.key original) calls (parts, front) at (parts', outbox))
       → wanted ≡ step_of progress.More at → new ≡ is_went at reading outbox requests owes begin targets
       → aimed ≡ old.targets → front ≡ old.outbox → reading ≡ old.reading → requests ≡ old.requests → owes ≡ old.owes → begin ≡ old.begin
-      → targets ≡ old.targets → OutcomeTaken (recording steps records) (send_outcome it outcome) (snapshot old parts) (stepped wanted (snapshot new parts'))
+      → targets ≡ old.targets → OutcomeTaken (recording steps records) (send_outcome old.targets it outcome) (snapshot old parts) (stepped wanted (snapshot new parts'))
   outcome_taken {old} {new} {parts} {parts'} outcome it at aimed front reading outbox requests owes begin targets goes asks is aims waits reads counts owed begins same =
       let o : new.outbox ≡ outbox = ap (λ (s : SessionState). s.outbox) is in
       let P : List ℕ → List ℕ → List ℕ → Type 0 = λ ts xs ys.
@@ -186,19 +186,19 @@ module _ {H L T C : Type 0} {steps : H → HealthItem → H → Type 0} {records
 
   -- where it was, the session is ready for the next call
   pub outcome_ready : {outcome : Outcome} {it : Asking} {old new : Snapshot (Parts H L T C)} {wanted : Step} → IsOut old.parts.config old.state it
-      → OutcomeTaken (recording steps records) (send_outcome it outcome) old (stepped wanted new) → new.parts.config ≡ old.parts.config → IsReady new.parts.config new.state
+      → OutcomeTaken (recording steps records) (send_outcome old.state.targets it outcome) old (stepped wanted new) → new.parts.config ≡ old.parts.config → IsReady new.parts.config new.state
   outcome_ready {outcome} {it} {old} {new} out outcome' same =
       let sent = out.sent in
       let goes = outcome'.goes sent.original sent.calls sent.form sent.found in
       let state : SessionState = record old.state { outbox = new.state.outbox } in
       subst (λ config. IsReady config new.state) (sym same)
       (subst (IsReady old.parts.config) (sym outcome'.state)
-      (ready_at old.parts.config state outcome'.at (goes_held old.state.begin out.begins goes) (goes_awaits old.parts.config sent.original sent.within goes)))
+      (ready_at old.parts.config state outcome'.at (goes_held old.state.begin out.begins goes) (goes_awaits old.parts.config sent.original sent.out.within goes)))
 
   -- memory ran out there
   pub outcome_lost : {old new : SessionState} {parts parts' : Parts H L T C} (outcome : Outcome) (it : Asking) (aimed : List ℕ)
       → AfterSend parts.config it outcome (λ original calls. GoesCut steps records (course_of parts.config aimed it.key original) calls parts parts')
-      → aimed ≡ old.targets → new ≡ dropped old → OutcomeDropped (recording steps records) (send_outcome it outcome) (snapshot old parts) (snapshot new parts')
+      → aimed ≡ old.targets → new ≡ dropped old → OutcomeDropped (recording steps records) (send_outcome old.targets it outcome) (snapshot old parts) (snapshot new parts')
   outcome_lost {old} {new} {parts} {parts'} outcome it aimed cut aims is = record {
     cut =
         subst (λ ts. AfterSend parts.config it outcome (λ original calls. GoesCut steps records (course_of parts.config ts it.key original) calls parts parts'))

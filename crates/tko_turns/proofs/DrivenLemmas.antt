@@ -14,9 +14,10 @@ use Rattle.tko_text.specs.declared.request.Request.TheVariants as asked
 use Rattle.tko_route.specs.Calls.{IsExchange, upstream}
 use Rattle.tko_answer.specs.Answering.{AnsweredInto, Extends}
 use Rattle.tko_answer.specs.Answers.{request_keys}
-use Rattle.tko_answer.specs.Asking.{Begins, BeginsAt, Goes, GoesCut, IsFirst, Stays, with_noted, AfterSend, course_of}
+use Rattle.tko_answer.specs.Asking.{Begins, BeginsAt, Goes, GoesCut, IsFirst, Stays, with_noted, AfterSend, course_of, send_outcome}
 use Rattle.tko_answer.specs.Asking as begins
 use Rattle.tko_answer.specs.Cuts.{IsAnswerCut}
+use Rattle.tko_answer.specs.Ghosts.{recording}
 use Rattle.tko_answer.specs.Replies.{reply_bound}
 use Rattle.tko_answer.specs.TrailEvents.{Asked}
 use Rattle.tko_answer.specs.Standing.{Asking, Standing}
@@ -25,8 +26,8 @@ use Rattle.tko_answer.specs.declared.asking.OneKey.{OneKey}
 use Rattle.tko_answer.specs.declared.parts.Parts.{Parts}
 use Rattle.tko_answer.specs.declared.trails.Trails.{Ghosts as TrailsGhosts}
 use Rattle.tko_answer.proofs.DrivingLemmas.{Stands, at_extends, begin_cut, begun, begun_in, gone_on, gone_on_cut, keyed, sent_cut, stands}
-use Rattle.tko_turns.specs.Driven.{IsOut, IsReady, IsReadyFor, ItemDropped, ItemRead, KeyBegun, KeyDropped, OutcomeDropped, OutcomeTaken, RequestBegun, RequestDropped, WasDropped, WentOn, begun_at, dropped, requests_after, send_outcome, step_of, stepped, went, work_of}
-use Rattle.tko_turns.specs.Ghosts.{parts_ghosts, recording}
+use Rattle.tko_turns.specs.Driven.{IsOut, IsReady, IsReadyFor, ItemDropped, ItemRead, KeyBegun, KeyDropped, OutcomeDropped, OutcomeTaken, RequestBegun, RequestDropped, WasDropped, WentOn, begun_at, dropped, requests_after, step_of, stepped, went, work_of}
+use Rattle.tko_turns.specs.Ghosts.{parts_ghosts}
 use Rattle.tko_turns.specs.Driven as driven
 use Rattle.tko_turns.specs.Effects.{effects}
 use Rattle.tko_turns.specs.Ends.{IsSettled}
@@ -285,7 +286,7 @@ module _ {H L T C : Type 0} (health : HealthGhosts H) (links : LinksGhosts L) (t
       → length old.state.outbox < reply_bound → IsUnder health links trails progress.More old (answer.Asks clear it) now
       → IsExchange (upstream health links) now.parts.backend.links (record { server = clear; request = it.key.request; result = Ok got }) after
       → ((server : ℕ) → links.probed after server ≡ links.probed now.parts.backend.links server)
-      → OutcomeTaken (recording health.steps trails.records) (send_outcome it got) (snapshot now.state (record now.parts { backend = record now.parts.backend { links = after } })) (stepped wanted new)
+      → OutcomeTaken (recording health.steps trails.records) (send_outcome now.state.targets it got) (snapshot now.state (record now.parts { backend = record now.parts.backend { links = after } })) (stepped wanted new)
       → IsOn health links trails clock old wanted new
   outcome_on {old} {now} {new} none room under exchange unprobed outcome =
       let sending = under.stands in
@@ -338,7 +339,7 @@ module _ {H L T C : Type 0} (health : HealthGhosts H) (links : LinksGhosts L) (t
       → IsUnder health links trails progress.More old (answer.Asks clear it) now
       → IsExchange (upstream health links) now.parts.backend.links (record { server = clear; request = it.key.request; result = Ok got }) after
       → ((server : ℕ) → links.probed after server ≡ links.probed now.parts.backend.links server)
-      → OutcomeDropped (recording health.steps trails.records) (send_outcome it got) (snapshot now.state (record now.parts { backend = record now.parts.backend { links = after } })) new
+      → OutcomeDropped (recording health.steps trails.records) (send_outcome now.state.targets it got) (snapshot now.state (record now.parts { backend = record now.parts.backend { links = after } })) new
       → IsCut health links trails clock old new
   outcome_cut new none under exchange unprobed outcome =
       let sending = under.stands in

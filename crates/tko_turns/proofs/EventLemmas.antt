@@ -9,8 +9,8 @@ use Rattle.tko_answer.specs.declared.parts.Parts.{Parts}
 use Rattle.tko_turns.specs.Events.{Event, NoneShort, Rounded, idle_rounds, is_idle_round, owed_after, owed_from, owed_then, turn_in, turns_of, visits_in, visits_of}
 use Rattle.std.specs.Prelude.{MatchBool}
 use Rattle.tko_turns.specs.Ends.{IsRun, NoneRun}
-use Rattle.tko_turns.specs.Ghosts.{BackendGhosts}
 use Rattle.tko_turns.specs.SessionState.{Snapshot}
+use Rattle.tko_backend.specs.Ghosts.{BackendGhosts}
 use Rattle.tko_backend.specs.Probers.{NoneMarked}
 use Rattle.tko_backend.proofs.BegunLemmas.{round-begun}
 use Rattle.tko_backend.specs.Round.{is_probe, probes_in, ran_out}

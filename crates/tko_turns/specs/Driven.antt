@@ -3,15 +3,15 @@
 use Rattle.std.specs.Prelude.{◌≡◌, ℕ, ◌+◌, true, List, [], ◌∷◌, ◌++◌, length, take}
 use Rattle.tko_text.specs.Reading.{Emits, NeedsMore}
 use Rattle.tko_text.specs.Requests.{fault_text}
-use Rattle.tko_text.specs.SentRequests.{without_noreply}
 use Rattle.tko_text.specs.declared.fault.TextFault.{TextFault}
 use Rattle.tko_text.specs.declared.item.Item.TheVariants as item
 use Rattle.tko_text.specs.declared.request.Request.{Request}
 use Rattle.tko_links.specs.declared.links.Outcome.{Outcome}
-use Rattle.tko_pools.specs.Configs.{Configuration, targets_of}
+use Rattle.tko_pools.specs.Configs.{Configuration}
 use Rattle.tko_io.specs.Io.{capped}
-use Rattle.tko_answer.specs.Answers.{AnswersItself, request_keys}
-use Rattle.tko_answer.specs.Asking.{AfterSend, BeginsAt, Goes, GoesCut, IsBeginCut, IsFirst, IsKeyBeginCut, IsSent, course_of}
+use Rattle.tko_answer.specs.Answers.{AnswersItself}
+use Rattle.tko_answer.specs.Asking.{BeginsAt, GoesTo, IsBeginCut, IsFirst, IsSent, KeyCut, KeyTaken, SendCut, SendOutcome, SendTaken, send_outcome}
+use Rattle.tko_answer.specs.Ghosts.{Recording}
 use Rattle.tko_answer.specs.TrailEvents.{Asked}
 use Rattle.tko_answer.specs.Standing.{Asking, Standing}
 use Rattle.tko_answer.specs.Standing as answer
@@ -23,7 +23,6 @@ use Rattle.tko_turns.specs.declared.step.Step.{Step}
 use Rattle.tko_turns.specs.declared.step.Step.TheVariants as step
 use Rattle.tko_turns.specs.Working.{Work}
 use Rattle.tko_turns.specs.Working as work
-use Rattle.tko_turns.specs.Ghosts.{Recording}
 use Rattle.tko_turns.specs.SessionState.{SessionState, Snapshot, progress_after, progress_of, snapshot}
 
 -- what the session asks for, where an answer came so far
@@ -91,25 +90,14 @@ pub record Stepped (W : Type 0) : Type 0 where
 abbrev pub stepped : {W : Type 0} → Step → Snapshot W → Stepped W
 stepped wanted session = record { wanted = wanted; session = session }
 
--- a send, and what came of it
-pub record SendOutcome : Type 0 where
-  pub asking : Asking
-  pub outcome : Outcome
-
-abbrev pub send_outcome : Asking → Outcome → SendOutcome
-send_outcome asking outcome = record { asking = asking; outcome = outcome }
-
 module _ {H L T C : Type 0} (ghosts : Recording H T) where
   -- a key was asked for over its targets
   pub record KeyBegun (one : OneKey) (old : Snapshot (Parts H L T C))
       (to : Stepped (Parts H L T C)) : Type 0 where
     pub at : Standing
-    pub goes : Goes ghosts.steps ghosts.records
-        (course_of old.parts.config to.session.state.targets one (without_noreply one.request))
-        (λ more. more) (old.parts, old.state.outbox) at
+    pub goes : KeyTaken ghosts to.session.state.targets one (old.parts, old.state.outbox) at
         (to.session.parts, to.session.state.outbox)
-    pub targets : (key : List ℕ) → request_keys one.request ≡ key ∷ []
-        → to.session.state.targets ≡ targets_of old.parts.config key
+    pub targets : GoesTo old.parts.config one.request to.session.state.targets
     pub asks : to.wanted ≡ step_of progress.More at
     pub state : to.session.state ≡ went at (record old.state {
       outbox = to.session.state.outbox;
@@ -118,11 +106,16 @@ module _ {H L T C : Type 0} (ghosts : Recording H T) where
 
   -- memory ran out there, and its request was dropped
   pub record KeyDropped (one : OneKey) (old new : Snapshot (Parts H L T C)) : Type 0 where
-    pub cut : (key : List ℕ) → request_keys one.request ≡ key ∷ []
-        → IsKeyBeginCut ghosts.steps ghosts.records
-        (course_of old.parts.config (targets_of old.parts.config key) one
-        (without_noreply one.request)) old.parts new.parts
+    pub cut : KeyCut ghosts one old.parts new.parts
     pub state : new.state ≡ record (dropped old.state) { targets = new.state.targets }
+
+  -- the key at work was asked for, or its request was dropped
+  abbrev pub KeyAtWorkBegun : Snapshot (Parts H L T C) → Stepped (Parts H L T C) → Type 0
+  KeyAtWorkBegun old to = (one : OneKey) → old.state.work ≡ work.AtKey one → KeyBegun one old to
+
+  abbrev pub KeyAtWorkDropped : Snapshot (Parts H L T C) → Snapshot (Parts H L T C) → Type 0
+  KeyAtWorkDropped old new =
+      (one : OneKey) → old.state.work ≡ work.AtKey one → KeyDropped one old new
 
   -- a request was recorded; the proxy answered it itself, or its first key was asked for
   pub data RequestBegun (request : Request) (old : Snapshot (Parts H L T C))
@@ -193,10 +186,8 @@ module _ {H L T C : Type 0} (ghosts : Recording H T) where
   pub record OutcomeTaken (came : SendOutcome) (old : Snapshot (Parts H L T C))
       (to : Stepped (Parts H L T C)) : Type 0 where
     pub at : Standing
-    pub goes : AfterSend old.parts.config came.asking came.outcome
-        (λ original calls. Goes ghosts.steps ghosts.records
-        (course_of old.parts.config old.state.targets came.asking.key original) calls
-        (old.parts, old.state.outbox) at (to.session.parts, to.session.state.outbox))
+    pub goes : SendTaken ghosts came (old.parts, old.state.outbox) at
+        (to.session.parts, to.session.state.outbox)
     pub asks : to.wanted ≡ step_of progress.More at
     pub state : to.session.state
         ≡ went at (record old.state { outbox = to.session.state.outbox })
@@ -204,8 +195,15 @@ module _ {H L T C : Type 0} (ghosts : Recording H T) where
   -- memory ran out there, and the request was dropped
   pub record OutcomeDropped (came : SendOutcome) (old new : Snapshot (Parts H L T C))
       : Type 0 where
-    pub cut : AfterSend old.parts.config came.asking came.outcome
-        (λ original calls. GoesCut ghosts.steps ghosts.records
-        (course_of old.parts.config old.state.targets came.asking.key original) calls
-        old.parts new.parts)
+    pub cut : SendCut ghosts came old.parts new.parts
     pub state : new.state ≡ dropped old.state
+
+  -- what came of the send that is out was recorded, or its request was dropped
+  abbrev pub AwaitedTaken : Outcome → Snapshot (Parts H L T C) → Stepped (Parts H L T C) → Type 0
+  AwaitedTaken outcome old to = (it : Asking) → old.state.work ≡ work.Awaits it
+      → OutcomeTaken (send_outcome old.state.targets it outcome) old to
+
+  abbrev pub AwaitedDropped : Outcome → Snapshot (Parts H L T C) → Snapshot (Parts H L T C)
+      → Type 0
+  AwaitedDropped outcome old new = (it : Asking) → old.state.work ≡ work.Awaits it
+      → OutcomeDropped (send_outcome old.state.targets it outcome) old new

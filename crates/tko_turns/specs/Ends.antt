@@ -1,17 +1,28 @@
 -- What items are answered from, and how answering them ends.
-use Rattle.std.specs.Prelude.{◌≡◌, Bool, false, MatchBool, Result, Ok, Err}
+use Rattle.std.specs.Prelude.{◌≡◌, Bool, true, false, MatchBool, Result, Ok, Err}
 use Rattle.tko_bytes.specs.declared.memory.NoMemory.{NoMemory}
+use Rattle.tko_backend.specs.Ghosts.{BackendGhosts}
+use Rattle.tko_backend.specs.Probers.{AreQuiet, NoneMarked}
 use Rattle.tko_answer.specs.declared.parts.Parts.{Parts}
 use Rattle.tko_turns.specs.declared.step.Progress.{Progress}
 use Rattle.tko_turns.specs.Working.{Between}
 use Rattle.tko_turns.specs.Events.{Effects, Rounded}
-use Rattle.tko_turns.specs.Ghosts.{BackendGhosts}
 use Rattle.tko_turns.specs.SessionState.{Answered, AnsweredPart, SessionState, Snapshot}
 
 -- no request is being answered, and no round is owed
 pub record IsSettled (state : SessionState) : Type 0 where
   pub between : state.work ≡ Between
   pub unowed : state.owes ≡ false
+
+-- where a round is still owed, a prober is at work
+abbrev pub OwesWhereBusy : {H L T C : Type 0} → Snapshot (Parts H L T C) → Type 0
+OwesWhereBusy at = at.state.owes ≡ true → ¬ AreQuiet at.parts.backend.probers
+
+-- where no round is owed, each server that was marked has its prober, if that was so before
+abbrev pub KeepsBegun : {H L T C : Type 0} → Snapshot (Parts H L T C) → Snapshot (Parts H L T C)
+    → Type 0
+KeepsBegun old new = NoneMarked old.parts.backend.probers → new.state.owes ≡ false
+    → NoneMarked new.parts.backend.probers
 
 -- how the answering of items ends: at this progress, or where memory ran out
 abbrev pub AnsweringEnds : {W : Type 0} → Effects W → Snapshot W → Result Progress NoMemory

@@ -3,8 +3,9 @@ use Rattle.std.specs.Prelude.{◌≡◌, ℕ, Bool, true, false, List, [], ◌�
 use Rattle.std.specs.List.{list_any}
 use Rattle.tko_text.specs.declared.request.Request.{Request}
 use Rattle.tko_answer.specs.declared.parts.Parts.{Parts}
+use Rattle.tko_backend.specs.Ghosts.{BackendGhosts}
 use Rattle.tko_backend.specs.Round.{IsRound, Visit, ran_out}
-use Rattle.tko_turns.specs.Ghosts.{BackendGhosts, PartsGhosts}
+use Rattle.tko_turns.specs.Ghosts.{PartsGhosts}
 use Rattle.tko_turns.specs.Turns.{Turn, IsTurn, is_request}
 
 -- an item and what became of it, the round after a request, or the round at an idle turn of the
@@ -74,8 +75,7 @@ module _ {H L T C : Type 0} (ghosts : BackendGhosts H L C) where
   -- a round was run, in which memory ran out or did not, and nothing was sent to a server but its
   -- probes
   pub record Rounded (short : Bool) (old new : Parts H L T C) : Type 0 where
-    pub round : IsRound ghosts.steps ghosts.grants ghosts.exchanges ghosts.probed ghosts.reads
-        old.backend short new.backend
+    pub round : IsRound ghosts old.backend short new.backend
     pub others : new ≡ record old { backend = new.backend }
     pub sends : (server : ℕ)
         → ghosts.sent new.backend.links server ≡ ghosts.sent old.backend.links server
@@ -83,8 +83,7 @@ module _ {H L T C : Type 0} (ghosts : BackendGhosts H L C) where
   -- a round with these visits, in which nothing was sent to a server but its probes
   pub record IsRoundOf (visits : List Visit) (old new : Parts H L T C) : Type 0 where
     pub short : Bool
-    pub round : IsRound ghosts.steps ghosts.grants ghosts.exchanges ghosts.probed ghosts.reads
-        old.backend short new.backend
+    pub round : IsRound ghosts old.backend short new.backend
     pub visited : round.visits ≡ visits
     pub others : new ≡ record old { backend = new.backend }
     pub sends : (server : ℕ)

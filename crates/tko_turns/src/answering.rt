@@ -1,12 +1,12 @@
 //! A session is driven over a worker's links: what it asks for is sent, and its rounds are run.
 ghost use Rattle.std.specs.Prelude.{◌≡◌, ◌≤◌, ◌<◌, false, true, Ok, OnOk, is_err, length};
 ghost use Rattle.tko_text.specs.Reading.{NeedsMore};
-ghost use Rattle.tko_backend.specs.Probers.{AreQuiet, NoneMarked};
+ghost use Rattle.tko_backend.specs.Ghosts.{backend_ghosts};
+ghost use Rattle.tko_backend.specs.Probers.{NoneMarked};
 ghost use Rattle.tko_answer.specs.Answers.{Reaches};
 ghost use Rattle.tko_answer.specs.Replies.{reply_bound};
 ghost use Rattle.tko_turns.specs.Effects.{effects};
-ghost use Rattle.tko_turns.specs.Ends.{AnsweringEnds, IsRun, IsSettled, ItemEnds};
-ghost use Rattle.tko_turns.specs.Ghosts.{backend_ghosts};
+ghost use Rattle.tko_turns.specs.Ends.{AnsweringEnds, IsRun, IsSettled, ItemEnds, KeepsBegun, OwesWhereBusy};
 ghost use Rattle.tko_turns.specs.SessionState.{snapshot};
 ghost use Rattle.tko_turns.specs.Working.{Between};
 
@@ -32,10 +32,8 @@ pub fn answer<R: IoRuntime, H: Health, L: Links, T: Trails, C: Clock>(
         (snapshot session.old parts.old) result (snapshot session.new parts.new) }
     ensures full { result ≡ Ok Progress.More → session.new.owes ≡ false
         → reply_bound ≤ length session.new.outbox }
-    ensures busy { OnOk result
-        (session.new.owes ≡ true → ¬ AreQuiet parts.new.backend.probers) }
-    ensures begun { NoneMarked parts.old.backend.probers → session.new.owes ≡ false
-        → NoneMarked parts.new.backend.probers }
+    ensures busy { OnOk result (OwesWhereBusy (snapshot session.new parts.new)) }
+    ensures begun { KeepsBegun (snapshot session.old parts.old) (snapshot session.new parts.new) }
     ensures between { session.new.work ≡ Between }
     ensures reach { Reaches H.servers L.servers parts.new }
 {
@@ -89,10 +87,8 @@ fn answer_next<R: IoRuntime, H: Health, L: Links, T: Trails, C: Clock>(
     ensures ends { AnsweringEnds (effects H.Health L.Links T.Trails C.Clock)
         (snapshot session.old parts.old) result (snapshot session.new parts.new) }
     ensures more { result ≡ Ok Progress.More → ¬ NeedsMore session.old.reading }
-    ensures busy { OnOk result
-        (session.new.owes ≡ true → ¬ AreQuiet parts.new.backend.probers) }
-    ensures begun { NoneMarked parts.old.backend.probers → session.new.owes ≡ false
-        → NoneMarked parts.new.backend.probers }
+    ensures busy { OnOk result (OwesWhereBusy (snapshot session.new parts.new)) }
+    ensures begun { KeepsBegun (snapshot session.old parts.old) (snapshot session.new parts.new) }
     ensures between { session.new.work ≡ Between }
     ensures reach { Reaches H.servers L.servers parts.new }
 {

@@ -1,6 +1,7 @@
 //! The round of the probers that belongs to no request.
 ghost use Rattle.std.specs.Prelude.{◌≡◌, ℕ, is_err};
 ghost use Rattle.tko_answer.specs.Answers.{Reaches};
+ghost use Rattle.tko_backend.specs.Ghosts.{backend_ghosts};
 ghost use Rattle.tko_backend.specs.Round.{IsRound};
 
 use crate::Parts;
@@ -16,7 +17,7 @@ pub fn round<R: IoRuntime, H: Health, L: Links, T, C: Clock>(
     parts: &mut Parts<H, L, T, C>,
 ) -> Result<(), NoMemory>
     requires reach { Reaches H.servers L.servers parts.old }
-    ensures round { IsRound H.steps H.grants L.exchanges L.probed C.reads
+    ensures round { IsRound (backend_ghosts H.Health L.Links C.Clock)
         parts.old.backend (is_err result) parts.new.backend }
     ensures sends { (server : ℕ)
         → L.sent parts.new.backend.links server ≡ L.sent parts.old.backend.links server }

@@ -4,11 +4,11 @@ ghost use Rattle.std.specs.Prelude.{◌≡◌, ◌≢◌, ◌≤◌, ◌↔◌, 
 ghost use Rattle.tko_text.specs.Reading.{Emits, NeedsMore, Never};
 ghost use Rattle.tko_text.specs.Requests.{fault_text};
 ghost use Rattle.tko_answer.specs.Asking.{BeginsAt, HasServers, Stays, with_noted};
+ghost use Rattle.tko_answer.specs.Ghosts.{recording};
 ghost use Rattle.tko_answer.specs.Replies.{reply_bound};
-ghost use Rattle.tko_turns.specs.Driven.{IsAwaiting, IsReady, KeyBegun, KeyDropped, ItemDropped, ItemRead, MayGoOn, OutcomeDropped, OutcomeTaken, RequestBegun, RequestDropped, WasDropped, WentOn, dropped, send_outcome, step_of, stepped, went};
+ghost use Rattle.tko_turns.specs.Driven.{AwaitedDropped, AwaitedTaken, IsAwaiting, IsReady, ItemDropped, ItemRead, KeyAtWorkBegun, KeyAtWorkDropped, MayGoOn, RequestBegun, RequestDropped, WasDropped, WentOn, dropped, step_of, stepped, went};
 ghost use Rattle.tko_answer.specs.Standing.{Asking, Done, standing_of};
 ghost use Rattle.tko_answer.specs.declared.asking.OneKey.{OneKey};
-ghost use Rattle.tko_turns.specs.Ghosts.{recording};
 ghost use Rattle.tko_turns.specs.Working.{AtKey, Awaits, Between, IsAtKey};
 ghost use Rattle.tko_turns.specs.SessionState.{fed_state, fresh, progress_after, progress_of, snapshot};
 
@@ -135,11 +135,9 @@ impl Session {
         requires servers { HasServers H.servers parts.old }
         requires ready { IsReady parts.old.config self.old }
         requires awaiting { IsAwaiting self.old.work }
-        ensures ok { IfOk result (λ step. (it : Asking) → self.old.work ≡ Awaits it
-            → OutcomeTaken (recording H.steps T.records) (send_outcome it outcome)
+        ensures ok { IfOk result (λ step. AwaitedTaken (recording H.steps T.records) outcome
             (snapshot self.old parts.old) (stepped step (snapshot self.new parts.new))) }
-        ensures err { OnErr result ((it : Asking) → self.old.work ≡ Awaits it
-            → OutcomeDropped (recording H.steps T.records) (send_outcome it outcome)
+        ensures err { OnErr result (AwaitedDropped (recording H.steps T.records) outcome
             (snapshot self.old parts.old) (snapshot self.new parts.new)) }
         ensures ready { OnOk result (IsReady parts.new.config self.new) }
         ensures stays { Stays H.servers parts.old parts.new }
@@ -335,11 +333,9 @@ impl Session {
         requires servers { HasServers H.servers parts.old }
         requires at { IsAtKey self.old.work }
         requires ready { IsReady parts.old.config self.old }
-        ensures ok { IfOk result (λ step. (one : OneKey) → self.old.work ≡ AtKey one
-            → KeyBegun (recording H.steps T.records) one
+        ensures ok { IfOk result (λ step. KeyAtWorkBegun (recording H.steps T.records)
             (snapshot self.old parts.old) (stepped step (snapshot self.new parts.new))) }
-        ensures err { OnErr result ((one : OneKey) → self.old.work ≡ AtKey one
-            → KeyDropped (recording H.steps T.records) one
+        ensures err { OnErr result (KeyAtWorkDropped (recording H.steps T.records)
             (snapshot self.old parts.old) (snapshot self.new parts.new)) }
         ensures ready { OnOk result (IsReady parts.new.config self.new) }
         ensures stays { Stays H.servers parts.old parts.new }

@@ -4,5 +4,5 @@ use Rattle.tko_io.proofs.writing.write_all.Given as goal
 
 abbrev pub invariant-loop : goal.invariant-loop
 invariant-loop g l =
-    (l.at ≤ length l.text) × Writes g.O.Outlet.takes l.fn.writer (take l.at l.text) l.writer l.fn.written l.written
+    (l.at ≤ length l.text) × Writes g.O.Outlet.takes (l.fn.writer, l.fn.written) (take l.at l.text) (l.writer, l.written)
     × (g.O.Outlet.failures l.writer ≡ g.O.Outlet.failures l.fn.writer)

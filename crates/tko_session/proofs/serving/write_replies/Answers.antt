@@ -10,5 +10,5 @@ returns-clause-taken g c =
 
 pub returns-clause-all : goal.returns-clause-all
 returns-clause-all g c =
-    subst (λ text. Writes g.O.Outlet.takes c.args.writer.now text c.write_all.new.writer c.args.written.now c.write_all.new.written)
+    subst (λ text. Writes g.O.Outlet.takes (c.args.writer.now, c.args.written.now) text (c.write_all.new.writer, c.write_all.new.written))
     c.output-replies.ensures (rw c.if-not-write_all.false at c.write_all.ensures.all)

@@ -1,9 +1,9 @@
 use Rattle.std.proofs.Common.{ap, subst, sym, take, ◌∙◌}
-use Rattle.tko_answer.specs.Asking.{BeginsAt}
+use Rattle.tko_answer.specs.Asking.{BeginsAt, send_outcome}
+use Rattle.tko_answer.specs.Ghosts.{recording}
 use Rattle.tko_answer.specs.Standing.{asking}
 use Rattle.tko_answer.proofs.HeldLemmas.{front_stays}
-use Rattle.tko_turns.specs.Driven.{IsOut, IsReadyFor, OutcomeDropped, OutcomeTaken, dropped, send_outcome, stepped}
-use Rattle.tko_turns.specs.Ghosts.{recording}
+use Rattle.tko_turns.specs.Driven.{IsOut, IsReadyFor, OutcomeDropped, OutcomeTaken, dropped, stepped}
 use Rattle.tko_turns.specs.SessionState.{SessionState, snapshot}
 use Rattle.tko_turns.specs.Working.{key_work, work_at}
 use Rattle.tko_turns.proofs.CallLemmas.{awaits_same, dropped_again, outcome_lost, outcome_ready, outcome_taken}
@@ -22,7 +22,7 @@ returns-in_default-answered-clause-err g c = λ it is.
     let left = front_stays _ _ _ _ held c.in_default-answered.ensures.err ∙ ap (λ (s : SessionState). take s.begin s.outbox) same in
     let again = dropped_again c.args.self.now _ _ _ _ _ _ left (ap (λ (s : SessionState). s.reading) same) (ap (λ (s : SessionState). s.requests) same)
     (ap (λ (s : SessionState). s.owes) same) (ap (λ (s : SessionState). s.begin) same) in
-    subst (λ a. OutcomeDropped (recording g.H.Health.steps g.T.Trails.records) (send_outcome a c.args.outcome) (snapshot c.args.self.now c.args.parts.now) (snapshot c.drop_request.new.self c.answered.new.parts))
+    subst (λ a. OutcomeDropped (recording g.H.Health.steps g.T.Trails.records) (send_outcome c.args.self.now.targets a c.args.outcome) (snapshot c.args.self.now c.args.parts.now) (snapshot c.drop_request.new.self c.answered.new.parts))
     (awaits_same it-was it (sym awaited ∙ is))
     (outcome_lost c.args.outcome it-was _ c.in_default-answered.ensures.cut (c.as_slice-targets.ensures.value ∙ aims)
     (c.drop_request.ensures ∙ again ∙ ap (λ ts. record (dropped c.args.self.now) { targets = ts }) aims))
@@ -36,7 +36,7 @@ returns-clause-ok g c = λ it is.
     let found = sym c.replace.ensures.value ∙ c.in-Some-replace.is in
     let awaited = work ∙ ap (key_work _) found in
     let none = ap (key_work _) c.replace.ensures.after in
-    subst (λ a. OutcomeTaken (recording g.H.Health.steps g.T.Trails.records) (send_outcome a c.args.outcome) (snapshot c.args.self.now c.args.parts.now)
+    subst (λ a. OutcomeTaken (recording g.H.Health.steps g.T.Trails.records) (send_outcome c.args.self.now.targets a c.args.outcome) (snapshot c.args.self.now c.args.parts.now)
     (stepped c.go_to.result (snapshot c.go_to.new.self c.answered.new.parts)))
     (awaits_same it-was it (sym awaited ∙ is))
     (outcome_taken c.args.outcome it-was _ _ _ _ _ _ _ _ _ c.in-Ok.ensures.ok (c.go_to.ensures.asks _ none) (c.go_to.ensures.went _ none)

@@ -2,10 +2,10 @@ use Rattle.std.proofs.Common.{ap, subst, sym, take, ◌∙◌}
 use Rattle.tko_pools.specs.Configs.{AreServers}
 use Rattle.tko_text.specs.SentRequests.{without_noreply}
 use Rattle.tko_answer.specs.Asking.{BeginsAt, Goes, course_of}
+use Rattle.tko_answer.specs.Ghosts.{recording}
 use Rattle.tko_answer.specs.Standing.{standing_of}
 use Rattle.tko_answer.proofs.HeldLemmas.{front_stays, goes_awaits, goes_held}
 use Rattle.tko_turns.specs.Driven.{KeyBegun, KeyDropped, stepped}
-use Rattle.tko_turns.specs.Ghosts.{recording}
 use Rattle.tko_turns.specs.SessionState.{SessionState, snapshot}
 use Rattle.tko_turns.specs.Working.{IsAtKey, key_work, work_at}
 use Rattle.tko_turns.proofs.CallLemmas.{begins_at, dropped_again, key_at, key_begun, key_lost, none_at, ready_went}
