@@ -9,6 +9,7 @@ import tempfile
 import threading
 import time
 
+import kit
 from places import changed_function
 from refusals import refusals
 
@@ -65,9 +66,9 @@ class Tries:
         """The kit's verdict on one edit; it fails too where no clause at the code refuses it, or where the edit cannot
         be read or applied, which the kit lets pass."""
         kind, text = self.over_proof(crate, edit=edit)
-        if kind == self.rt.REFUSED:
+        if kit.is_refused(self.rt, kind):
             return self.verdict(crate, edit, refusals(self.last.ran.stdout, crate.name))
-        return (self.rt.MISSED if kind in self.rt.SETTLED else kind), text
+        return kit.failing(self.rt, kind), text
 
     def over_proof(self, crate, texts=None, edit=None):
         """A check of the edited crate over a copy of what its proof left. It writes files anew, so links will do."""
@@ -84,10 +85,11 @@ class Tries:
         by_clause = [it for it in refused if it.at_code]
         if by_clause:
             place = by_clause[0]
-            return self.rt.REFUSED, f"{label}: refused, as it must be, in {place.name}: {place.at_code[0][:220]}"
+            return kit.refused(self.rt), f"{label}: refused, as it must be, in {place.name}: {place.at_code[0][:220]}"
         written = [it.in_proofs[0] for it in refused if it.in_proofs] or ["no reason was printed"]
-        return self.rt.MISSED, (f"{label}: NOT REFUSED BY A CLAUSE: only a written proof no longer fits, which says "
-                                f"little of the contract (change a value, or plant it in a caller): {written[0][:200]}")
+        text = (f"{label}: NOT REFUSED BY A CLAUSE: only a written proof no longer fits, which says little of the "
+                f"contract (change a value, or plant it in a caller): {written[0][:200]}")
+        return kit.missed(self.rt), text
 
 
 def is_judged(rt, ran, texts):

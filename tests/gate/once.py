@@ -1,4 +1,4 @@
-"""The kit's `rt ci` with three changes, all of them about work that `rt ci` does more than once.
+"""The kit's `rt ci` with four changes, all of them about work that `rt ci` does more than once.
 
 1. Each library is proved once, from nothing, into a folder that this run makes and removes. Its tests and its edits are
    checked over what that proof left there. `rt ci` proves the library for each of the three.
@@ -13,8 +13,8 @@ import shutil
 import tempfile
 
 import costs
+import kit
 from edits import Tries, batches
-from kit import stop
 
 KEPT_WORK = "( incremental=trusted)?"
 
@@ -30,15 +30,18 @@ def install(rt, with_edits):
     spent = costs.install(rt, room.name)
     accept_kept_work(rt)
     rt.Crate = crate_proved_once(rt, room.name)
-    rt.Kept = kept_by_no_run(rt)
     if not with_edits:
         rt.edits_of = lambda crate: ([], [])
     tried = Tries(rt, lambda crate: proved(room.name, crate))
-    rt.add_edits = lambda tasks, crate, edits, *others: add_edits(rt, tried, tasks, crate, edits)
+    if kit.has_store(rt):
+        rt.Kept = kept_by_no_run(rt)
+        rt.add_edits = lambda tasks, crate, edits, *others: add_edits(rt, tried, tasks, crate, edits)
+    else:
+        rt.must_fail_all = lambda crate, edits, flags: [tried.verdicts[it] for it in edits]
     in_lanes = rt.in_lanes
 
     def proved_once(tasks):
-        given = in_lanes(dict(rearranged(rt, tasks)))
+        given = in_lanes(dict(rearranged(rt, tasks, tried)))
         print("Processor minutes of the checks:", *costs.table(spent), sep="\n", flush=True)
         return given
 
@@ -50,7 +53,7 @@ def accept_kept_work(rt):
     """Has the last line of a check also name the kept work that it rests on, which is this run's."""
     end = r" statements=trusted\n\Z"
     if not rt.rtlib.VERDICT.pattern.endswith(end):
-        stop("the last line of a check is held to another pattern than the one that this gate knows")
+        kit.stop("the last line of a check is held to another pattern than the one that this gate knows")
     pattern = rt.rtlib.VERDICT.pattern.removesuffix(end)
     rt.rtlib.VERDICT = re.compile(f"{pattern} statements=trusted{KEPT_WORK}\\n\\Z", re.M)
 
@@ -105,12 +108,19 @@ def proved(room, crate):
     return f"{room}/{crate.name}.proved"
 
 
-def rearranged(rt, tasks):
-    """Has the tests of a crate wait for its proof, and gives the proofs two jobs at least."""
+def rearranged(rt, tasks, tried):
+    """Has the tests of a crate wait for its proof, and gives the proofs two jobs at least. Where the kit has one task for
+    all edits of a crate, each check of them becomes a task."""
+    crates = {it.name: it for it in rt.rtlib.crates_below(os.getcwd())}
     for key, (waits, lines, needs, call) in tasks.items():
         name, what = key[:2]
         if what == "tests":
             yield key, ([*waits, (name, "proof")], lines, OVER_PROOF * needs, call)
+        elif what == "edits" and not kit.has_store(rt):
+            tries = tries_of(rt, tried, crates[name], rt.edits_of(crates[name])[0])
+            yield from tries.items()
+            # (what is left to this task is to say what came of them)
+            yield key, ([*waits, *tries], 0, 0, call)
         elif what == "proof" and rt.processors() >= 4:
             yield key, (waits, lines, needs, with_two_jobs(call))
         else:
@@ -123,10 +133,15 @@ def with_two_jobs(call):
     return lambda given, jobs: call(given, max(jobs, 2))
 
 
+def tries_of(rt, tried, crate, edits):
+    """Returns a task for each check of these edits."""
+    proof, lines, needs = (crate.name, "proof"), crate.count(rb"\n"), OVER_PROOF * rt.need(crate)
+    each = enumerate(batches(rt, crate, edits))
+    return {(crate.name, "edits", at): ([proof], lines, needs, tried.task(crate, batch, proof)) for at, batch in each}
+
+
 def add_edits(rt, tried, tasks, crate, edits):
     """Adds a task for each check of the crate's edits. Returns what gives their results, in the edits' order, and what
     gives those of earlier runs, as the kit's function of this name: of the latter there are none."""
-    proof, lines, needs = (crate.name, "proof"), crate.count(rb"\n"), OVER_PROOF * rt.need(crate)
-    for number, batch in enumerate(batches(rt, crate, edits)):
-        tasks[crate.name, "edits", number] = ([proof], lines, needs, tried.task(crate, batch, proof))
+    tasks.update(tries_of(rt, tried, crate, edits))
     return lambda given: [tried.verdicts[it] for it in edits], dict
