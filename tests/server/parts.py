@@ -135,6 +135,11 @@ class Proxy:
         with open(f"/proc/{self.process.pid}/status", encoding="ascii") as file:
             return int(re.search(rf"^{name}:\s+(\d+)", file.read(), re.M).group(1))
 
+    def forget_peak(self):
+        """From now on VmHWM is the most resident memory since then."""
+        with open(f"/proc/{self.process.pid}/clear_refs", "w", encoding="ascii") as file:
+            file.write("5")
+
     def limit_files(self, count):
         """From now on it may have so many files open."""
         _, hard = resource.prlimit(self.process.pid, resource.RLIMIT_NOFILE)

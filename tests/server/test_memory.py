@@ -45,6 +45,16 @@ class Memory(ServerTest):
                        "the room of the reply is given back")
             self.assertEqual(client.ask(b"version\r\n"), VERSION)
 
+    def test_a_long_value_is_held_once(self):
+        proxy = self.served(threads=1)
+        with proxy.client(limit=LIMIT) as client:
+            self.assertEqual(client.ask(b"get none\r\n"), b"END\r\n")
+            proxy.forget_peak()
+            before = proxy.status("VmRSS")
+            client.send(get_of(1))
+            self.assert_values(client, 1)
+            self.assertLess(proxy.status("VmHWM"), before + 1.5 * MIB)
+
     def test_a_reply_larger_than_the_memory_ends_its_session_alone(self):
         proxy = self.served(threads=2, memory=600 * MIB, connections=3)
         with proxy.client(limit=LIMIT) as other:

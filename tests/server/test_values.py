@@ -33,6 +33,24 @@ class Values(ServerTest):
         self.assertEqual(self.proxied.reply(), b"STORED\r\n")
         self.assertTrue(self.direct.ask(b"get %s\r\n" % KEY) == values((KEY, value)))
 
+    def test_responses_about_as_long_as_the_kept_buffer(self):
+        # A response of more than 65,536 bytes keeps the buffer that it came in, and goes out from there.
+        for size in range(65490, 65520, 3):
+            value = random.Random(size).randbytes(size)
+            self.direct.ask(store(b"k", value, flags=7))
+            for request in (b"get k\r\n", b"gets k\r\n"):
+                expected = self.direct.ask(request)
+                self.assertTrue(self.proxied.ask(request) == expected, f"{request} of {size} bytes")
+
+    def test_long_and_short_values_in_one_get_and_in_one_piece(self):
+        for key, size in ((b"short", 3), (b"long", 100000), (b"longer", 300000)):
+            self.direct.ask(store(key, random.Random(size).randbytes(size)))
+        gets = [b"get short\r\n", b"get long\r\n", b"get short long none longer short longer\r\n", b"get none\r\n",
+                b"get long long short\r\n", b"gets longer\r\n", b"get short\r\n"]
+        expected = b"".join(self.direct.ask(request) for request in gets)
+        self.proxied.send(b"".join(gets))
+        self.assertTrue(b"".join(self.proxied.reply() for _ in gets) == expected)
+
     def test_values_that_look_like_the_protocol(self):
         for value in (b"\r\n", b"END\r\n", b"\r\nEND\r\n", b"\0\r\0\n", b"VALUE k 0 1\r\nx\r\nEND\r\n", b"\n" * 1000):
             self.assertEqual(self.proxied.ask(store(b"k", value)), b"STORED\r\n")
@@ -63,6 +81,19 @@ class Values(ServerTest):
         self.assertEqual(self.proxied.ask(b"get a b c\r\n"), values((b"a", b"7"), (b"b", b"xy")))
         self.proxied.send(b"delete a noreply\r\n")
         self.assertEqual(self.proxied.ask(b"get a\r\n"), b"END\r\n")
+
+
+class Spellings(ServerTest):
+    def test_a_long_value_goes_out_in_the_written_form(self):
+        value = random.Random(4).randbytes(100000)
+        spellings = [b"VALUE k 0 100000\r\n%s\r\nEND\r\n", b"VALUE k 0 100000\n%s\r\nEND\r\n",
+                     b"VALUE k 00 100000\r\n%s\r\nEND\r\n", b"VALUE  k 0 0100000 \r\n%s\r\nEND\n",
+                     b" VALUE k 0 100000\r\n%s\r\n END \r\n"]
+        answers = iter([each % value for each in spellings])
+        server = self.fake(lambda connection, request: next(answers))
+        client = self.client(self.proxy(configuration(only=[server])).port)
+        for spelling in spellings:
+            self.assertTrue(client.ask(b"get k\r\n") == values((b"k", value)), spelling)
 
 
 # The same replies each time that it is sent, so none with a cas number.

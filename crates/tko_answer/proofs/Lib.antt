@@ -5,5 +5,6 @@ pub mod DrivingLemmas
 mod GoingLemmas
 pub mod HeldLemmas
 mod OutboxLemmas
+mod PieceLemmas
 pub mod ResultLemmas
 mod StatusLemmas

@@ -1,18 +1,18 @@
 //! Replies that wait to be written.
-ghost use Rattle.std.specs.Prelude.{◌≡◌, ◌≤◌, ◌↔◌, ◌++◌, if◌then◌else◌, [], IfOk, MatchBool, IsSome, IsTrue, OnOk, OnErr, drop, length, map, string_bytes, take, unwrap_or};
-ghost use Rattle.std.specs.Option.{option_copied};
+ghost use Rattle.std.specs.Prelude.{◌≡◌, ◌≤◌, ◌↔◌, ◌++◌, ℕ, [], IfOk, IsTrue, List, OnOk, OnErr, drop, length, take, unwrap_or};
+ghost use Rattle.tko_text.specs.Responses.{response_text};
 ghost use Rattle.tko_answer.specs.Answering.{Extends};
-ghost use Rattle.tko_answer.specs.Cuts.{LooksSome};
-ghost use Rattle.tko_answer.specs.Replies.{text_of_answer, values_in, reply_bound};
-ghost use Rattle.tko_answer.specs.Status.{IsStatusAfter};
+ghost use Rattle.tko_answer.specs.Replies.{reply_bound};
 
-use crate::status_text::append_status;
+use bytes::Bytes;
 use std::alloc::Global;
 use std::marker::Model;
-use std::sync::Wait;
-use tko_bytes::{NoMemory, clear};
-use tko_route::Health;
+use tko_bytes::{NoMemory, append, clear};
 use tko_text::Response;
+
+mod replies;
+
+pub(crate) use replies::END;
 
 /// This number of bytes of replies is enough to be written. A single reply may be longer.
 const REPLY_BOUND: usize = 65_536;
@@ -20,24 +20,28 @@ const REPLY_BOUND: usize = 65_536;
 /// The room that an empty outbox keeps at most.
 const KEPT_ROOM: usize = 4_096;
 
-/// The reply to a request that got no response.
-const NO_SERVER: &[u8] = b"SERVER_ERROR no server\r\n";
+/// The most bytes that memory can hold.
+const MOST: usize = isize::MAX as usize;
 
-/// The line that ends a list of values.
-pub(crate) const END: &[u8] = b"END\r\n";
-
-/// Replies in order. Contracts see their bytes.
+/// Replies in order. Contracts see their bytes. The written form of a long response is shared with
+/// the response and not copied, as long as no other one follows it.
 #[derive(Drop)]
 pub struct Outbox {
+    /// What comes before the long text.
+    before: Vec<u8>,
+    long: Option<Bytes>,
+    /// What follows it.
     bytes: Vec<u8>,
 }
 
 impl Model for Outbox {
-    ghost use Rattle.std.specs.Prelude.{List, ℕ};
+    ghost use Rattle.std.specs.Prelude.{◌+◌, ◌^◌, ◌<◌, ◌++◌, [], List, ℕ, length, unwrap_or};
 
     ghost Value = { List ℕ };
 
-    ghost view = { λ o. o.bytes.items };
+    ghost view = { λ o. o.before.items ++ unwrap_or o.long [] ++ o.bytes.items };
+
+    ghost invariant = { λ o. length o.before.items + length (unwrap_or o.long []) < 2 ^ 63 };
 }
 
 impl Outbox {
@@ -45,27 +49,38 @@ impl Outbox {
         ensures { result ≡ [] }
     {
         Outbox {
+            before: Vec::new(alloc),
+            long: None,
             bytes: Vec::new(alloc),
         }
     }
 
-    pub fn as_slice(&self) -> &[u8]
-        ensures { result.now ≡ self.now }
+    /// The first of the replies in one piece; it is empty only if no reply waits.
+    pub fn front(&self) -> &[u8]
+        ensures front { Extends result.now self.now }
+        ensures some { result.now ≡ [] → self.now ≡ [] }
     {
+        if !self.before.is_empty() {
+            return self.before.as_slice();
+        }
+        let long = text_in(&self.long);
+        if !long.is_empty() {
+            return long;
+        }
         self.bytes.as_slice()
     }
 
     pub fn len(&self) -> usize
         ensures { result ≡ length self.now }
     {
-        self.bytes.len()
+        self.before.len() + text_in(&self.long).len() + self.bytes.len()
     }
 
     /// Whether the replies reached the bound.
     pub fn is_full(&self) -> bool
         ensures { IsTrue result ↔ (reply_bound ≤ length self.now) }
     {
-        self.bytes.len() >= REPLY_BOUND
+        self.len() >= REPLY_BOUND
     }
 
     pub fn append(&mut self, text: &[u8]) -> Result<(), NoMemory>
@@ -75,120 +90,91 @@ impl Outbox {
         Ok(self.bytes.extend_from_slice(text)?)
     }
 
-    /// Appends the response, or that there is none.
-    pub(crate) fn append_reply(&mut self, response: Option<&Response>) -> Result<(), NoMemory>
-        ensures ok { OnOk result
-            (self.new ≡ self.old ++ text_of_answer (option_copied response.entry)) }
+    /// Appends the written form of a response.
+    fn append_response(&mut self, response: &Response) -> Result<(), NoMemory>
+        ensures ok { OnOk result (self.new ≡ self.old ++ response_text response.now) }
         ensures err { OnErr result (self.new ≡ self.old) }
     {
-        match response {
-            Some(response) => response.append_to(&mut self.bytes),
-            None => self.append(NO_SERVER),
+        match response.shared_text() {
+            Some(text) => self.append_long(text),
+            None => response.append_to(&mut self.bytes),
         }
     }
 
-    /// Appends the response, or that there is none, to a request that is not silent.
-    pub(crate) fn append_unless(
-        &mut self,
-        silent: bool,
-        response: Option<&Response>,
-    ) -> Result<(), NoMemory>
-        ensures ok { OnOk result (self.new
-            ≡ self.old ++ (if silent then [] else text_of_answer (option_copied response.entry))) }
+    /// Appends a text that is not copied. An earlier one is.
+    fn append_long(&mut self, text: Bytes) -> Result<(), NoMemory>
+        ensures ok { OnOk result (self.new ≡ self.old ++ text) }
         ensures err { OnErr result (self.new ≡ self.old) }
     {
-        if silent {
-            return Ok(());
+        if self.len() > MOST - text.len() {
+            return Err(NoMemory);
         }
-        self.append_reply(response)
-    }
-
-    /// Appends the values of a response that is a list of values, and returns whether it is one.
-    /// The line `END` is left out.
-    pub(crate) fn append_values(&mut self, response: Option<&Response>) -> Result<bool, NoMemory>
-        ensures listed { IfOk result (λ listed.
-            IsTrue listed ↔ IsSome (values_in (option_copied response.entry))) }
-        ensures ok { OnOk result
-            (self.new ≡ self.old ++ unwrap_or (values_in (option_copied response.entry)) []) }
-        ensures err { OnErr result (self.new ≡ self.old) }
-    {
-        let Some(response) = response else {
-            return Ok(false);
-        };
-        match response {
-            Response::Values(_) => {
-                response.append_to(&mut self.bytes)?;
-                self.bytes
-                    .truncate(self.bytes.len().saturating_sub(END.len()));
-                Ok(true)
-            }
-            _ => Ok(false),
-        }
-    }
-
-    /// Appends the values of a response that is a list of values, and returns whether it is one. If
-    /// it is none, it takes the place of all but the first `waiting` bytes.
-    pub(crate) fn append_next(
-        &mut self,
-        waiting: usize,
-        response: Option<&Response>,
-    ) -> Result<bool, NoMemory>
-        requires { waiting ≤ length self.old }
-        ensures listed { IfOk result (λ listed.
-            IsTrue listed ↔ IsSome (values_in (option_copied response.entry))) }
-        ensures ok { IfOk result (λ listed. MatchBool listed
-            (self.new ≡ self.old ++ unwrap_or (values_in (option_copied response.entry)) [])
-            (self.new ≡ take waiting self.old ++ text_of_answer (option_copied response.entry))) }
-        ensures err { OnErr result (Extends (take waiting self.old) self.new) }
-    {
-        if self.append_values(response)? {
-            return Ok(true);
-        }
-        self.truncate(waiting);
-        self.append_reply(response)?;
-        Ok(false)
-    }
-
-    /// Appends the status of the servers.
-    pub(crate) fn append_status<R: Wait, H: Health>(
-        &mut self,
-        rt: &R,
-        health: &mut H,
-        addresses: &[String],
-    ) -> Result<(), NoMemory>
-        requires { H.servers health.old ≡ length addresses.now }
-        ensures ok { OnOk result (IsStatusAfter H.steps (map string_bytes addresses.now)
-            health.old self.old health.new self.new) }
-        ensures err { OnErr result (Extends self.old self.new) }
-        ensures cut { OnErr result (LooksSome H.steps (map string_bytes addresses.now)
-            health.old health.new) }
-        ensures servers { H.servers health.new ≡ H.servers health.old }
-    {
-        append_status(rt, health, addresses, &mut self.bytes)
+        let pieces = [text_in(&self.long), self.bytes.as_slice()];
+        append(&mut self.before, &pieces)?;
+        self.bytes.clear();
+        self.long = Some(text);
+        Ok(())
     }
 
     /// Drops all but the first `len` bytes.
     pub fn truncate(&mut self, len: usize)
         ensures { self.new ≡ take len self.old }
     {
-        self.bytes.truncate(len);
+        let of_long = len.saturating_sub(self.before.len());
+        let of_bytes = of_long.saturating_sub(text_in(&self.long).len());
+        self.before.truncate(len);
+        cut_long(&mut self.long, of_long);
+        self.bytes.truncate(of_bytes);
     }
 
     /// Drops the first `count` bytes, which were written.
     pub fn drop_front(&mut self, count: usize)
         ensures { self.new ≡ drop count self.old }
     {
-        if self.bytes.len() <= count {
-            self.clear();
-        } else {
-            self.bytes.drain(..count);
-        }
+        let of_long = count.saturating_sub(self.before.len());
+        let of_bytes = of_long.saturating_sub(text_in(&self.long).len());
+        drop_bytes(&mut self.before, count, 0);
+        drop_long(&mut self.long, of_long);
+        drop_bytes(&mut self.bytes, of_bytes, KEPT_ROOM);
     }
+}
 
-    /// Drops the replies, and the room above what an empty outbox keeps.
-    pub fn clear(&mut self)
-        ensures { self.new ≡ [] }
-    {
-        clear(&mut self.bytes, KEPT_ROOM);
+/// The bytes of a long text, if there is one.
+fn text_in(long: &Option<Bytes>) -> &[u8]
+    ensures { result.now ≡ unwrap_or long.now [] }
+{
+    match long {
+        Some(text) => text.as_slice(),
+        None => &[],
+    }
+}
+
+/// Drops the first `count` bytes, and where none is left the room above what is kept.
+fn drop_bytes(bytes: &mut Vec<u8>, count: usize, kept: usize)
+    ensures { bytes.new.items ≡ drop count bytes.old.items }
+{
+    if bytes.len() <= count {
+        clear(bytes, kept);
+    } else {
+        bytes.drain(..count);
+    }
+}
+
+/// Drops all but the first `len` bytes of a long text.
+fn cut_long(long: &mut Option<Bytes>, len: usize)
+    ensures { unwrap_or long.new [] ≡ take len (unwrap_or long.old []) }
+{
+    if let Some(text) = long {
+        text.truncate(len);
+    }
+}
+
+/// Drops the first `count` bytes of a long text, and where none is left the text.
+fn drop_long(long: &mut Option<Bytes>, count: usize)
+    ensures { unwrap_or long.new [] ≡ drop count (unwrap_or long.old []) }
+{
+    match long {
+        Some(text) if count < text.len() => text.advance(count),
+        _ => *long = None,
     }
 }

@@ -5,6 +5,7 @@ use Rattle.tko_text.specs.declared.response.Response.{Response}
 use Rattle.tko_text.specs.declared.response.fault.ReadFault.TheVariants as read_fault
 use Rattle.tko_text.specs.ResponseLengths.{IsLeastLength}
 use Rattle.tko_text.specs.Responses.{NoResponse, ReadsResponse}
+use Rattle.tko_links.specs.declared.incoming.Incoming.{Incoming}
 use Rattle.tko_links.specs.declared.fault.LinkFault.{LinkFault}
 use Rattle.tko_links.specs.declared.fault.LinkFault.TheVariants as fault
 
@@ -12,6 +13,10 @@ use Rattle.tko_links.specs.declared.fault.LinkFault.TheVariants as fault
 pub record Arrival : Type 0 where
   pub bytes : List ℕ
   pub least : ℕ
+
+-- what has come of a response
+abbrev pub arrival : Incoming → Arrival
+arrival it = record { bytes = it.buffer; least = it.least }
 
 -- no byte has come
 abbrev pub nothing_yet : Arrival

@@ -2,6 +2,7 @@
 ghost use Rattle.std.specs.Prelude.{◌≡◌, ◌<◌, true, IfErr, OnOk};
 ghost use Rattle.tko_text.specs.Requests.{request_text};
 ghost use Rattle.tko_links.specs.ExchangeParts.{Opens, Receives, Sends, SendsAndReceives, returned, stays_after};
+ghost use Rattle.tko_links.specs.Incoming.{arrival, nothing_yet};
 ghost use Rattle.tko_links.specs.Exchanges.{IsExchange, IsPart, closing_of};
 ghost use Rattle.tko_links.specs.Links.{is_counted, outcome_in};
 ghost use Rattle.tko_links.specs.Wires.{is_ok};
@@ -13,6 +14,7 @@ use crate::links::{NoMemory, Outcome};
 use crate::read_buffer::ReadBuffer;
 use crate::wire::{Wire, WireFault};
 use std::alloc::Global;
+use std::mem::replace;
 use tko_text::{Request, Response};
 
 /// Exchanges a request, which was counted, over the connection that is there, or over a new one.
@@ -97,7 +99,10 @@ fn send_and_receive<R: IoRuntime, W: Wire>(
 {
     buffers.print(request)?;
     send(rt, wire, server, buffers.text.as_slice())?;
-    receive(rt, alloc, wire, &mut buffers.received, server, request)
+    let mut incoming = Incoming::new(replace(&mut buffers.received, ReadBuffer::new(alloc)));
+    let received = receive(rt, alloc, wire, &mut incoming, server, request);
+    buffers.received = incoming.buffer;
+    received
 }
 
 /// Writes a text: in one call, continued where the wire took less.
@@ -128,20 +133,20 @@ fn receive<R: IoRuntime, W: Wire>(
     rt: &R,
     alloc: Global,
     wire: &mut W,
-    received: &mut ReadBuffer,
+    incoming: &mut Incoming,
     server: usize,
     request: &Request,
 ) -> Result<(Response, bool), LinkFault>
     requires within { server < W.servers wire.old }
     requires connected { W.is_connected wire.old server ≡ true }
+    requires nothing { arrival incoming.old ≡ nothing_yet }
+    requires looked { incoming.old.looked ≡ 0 }
     ensures { Receives W.servers W.is_connected W.failures W.steps server request.now wire.old
         result wire.new }
 {
-    received.clear();
-    let mut incoming = Incoming::new();
     for _ in rt.forever() {
-        match received.read(rt, wire, server) {
-            Ok(count) => match incoming.look(alloc, request, received.as_bytes(), count) {
+        match incoming.buffer.read(rt, wire, server, incoming.least) {
+            Ok(count) => match incoming.look(alloc, request, count) {
                 Ok(None) => {}
                 Ok(Some(reply)) => return Ok(reply),
                 Err(fault) => return Err(fault),
@@ -152,7 +157,8 @@ fn receive<R: IoRuntime, W: Wire>(
     unreachable!()
 }
 
-/// The buffers of one exchange at a time, which the next one reuses.
+/// The buffers of one exchange, which the next one reuses. While an exchange is on its way the
+/// second is the `Incoming`'s, which gives it back.
 #[derive(Debug, Drop)]
 pub(crate) struct Buffers {
     /// The printed request.

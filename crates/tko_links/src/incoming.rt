@@ -1,10 +1,11 @@
 //! A response that comes in pieces.
-ghost use Rattle.std.specs.Prelude.{◌≡◌, ◌<◌, ◌≤◌, ◌⊎◌, ◌-◌, drop, length};
+ghost use Rattle.std.specs.Prelude.{◌≡◌, ◌<◌, ◌≤◌, ◌⊎◌, ◌-◌, [], None, Ok, drop, length};
 ghost use Rattle.std.specs.Bool.{OnFalse};
 ghost use Rattle.tko_bytes.specs.Lines.{HasNoEnd};
-ghost use Rattle.tko_links.specs.Incoming.{HasCome, Judges};
+ghost use Rattle.tko_links.specs.Incoming.{HasCome, Judges, arrival, nothing_yet};
 
 use crate::fault::LinkFault;
+use crate::read_buffer::ReadBuffer;
 use memchr::memchr;
 use std::alloc::Global;
 use tko_text::{ReadFault, Request, Response};
@@ -12,56 +13,62 @@ use tko_text::{ReadFault, Request, Response};
 /// How many bytes without LF may come until they are looked at.
 const UNSEEN_LIMIT: usize = 65_536;
 
-/// Reads one response from the bytes that have come, which it is given again with each piece. They
-/// are looked at only where that can show something: not before as many have come as the response
-/// announced, and not where the last piece has no LF, except once every 65,536 bytes. So the time
-/// is linear, however small the pieces are.
-#[derive(Clone, Copy, Debug)]
+/// Reads one response from the bytes that have come, which it owns. They are looked at only where
+/// that can show something: not before as many have come as the response announced, and not where
+/// the last piece has no LF, except once every 65,536 bytes. So the time is linear, however small
+/// the pieces are.
+#[derive(Debug, Drop)]
 pub(crate) struct Incoming {
+    /// What has come.
+    pub(crate) buffer: ReadBuffer,
     /// How many bytes there were at the last look.
     looked: usize,
     /// No response that they begin is shorter.
-    least: usize,
+    pub(crate) least: usize,
 }
 
 impl Incoming {
-    /// Nothing has come yet.
-    pub(crate) fn new() -> Incoming
-        ensures { result ≡ record { looked = 0; least = 0 } }
+    /// Nothing has come yet, and what comes is put into the room of this buffer.
+    pub(crate) fn new(mut buffer: ReadBuffer) -> Incoming
+        ensures arrival { arrival result ≡ nothing_yet }
+        ensures looked { result.looked ≡ 0 }
     {
+        buffer.clear();
         Incoming {
+            buffer,
             looked: 0,
             least: 0,
         }
     }
 
     /// The response that begins the bytes, and whether it ends with the last of them; nothing as
-    /// long as it is not whole. The last `count` of them have come since the call before.
+    /// long as it is not whole. The last `count` of them have come since the call before. A
+    /// response may keep the bytes.
     pub(crate) fn look(
         &mut self,
         alloc: Global,
         request: &Request,
-        bytes: &[u8],
         count: usize,
     ) -> Result<Option<(Response, bool)>, LinkFault>
-        requires come { HasCome request.now
-            (record { bytes = bytes.now; least = self.old.least }) count }
-        requires looked { self.old.looked ≤ length bytes.now }
-        ensures judges { Judges request.now bytes.now count
-            (record { bytes = bytes.now; least = self.new.least }) result }
-        ensures looked { self.new.looked ≤ length bytes.now }
+        requires come { HasCome request.now (arrival self.old) count }
+        requires looked { self.old.looked ≤ length self.old.buffer }
+        ensures judges { Judges request.now self.old.buffer count (arrival self.new) result }
+        ensures kept { result ≡ Ok None → self.new.buffer ≡ self.old.buffer }
+        ensures looked { result ≡ Ok None → self.new.looked ≤ length self.new.buffer }
     {
         if count == 0 {
             return Err(LinkFault::Broken);
         }
+        let bytes = self.buffer.as_bytes();
+        let len = bytes.len();
         if !is_look_due(bytes, count, self.looked, self.least) {
             return Ok(None);
         }
-        self.looked = bytes.len();
-        match Response::read(alloc, request, bytes) {
-            Ok((response, len)) => Ok(Some((response, len == bytes.len()))),
+        self.looked = len;
+        match self.buffer.response(alloc, request) {
+            Ok((response, end)) => Ok(Some((response, end == len))),
             Err(ReadFault::Short) => {
-                self.least = Response::least_len(request, bytes);
+                self.least = Response::least_len(request, self.buffer.as_bytes());
                 Ok(None)
             }
             Err(ReadFault::Unreadable) => Err(LinkFault::Broken),

@@ -1,5 +1,6 @@
 //! The bytes of one response, as a connection gives them.
-ghost use Rattle.std.specs.Prelude.{◌≡◌, ◌<◌, ◌≤◌, [], OnOk, take, true, vec_len};
+ghost use Rattle.std.specs.Prelude.{◌≡◌, ◌<◌, ◌≤◌, ◌^◌, [], IfOk, OnErr, OnOk, length, take, true, vec_len};
+ghost use Rattle.tko_text.specs.Responses.{ReadsResponse};
 ghost use Rattle.tko_links.specs.ExchangeParts.{ReadsPiece};
 
 use crate::fault::LinkFault;
@@ -8,11 +9,17 @@ use crate::wire::Wire;
 use std::alloc::{AllocError, Global};
 use std::marker::Model;
 use tko_bytes::clear;
+use tko_text::{ReadFault, Request, Response};
 
-/// The room of the first read. It doubles when it is used up.
+/// The room of the first read. It doubles when it is used up, unless it is known how long the
+/// response is at least.
 const FIRST_ROOM: usize = 16_384;
 
-/// The most room that is kept for the next response.
+/// The room for what comes after the least length: the rest of the line `END`, and some bytes that
+/// nobody asked for.
+const END_ROOM: usize = 64;
+
+/// The most room that is kept for the next response. A longer response keeps its bytes.
 const KEPT_ROOM: usize = 65_536;
 
 /// Bytes that came, and free room, which the next response reuses. Contracts see the bytes.
@@ -65,20 +72,41 @@ impl ReadBuffer {
         }
     }
 
+    /// The response at the front of the bytes, and how many of them it takes. A value that is longer
+    /// than the room which would be kept takes the bytes with it, and is not copied.
+    pub(crate) fn response(
+        &mut self,
+        alloc: Global,
+        request: &Request,
+    ) -> Result<(Response, usize), ReadFault>
+        ensures reads { ReadsResponse request.now self.old result }
+        ensures within { IfOk result (λ found. found.1 ≤ length self.old) }
+        ensures err { OnErr result (self.new ≡ self.old) }
+    {
+        if self.filled <= KEPT_ROOM {
+            return Response::read(alloc, request, self.as_bytes());
+        }
+        self.room.truncate(self.filled);
+        let read = Response::take(alloc, request, &mut self.room);
+        self.filled = self.room.len();
+        read
+    }
+
     /// Reads once from the wire, straight into the free room, and returns how many bytes came. 0 is
-    /// the end of input.
+    /// the end of input. The response is as long as `least` says, or longer.
     pub(crate) fn read<R: IoRuntime, W: Wire>(
         &mut self,
         rt: &R,
         wire: &mut W,
         server: usize,
+        least: usize,
     ) -> Result<usize, LinkFault>
         requires within { server < W.servers wire.old }
         requires connected { W.is_connected wire.old server ≡ true }
         ensures { ReadsPiece W.servers W.is_connected W.failures W.steps server wire.old
             self.old result wire.new self.new }
     {
-        if make_room(&mut self.room, self.filled).is_err() {
+        if make_room(&mut self.room, self.filled, least).is_err() {
             return Err(LinkFault::Memory);
         }
         match wire.read(rt, server, &mut self.room[self.filled..]) {
@@ -91,8 +119,9 @@ impl ReadBuffer {
     }
 }
 
-/// Makes room after the filled part, if there is none.
-fn make_room(room: &mut Vec<u8>, filled: usize) -> Result<(), AllocError>
+/// Makes room after the filled part, if there is none: at once for all of a response whose least
+/// length is known, so that a long one is moved once.
+fn make_room(room: &mut Vec<u8>, filled: usize, least: usize) -> Result<(), AllocError>
     requires { filled ≤ vec_len room.old }
     ensures ok { OnOk result (filled < vec_len room.new) }
     ensures within { filled ≤ vec_len room.new }
@@ -101,5 +130,16 @@ fn make_room(room: &mut Vec<u8>, filled: usize) -> Result<(), AllocError>
     if filled < room.len() {
         return Ok(());
     }
-    room.resize(filled + FIRST_ROOM.max(filled), 0)
+    room.resize(room_for(filled, least), 0)
+}
+
+/// How much room there is to be.
+fn room_for(filled: usize, least: usize) -> usize
+    requires { filled < 2 ^ 63 }
+    ensures { filled < result }
+{
+    if filled < least {
+        return least.saturating_add(END_ROOM);
+    }
+    filled + FIRST_ROOM.max(filled)
 }

@@ -1,2 +1,3 @@
+mod ReplyLemmas
 mod ServedLemmas
 mod TextFacts

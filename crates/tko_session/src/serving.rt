@@ -130,7 +130,7 @@ fn deliver<R: IoRuntime, O: Outlet, H: Health, L: Links, T: Trails, C: Clock>(
     Ok(progress)
 }
 
-/// Writes the replies that wait. Where the writer fails they stay, and the fault has the number of
+/// Writes the replies that wait, piece by piece. Where the writer fails, the fault has the number of
 /// bytes of the session that were written.
 fn write_replies<R: IoRuntime, O: Outlet>(
     rt: &R,
@@ -140,20 +140,26 @@ fn write_replies<R: IoRuntime, O: Outlet>(
 ) -> Result<(), SessionFault>
     requires between { session.old.work ≡ Between }
     ensures taken { OnOk result (session.new ≡ record session.old { outbox = [] }) }
+    ensures others { OnErr result
+        (session.new ≡ record session.old { outbox = session.new.outbox }) }
     ensures all { OnOk result (Writes O.takes
         (writer.old, written.old) session.old.outbox (writer.new, written.new)) }
     ensures calm { OnOk result (O.failures writer.new ≡ O.failures writer.old) }
-    ensures kept { OnErr result (session.new ≡ session.old) }
     ensures part { OnErr result (WritesPart O.takes
         (writer.old, written.old) session.old.outbox (writer.new, written.new)) }
     ensures failed { OnErr result (O.failures writer.old < O.failures writer.new) }
     ensures fault { IfErr result (λ fault. fault ≡ SessionFault.Write (capped written.new)) }
 {
-    let replies = session.output();
-    let count = replies.len();
-    if !write_all(rt, writer, replies, written) {
-        return Err(SessionFault::Write(*written));
+    for _ in rt.forever() {
+        let replies = session.output();
+        if replies.is_empty() {
+            return Ok(());
+        }
+        let count = replies.len();
+        if !write_all(rt, writer, replies, written) {
+            return Err(SessionFault::Write(*written));
+        }
+        session.sent(count);
     }
-    session.sent(count);
-    Ok(())
+    unreachable!()
 }

@@ -1,13 +1,15 @@
 -- What follows the first line of a value: its data, and the line `END`.
-use Rattle.std.proofs.Common.{◌≡◌, ℕ, ◌+◌, ◌≤◌, List, [], ◌∷◌, ◌++◌, length, take, drop, get_or, refl, ap, sym, ◌∙◌, subst, inl, inr, arith, Option, Some, None, append_assoc, length-append}
+use Rattle.std.proofs.Common.{◌≡◌, ℕ, ◌+◌, ◌-◌, ◌≤◌, List, [], ◌∷◌, ◌++◌, length, take, drop, get_or, refl, ap, sym, ◌∙◌, subst, inl, inr, arith, Option, Some, None, append_assoc, length-append}
 use Rattle.std.specs.Prelude.{codes}
 use Rattle.std.proofs.lemmas.List.{take_at, drop_at, get_or_at}
 use Rattle.tko_text.specs.declared.response.body.Value.{Value}
 use Rattle.tko_text.specs.declared.response.fault.ReadFault.{ReadFault}
+use Rattle.tko_text.specs.declared.response.reader.Head.{Head}
 use Rattle.tko_text.specs.declared.response.fault.ReadFault.TheVariants as fault
 use Rattle.tko_bytes.specs.Numbers.{number_of}
+use Rattle.tko_text.specs.Heads.{value_of}
 use Rattle.tko_text.specs.Limits.{number_limit}
-use Rattle.tko_text.specs.ResponseLines.{IsOpenLine, IsNumber, Split}
+use Rattle.tko_text.specs.ResponseLines.{IsOpenLine, IsNumber, Split, SplitsLine}
 use Rattle.tko_text.specs.Responses.{Kind, Retrieval, Asks, IsAlone, IsCas, IsHead, IsBody, IsCutData, block}
 use Rattle.tko_text.specs.ResponseFaults.{NoHead, DataFault, EndFault, SplitsEnd, SplitsBody, BodyFault}
 use Rattle.tko_text.proofs.ResponseLineLemmas.{line_is_one, open_line_has_none, overlong_has_none}
@@ -181,3 +183,26 @@ module _ (kind : Kind) (line : Split) (key : List ℕ) (flags size : ℕ) (cas :
     },
     rw (keys, same_cas) asked,
   )
+
+-- where the data of a value are, which the line announces that the rest follows
+pub data_there : (kind : Kind) (line first : Split) (bytes rest more : List ℕ) (found : Value)
+    → SplitsLine bytes first rest → SplitsBody kind line rest found more
+    → take (length found.«data») (drop (length bytes - length rest) bytes) ≡ found.«data»
+data_there kind line first bytes rest more found split goes =
+    let stored = found.«data» in
+    let at : drop (length bytes - length rest) bytes ≡ rest =
+    ap (drop (length bytes - length rest)) split.2
+    ∙ drop_at split.0 rest (length bytes - length rest) (omega (arith, ap length split.2, length-append split.0 rest)) in
+    let flat : rest ≡ stored ++ (13 ∷ 10 ∷ (goes.2.last ++ more)) =
+    goes.1 ∙ ap (λ xs. xs ++ more) goes.2.whole ∙ append_assoc (block stored) goes.2.last more
+    ∙ block_then stored (goes.2.last ++ more) in
+    ap (take (length stored)) (at ∙ flat) ∙ take_at stored _ (length stored) refl
+
+-- a value that is told with the data at their place is the value that was found
+pub placed : (kind : Kind) (line first : Split) (bytes rest more : List ℕ) (key : List ℕ) (head : Head)
+    (stored : List ℕ) → SplitsLine bytes first rest
+    → SplitsBody kind line rest (value_of key head stored) more → length stored ≡ head.size
+    → stored ≡ take head.size (drop (length bytes - length rest) bytes)
+placed kind line first bytes rest more key head stored split goes len =
+    sym (data_there kind line first bytes rest more (value_of key head stored) split goes)
+    ∙ ap (λ n. take n (drop (length bytes - length rest) bytes)) len

@@ -1,6 +1,8 @@
 pub mod Buffers
 pub mod Commands
+pub mod Data
 pub mod DataEnds
+pub mod Heads
 pub mod Keys
 pub mod Limits
 pub mod Lines

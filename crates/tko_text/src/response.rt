@@ -1,9 +1,10 @@
 //! What a server answers.
-ghost use Rattle.std.specs.Prelude.{◌≡◌, ◌≤◌, ◌++◌, length, IfOk, OnOk, OnErr};
+ghost use Rattle.std.specs.Prelude.{◌≡◌, ◌≤◌, ◌++◌, length, IfOk, IfSome, OnOk, OnErr};
 ghost use Rattle.tko_text.specs.ResponseLengths.{IsLeastLength};
 ghost use Rattle.tko_text.specs.Responses.{ReadsResponse, response_text};
 
 use crate::{NoMemory, Request};
+use bytes::Bytes;
 use std::alloc::Global;
 
 /// An answer to a request.
@@ -44,6 +45,20 @@ impl Response {
         reader::read(alloc, request, bytes)
     }
 
+    /// The same, of bytes that a value may keep. A value then shares them, where `read` copies its
+    /// data, and the list is left empty. Otherwise it stays as it is.
+    pub fn take(
+        alloc: Global,
+        request: &Request,
+        bytes: &mut Vec<u8>,
+    ) -> Result<(Response, usize), ReadFault>
+        ensures reads { ReadsResponse request.now bytes.old.items result }
+        ensures within { IfOk result (λ found. found.1 ≤ length bytes.old.items) }
+        ensures err { OnErr result (bytes.new.items ≡ bytes.old.items) }
+    {
+        reader::take(alloc, request, bytes)
+    }
+
     /// How long the answer to the request has to be at least, if it begins with these bytes. It is
     /// 0 until they announce a value. So bytes that come in small pieces need not be read anew
     /// before they are this long.
@@ -61,6 +76,17 @@ impl Response {
         writer::append_response(self, out)
     }
 
+    /// The written form without a copy: the text that a value was taken from, if that is its
+    /// written form and the value still shares it.
+    pub fn shared_text(&self) -> Option<Bytes>
+        ensures { IfSome result (λ text. text ≡ response_text self.now) }
+    {
+        match self {
+            Response::Values(Some(value)) => writer::shared_text(value),
+            _ => None,
+        }
+    }
+
     /// The written form.
     pub fn write(&self, alloc: Global) -> Result<Vec<u8>, NoMemory>
         ensures ok { IfOk result (λ bytes. bytes.items ≡ response_text self.now) }
@@ -72,6 +98,7 @@ impl Response {
 }
 
 mod body;
+mod data;
 mod fault;
 mod kind;
 mod laws;
@@ -80,7 +107,8 @@ mod line;
 mod reader;
 mod writer;
 
-pub(crate) use body::DATA_LIMIT;
-pub use body::{Data, Text, Value};
+pub use body::{Text, Value};
+pub(crate) use data::DATA_LIMIT;
+pub use data::Data;
 pub use fault::ReadFault;
 pub use laws::one_response;

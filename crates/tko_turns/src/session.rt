@@ -1,8 +1,9 @@
 //! One client's session as a value that is driven: bytes in, requests to be sent out, what came of
 //! each in, replies out. It sends and waits for nothing itself.
-ghost use Rattle.std.specs.Prelude.{◌≡◌, ◌≢◌, ◌≤◌, ◌↔◌, ◌++◌, false, IfNone, IfOk, IfSome, IsErrOf, IsTrue, OnErr, OnOk, drop, length};
+ghost use Rattle.std.specs.Prelude.{◌≡◌, ◌≢◌, ◌≤◌, ◌↔◌, ◌++◌, [], false, IfNone, IfOk, IfSome, IsErrOf, IsTrue, OnErr, OnOk, drop, length};
 ghost use Rattle.tko_text.specs.Reading.{Emits, NeedsMore, Never};
 ghost use Rattle.tko_text.specs.Requests.{fault_text};
+ghost use Rattle.tko_answer.specs.Answering.{Extends};
 ghost use Rattle.tko_answer.specs.Asking.{BeginsAt, HasServers, Stays, with_noted};
 ghost use Rattle.tko_answer.specs.Ghosts.{recording};
 ghost use Rattle.tko_answer.specs.Replies.{reply_bound};
@@ -178,12 +179,13 @@ impl Session {
         self.drop_request()
     }
 
-    /// The replies that wait to be written. That to a request whose answer is under way is not
-    /// complete.
+    /// The first of the replies that wait to be written, in one piece; it is empty only if none
+    /// waits. That to a request whose answer is under way is not complete.
     pub fn output(&self) -> &[u8]
-        ensures { result.now ≡ self.now.outbox }
+        ensures front { Extends result.now self.now.outbox }
+        ensures some { result.now ≡ [] → self.now.outbox ≡ [] }
     {
-        self.outbox.as_slice()
+        self.outbox.front()
     }
 
     /// Whether the replies reached the bound, so that they are to be written first.

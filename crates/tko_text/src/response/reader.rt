@@ -1,17 +1,20 @@
 //! Reads a response, a function a form.
-ghost use Rattle.std.specs.Prelude.{◌≡◌, ◌≢◌, ℕ, ◌≤◌, List, [], ◌∷◌, ◌++◌, Option, Some, None, drop, is_some, length, IfOk, MatchOption, MatchResult};
+ghost use Rattle.std.specs.Prelude.{◌≡◌, ◌≢◌, ℕ, ◌+◌, ◌≤◌, List, [], ◌∷◌, ◌++◌, Option, Some, None, drop, is_some, length, take, Err, IfOk, IfSome, OnErr, MatchOption, MatchResult};
 ghost use Rattle.tko_text.specs.ResponseLines.{IsData, IsText};
 ghost use Rattle.tko_text.specs.ResponseFaults.{BodyFault, DataFault, EndFault, NoHead, Misses, ReadsOf, SplitsBody, SplitsEnd, line_response, value_line, version_response, word_response};
+ghost use Rattle.tko_text.specs.Heads.{IsPlaced, value_of};
 ghost use Rattle.tko_text.specs.ResponseKinds.{seen};
-ghost use Rattle.tko_text.specs.Responses.{IsCas, IsHead, ReadsResponse, block};
+ghost use Rattle.tko_text.specs.Responses.{IsCas, IsHead, ReadsResponse, Retrieval, block};
 
-use super::body::DATA_LIMIT;
+use super::data::DATA_LIMIT;
 use super::kind::{Kind, kind_of, suits};
 use super::line::split_line;
 use super::{Data, ReadFault, Response, Text, Value};
 use crate::line::{FLAGS_LIMIT, NUMBER_LIMIT};
 use crate::{Key, NoMemory, Request};
+use bytes::Bytes;
 use std::alloc::Global;
+use std::mem::replace;
 use tko_bytes::{Words, number, split_word};
 
 /// What the first line of a value announces beside its key.
@@ -34,6 +37,22 @@ pub(crate) fn read(
     match kind_of(request) {
         Some(kind) => read_kind(alloc, kind, bytes),
         None => Err(ReadFault::Unreadable),
+    }
+}
+
+/// The same, of bytes that a value may keep.
+pub(crate) fn take(
+    alloc: Global,
+    request: &Request,
+    bytes: &mut Vec<u8>,
+) -> Result<(Response, usize), ReadFault>
+    ensures reads { ReadsResponse request.now bytes.old.items result }
+    ensures within { IfOk result (λ found. found.1 ≤ length bytes.old.items) }
+    ensures err { OnErr result (bytes.new.items ≡ bytes.old.items) }
+{
+    match kind_of(request) {
+        Some(Kind::Retrieval { key, unique }) => take_kind(alloc, key, unique, bytes),
+        _ => read(alloc, request, bytes.as_slice()),
     }
 }
 
@@ -153,12 +172,102 @@ fn read_value<'a>(
     let Kind::Retrieval { key, unique } = kind else {
         return Err(ReadFault::Unreadable);
     };
+    let (head, data, rest) = find_value(key, unique, arguments, rest)?;
+    Ok((copy_value(alloc, key, head, data)?, rest))
+}
+
+/// The same for a retrieval of this key: what the line announces, the data, and what follows the
+/// line `END`.
+fn find_value<'a>(
+    key: &Key,
+    unique: bool,
+    arguments: &[u8],
+    rest: &'a [u8],
+) -> Result<(Head, &'a [u8], &'a [u8]), ReadFault>
+    ensures found { MatchResult result
+        (λ found. SplitsBody (Retrieval key.now unique) (value_line arguments.now) rest.now
+        (value_of key.now found.0 found.1.now) found.2.now)
+        (λ fault. BodyFault fault (Retrieval key.now unique) (value_line arguments.now) rest.now) }
+    ensures size { IfOk result (λ found. length found.1.now ≡ found.0.size) }
+    ensures few { IfOk result (λ found. IsData found.1.now) }
+{
     let Some(head) = value_head(arguments, key.as_bytes(), unique) else {
         return Err(ReadFault::Unreadable);
     };
     let (data, rest) = split_data(rest, head.size)?;
     let rest = split_end(rest)?;
-    Ok((copy_value(alloc, key, head, data)?, rest))
+    Ok((head, data, rest))
+}
+
+/// Where a value is in the bytes that begin with it.
+#[derive(Clone, Copy, Debug)]
+struct Place {
+    head: Head,
+    /// Where its data begin.
+    begin: usize,
+    /// How many bytes all of it takes.
+    len: usize,
+}
+
+/// The place of the value of this key that the bytes begin with, if their first word announces one.
+fn place_of_value(key: &Key, unique: bool, bytes: &[u8]) -> Result<Option<Place>, ReadFault>
+    ensures { MatchResult result
+        (λ found. IfSome found (λ place. IsPlaced key.now unique bytes.now place))
+        (λ fault. ReadsOf (Retrieval key.now unique) bytes.now (Err fault)) }
+{
+    let (word, arguments, rest) = split_line(bytes)?;
+    if word == b"VALUE".as_slice() {
+        let begin = bytes.len() - rest.len();
+        let (head, _, rest) = find_value(key, unique, arguments, rest)?;
+        let len = bytes.len() - rest.len();
+        return Ok(Some(Place { head, begin, len }));
+    }
+    Ok(None)
+}
+
+/// The response to a retrieval of this key. A value keeps the bytes.
+fn take_kind(
+    alloc: Global,
+    key: &Key,
+    unique: bool,
+    bytes: &mut Vec<u8>,
+) -> Result<(Response, usize), ReadFault>
+    ensures reads { ReadsOf (Retrieval key.now unique) bytes.old.items result }
+    ensures within { IfOk result (λ found. found.1 ≤ length bytes.old.items) }
+    ensures err { OnErr result (bytes.new.items ≡ bytes.old.items) }
+{
+    let Some(place) = place_of_value(key, unique, bytes.as_slice())? else {
+        return read_kind(alloc, Kind::Retrieval { key, unique }, bytes.as_slice());
+    };
+    let key = key.copy(alloc)?;
+    let value = Value {
+        key,
+        flags: place.head.flags,
+        data: keep_data(alloc, bytes, place.begin, place.head.size)?,
+        unique: place.head.unique,
+    };
+    Ok((Response::Values(Some(value)), place.len))
+}
+
+/// The data of this size that begins there, which keeps all the bytes.
+fn keep_data(
+    alloc: Global,
+    bytes: &mut Vec<u8>,
+    begin: usize,
+    size: usize,
+) -> Result<Data, NoMemory>
+    requires within { begin + size ≤ length bytes.old.items }
+    requires few { IsData (take size (drop begin bytes.old.items)) }
+    ensures ok { IfOk result (λ found. found ≡ take size (drop begin bytes.old.items)) }
+    ensures err { OnErr result (bytes.new.items ≡ bytes.old.items) }
+{
+    match Bytes::from_vec(replace(bytes, Vec::new(alloc))) {
+        Ok(text) => Ok(Data::part_of(text, begin, size)),
+        Err(refused) => {
+            *bytes = refused.value;
+            Err(NoMemory)
+        }
+    }
 }
 
 /// What the first line of a value of this key announces after the word `VALUE`.

@@ -1,10 +1,11 @@
 //! Writes a response.
-ghost use Rattle.std.specs.Prelude.{◌≡◌, ◌++◌, [], Some, OnOk, OnErr, codes};
+ghost use Rattle.std.specs.Prelude.{◌≡◌, ◌++◌, [], Some, IfSome, OnOk, OnErr, codes};
 ghost use Rattle.std.specs.Fmt.{decimal};
 ghost use Rattle.tko_text.specs.Responses.{response_text, value_with};
 
 use super::{Response, Value};
 use crate::NoMemory;
+use bytes::Bytes;
 use itoa::Buffer;
 use tko_bytes::append;
 
@@ -101,4 +102,52 @@ fn append_unique(value: &Value, unique: u64, out: &mut Vec<u8>) -> Result<(), No
         b"\r\nEND\r\n",
     ];
     append(out, &pieces)
+}
+
+/// The written form of a value and the line `END`, if the value shares the text that it was read
+/// from and that is the written form.
+#[tactic(auto, unfolding(crate::specs::Responses::response_text))]
+pub(crate) fn shared_text(value: &Value) -> Option<Bytes>
+    ensures { IfSome result (λ text. text ≡ response_text (Response.Values (Some value.now))) }
+{
+    match value.unique {
+        None => shared_plain(value),
+        Some(unique) => shared_unique(value, unique),
+    }
+}
+
+/// The same for a value without a cas number.
+fn shared_plain(value: &Value) -> Option<Bytes>
+    ensures { IfSome result (λ text. text ≡ value_with value.now []) }
+{
+    let (mut flags, mut size) = (Buffer::new(), Buffer::new());
+    let front = [
+        b"VALUE ",
+        value.key.as_bytes(),
+        b" ",
+        flags.format(value.flags).as_bytes(),
+        b" ",
+        size.format(value.data.as_bytes().len()).as_bytes(),
+        b"\r\n",
+    ];
+    value.data.text_around(&front, b"\r\nEND\r\n")
+}
+
+/// The same for one with this cas number.
+fn shared_unique(value: &Value, unique: u64) -> Option<Bytes>
+    ensures { IfSome result (λ text. text ≡ value_with value.now (codes " " ++ decimal unique)) }
+{
+    let (mut flags, mut size, mut cas) = (Buffer::new(), Buffer::new(), Buffer::new());
+    let front = [
+        b"VALUE ",
+        value.key.as_bytes(),
+        b" ",
+        flags.format(value.flags).as_bytes(),
+        b" ",
+        size.format(value.data.as_bytes().len()).as_bytes(),
+        b" ",
+        cas.format(unique).as_bytes(),
+        b"\r\n",
+    ];
+    value.data.text_around(&front, b"\r\nEND\r\n")
 }

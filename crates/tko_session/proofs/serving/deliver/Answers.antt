@@ -14,7 +14,7 @@ pub returns-in_err-wrote-clause-ends : goal.returns-in_err-wrote-clause-ends
 returns-in_err-wrote-clause-ends g c =
     let p = err_from_is_err_and c.from_residual.result c.from_residual.ensures.1 in
     let wrote = c.in_err-wrote.ensures in
-    let run = rw wrote.kept at c.run_owed_round-rounded.ensures.round in
+    let run = rw wrote.others at c.run_owed_round-rounded.ensures.round in
     let text = c.answer-answered.new.session.outbox in
     let split = sym (take-append-drop wrote.part.count text) in
     rw (p.1, p.2, wrote.fault) (record {
@@ -25,11 +25,11 @@ returns-in_err-wrote-clause-ends g c =
 
 pub returns-in_err-wrote-clause-begun : goal.returns-in_err-wrote-clause-begun
 returns-in_err-wrote-clause-begun g c = λ begun.
-    begun_paid (c.answer-answered.ensures.begun begun) (rw c.in_err-wrote.ensures.kept at c.run_owed_round-rounded.ensures.round)
+    begun_paid (c.answer-answered.ensures.begun begun) (rw c.in_err-wrote.ensures.others at c.run_owed_round-rounded.ensures.round)
 
 pub returns-in_err-wrote-clause-between : goal.returns-in_err-wrote-clause-between
 returns-in_err-wrote-clause-between g c =
-    ap (λ s. s.work) c.run_owed_round-rounded.ensures.none_owed ∙ ap (λ s. s.work) c.in_err-wrote.ensures.kept ∙ c.answer-answered.ensures.between
+    ap (λ s. s.work) c.run_owed_round-rounded.ensures.none_owed ∙ ap (λ s. s.work) c.in_err-wrote.ensures.others ∙ c.answer-answered.ensures.between
 
 pub returns-in_err-wrote-clause-reach : goal.returns-in_err-wrote-clause-reach
 returns-in_err-wrote-clause-reach g c = c.run_owed_round-rounded.ensures.reach

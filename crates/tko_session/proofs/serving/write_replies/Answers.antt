@@ -1,14 +1,19 @@
-use Rattle.std.proofs.Common.{ap, length, subst, ◌∙◌}
-use Rattle.tko_io.specs.Io.{Writes}
-use Rattle.tko_session.proofs.ServedLemmas.{drop_whole}
+use Rattle.std.proofs.Common.{◌∙◌, length, ap, drop}
+use Rattle.tko_turns.specs.SessionState.{SessionState}
+use Rattle.tko_session.proofs.ReplyLemmas.{writing, written_more, written_none, written_part}
 use Rattle.tko_session.proofs.serving.write_replies.Goals as goal
 
-pub returns-clause-taken : goal.returns-clause-taken
-returns-clause-taken g c =
-    let none = drop_whole _ c.args.session.now.outbox (ap length c.output-replies.ensures) in
-    c.sent.ensures ∙ ap (λ xs. record c.args.session.now { outbox = xs }) none
+pub loop-init : goal.loop-init
+loop-init g c =
+    written_none g.O.Outlet g.met.O.Outlet.goes_on (writing c.args.session.now c.args.writer.now c.args.written.now)
+    (g.met.O.Outlet.nothing c.args.writer.now)
 
-pub returns-clause-all : goal.returns-clause-all
-returns-clause-all g c =
-    subst (λ text. Writes g.O.Outlet.takes (c.args.writer.now, c.args.written.now) text (c.write_all.new.writer, c.write_all.new.written))
-    c.output-replies.ensures (rw c.if-not-write_all.false at c.write_all.ensures.all)
+pub returns-then-not-write_all-clause-part : goal.returns-then-not-write_all-clause-part
+returns-then-not-write_all-clause-part g c =
+    written_part g.O.Outlet g.met.O.Outlet.goes_on c.output-replies.result.now c.loop.invariant c.output-replies.ensures.front
+    (c.if-not-write_all.ensures.part)
+
+pub loop-preserved : goal.loop-preserved
+loop-preserved g c =
+    written_more g.O.Outlet g.met.O.Outlet.goes_on c.output-replies.result.now c.loop.invariant c.output-replies.ensures.front
+    c.if-not-write_all.ensures.all c.if-not-write_all.ensures.calm c.sent.ensures

@@ -1,0 +1,109 @@
+//! Data: bytes of their own, or a part of the text in which they came.
+ghost use Rattle.std.specs.Prelude.{◌≡◌, ◌+◌, ◌≤◌, ◌↔◌, ◌++◌, drop, flat_map, length, take, IfSome, IsTrue};
+ghost use Rattle.tko_text.specs.ResponseLines.{IsData};
+
+use bytes::Bytes;
+use std::marker::Model;
+use tko_bytes::is_joined;
+
+/// The most bytes that are stored under one key.
+pub(crate) const DATA_LIMIT: usize = 1_048_576;
+
+/// At most 1,048,576 bytes. Contracts see their list.
+#[derive(Debug, Drop)]
+pub struct Data {
+    held: Held,
+}
+
+/// Where the bytes are.
+#[derive(Debug, Drop)]
+enum Held {
+    Own(Vec<u8>),
+    Part(Part),
+}
+
+/// A part of a text, which is kept whole and may have other owners.
+#[derive(Debug, Drop)]
+struct Part {
+    text: Bytes,
+    begin: usize,
+    size: usize,
+    ghost within: { begin + size ≤ length text },
+}
+
+impl Model for Data {
+    ghost use Rattle.std.specs.Prelude.{List, ℕ};
+    ghost use Rattle.tko_text.specs.Data.{held_bytes};
+    ghost use Rattle.tko_text.specs.ResponseLines.{IsData};
+
+    ghost Value = { List ℕ };
+
+    ghost view = { λ d. held_bytes d.held };
+
+    ghost invariant = { λ d. IsData (held_bytes d.held) };
+}
+
+impl Data {
+    pub fn new(bytes: Vec<u8>) -> Data
+        requires { IsData bytes.items }
+        ensures { result ≡ bytes.items }
+    {
+        let held = Held::Own(bytes);
+        Data { held }
+    }
+
+    /// `size` bytes of a text, from `begin` on. They are not copied.
+    pub(crate) fn part_of(text: Bytes, begin: usize, size: usize) -> Data
+        requires within { begin + size ≤ length text }
+        requires few { IsData (take size (drop begin text)) }
+        ensures { result ≡ take size (drop begin text) }
+    {
+        let held = Held::Part(Part { text, begin, size });
+        Data { held }
+    }
+
+    /// Whether there are few enough.
+    pub fn fits(bytes: &[u8]) -> bool
+        ensures { IsTrue result ↔ IsData bytes.now }
+    {
+        bytes.len() <= DATA_LIMIT
+    }
+
+    pub fn as_bytes(&self) -> &[u8]
+        ensures value { result.now ≡ self.now }
+        ensures data { IsData self.now }
+    {
+        match &self.held {
+            Held::Own(bytes) => bytes.as_slice(),
+            Held::Part(part) => &part.text.as_slice()[part.begin..part.begin + part.size],
+        }
+    }
+
+    /// The text that the data is a part of, if these pieces are all that comes before the data, and
+    /// this all that comes after it. It is shared and not copied.
+    pub(crate) fn text_around(&self, front: &[&[u8]], back: &[u8]) -> Option<Bytes>
+        ensures { IfSome result (λ text.
+            text ≡ flat_map (λ piece. piece.now) front.now ++ self.now ++ back.now) }
+    {
+        match &self.held {
+            Held::Own(_) => None,
+            Held::Part(part) => part.text_around(front, back),
+        }
+    }
+}
+
+impl Part {
+    ghost use Rattle.tko_text.specs.Data.{part_bytes};
+
+    fn text_around(&self, front: &[&[u8]], back: &[u8]) -> Option<Bytes>
+        ensures { IfSome result (λ text.
+            text ≡ flat_map (λ piece. piece.now) front.now ++ part_bytes self.now ++ back.now) }
+    {
+        let (before, rest) = self.text.as_slice().split_at(self.begin);
+        let (_, after) = rest.split_at(self.size);
+        if is_joined(before, front) && after == back {
+            return self.text.clone().ok();
+        }
+        None
+    }
+}
