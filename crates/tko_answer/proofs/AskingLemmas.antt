@@ -5,6 +5,7 @@ use Rattle.tko_model.specs.Records.{HealthItem}
 use Rattle.tko_text.specs.declared.request.Request.{Request}
 use Rattle.tko_answer.specs.Answering.{retrieval}
 use Rattle.tko_answer.specs.Asking.{Begins, IsFirst, answered, keyed, of_several}
+use Rattle.tko_answer.specs.Standing.{answer_state}
 use Rattle.tko_answer.specs.Standing as answer
 use Rattle.tko_answer.specs.Answers.{AnswersItself}
 use Rattle.tko_answer.specs.Replies.{version_text}
@@ -30,7 +31,7 @@ first_several keys unique waiting key left request are is =
 pub begins_keyed : {H L T C : Type 0} (steps : H → HealthItem → H → Type 0) (old : Parts H L T C) (outbox : List ℕ)
     (one : OneKey) (keys : List (List ℕ)) (unique : Bool) (request : Request) (waiting : ℕ)
     → IsFirst (retrieval keys unique) waiting one → request ≡ retrieval keys unique → waiting ≡ length outbox
-    → Begins steps request (old, outbox) (answer.Next one) (old, outbox)
+    → Begins steps request (old, outbox) (answer_state (answer.Next one) (old, outbox))
 begins_keyed steps old outbox one keys unique request waiting first is len =
     keyed (one, refl, subst (λ n. IsFirst request n one) len (subst (λ (r : Request). IsFirst r waiting one) (sym is) first)) refl
 
@@ -40,16 +41,16 @@ if_ok (Ok x) p f = f x p
 if_ok (Err e) p f = tt
 
 module _ {H L T C : Type 0} {steps : H → HealthItem → H → Type 0} {old : Parts H L T C} {outbox outbox' : List ℕ} {request : Request} where
-  pub begins_version : request ≡ Version → outbox' ≡ outbox ++ version_text → Begins steps request (old, outbox) answer.Done (old, outbox')
-  begins_version is more = answered version_text refl (subst (λ (r : Request). AnswersItself steps r old version_text old) (sym is) (refl, refl)) more
+  pub begins_version : request ≡ Version → outbox' ≡ outbox ++ version_text → Begins steps request (old, outbox) (answer_state answer.Done (old, outbox'))
+  begins_version is more = answered version_text refl (subst (λ (r : Request). AnswersItself steps r old (old, version_text)) (sym is) (refl, refl)) more
 
-  pub begins_status : {health : H} → request ≡ StatsTko → IsStatusAfter steps old.config.addresses old.backend.health outbox health outbox'
-      → Begins steps request (old, outbox) answer.Done (record old { backend = record old.backend { health = health } }, outbox')
+  pub begins_status : {health : H} → request ≡ StatsTko → IsStatusAfter steps old.config.addresses (old.backend.health, outbox) (health, outbox')
+      → Begins steps request (old, outbox) (answer_state answer.Done (record old { backend = record old.backend { health = health } }, outbox'))
   begins_status {health} is after =
       answered after.text refl
-      (subst (λ (r : Request). AnswersItself steps r old after.text (record old { backend = record old.backend { health = health } })) (sym is) (after.status, refl))
+      (subst (λ (r : Request). AnswersItself steps r old (record old { backend = record old.backend { health = health } }, after.text)) (sym is) (after.status, refl))
       after.appended
 
 module _ {H L T C : Type 0} {steps : H → HealthItem → H → Type 0} {old : Parts H L T C} {outbox : List ℕ} {request : Request} where
-  pub begins_quit : request ≡ Quit → Begins steps request (old, outbox) answer.Done (old, outbox)
-  begins_quit is = answered [] refl (subst (λ (r : Request). AnswersItself steps r old [] old) (sym is) (refl, refl)) (sym (append-nil outbox))
+  pub begins_quit : request ≡ Quit → Begins steps request (old, outbox) (answer_state answer.Done (old, outbox))
+  begins_quit is = answered [] refl (subst (λ (r : Request). AnswersItself steps r old (old, [])) (sym is) (refl, refl)) (sym (append-nil outbox))

@@ -11,10 +11,11 @@ use Rattle.tko_route.specs.Trail.{answer_of, form_at}
 use Rattle.tko_route.specs.declared.attempt.Attempt.{Attempt}
 use Rattle.tko_route.specs.declared.routing.Stage.{Stage}
 use Rattle.tko_answer.specs.Answering.{Extends}
-use Rattle.tko_answer.specs.Asking.{Ended, Goes, GoesCut, IsSettleCut, JoinsNext, Replies, Settles, Stays, front_of, values, with_noted}
+use Rattle.tko_answer.specs.Asking.{Ended, Goes, GoesCut, IsSettleCut, JoinsNext, Replies, Settles, Stays, course_calls, front_of, joining, no_calls, routed_request, values, with_noted}
+use Rattle.tko_answer.specs.Ghosts.{recording}
 use Rattle.tko_answer.specs.Replies.{text_of_answer, values_in}
 use Rattle.tko_answer.specs.TrailEvents.{TrailEvent, Tried}
-use Rattle.tko_answer.specs.Standing.{Standing}
+use Rattle.tko_answer.specs.Standing.{Standing, answer_state, key_state}
 use Rattle.tko_answer.specs.declared.asking.OneKey.{OneKey}
 use Rattle.tko_answer.specs.declared.asking.Share.{Share}
 use Rattle.tko_answer.specs.declared.asking.Share.TheVariants as share
@@ -45,13 +46,13 @@ module _ {H L T C : Type 0} {records : T → TrailEvent → T → Type 0} where
       {outbox outbox' outbox'' : List ℕ} {at : Standing}
       → one.share ≡ share.Joined begin left → noted ≡ with_noted trail old → records noted.trails (Tried trail) trails
       → IsSome (values_in (answer_of trail)) × (outbox' ≡ outbox ++ unwrap_or (values_in (answer_of trail)) [])
-      → JoinsNext one.request begin left outbox' at outbox''
-      → Ended records trail one (old, outbox) at (record noted { trails = trails }, outbox'')
+      → JoinsNext (joining one.request begin left) outbox' (answer_state at outbox'')
+      → Ended records trail (key_state one (old, outbox)) (answer_state at (record noted { trails = trails }, outbox''))
   ended_joined {one} {old} {noted} {trails} {trail} {begin} {left} {outbox} {outbox'} {outbox''} {at} joined is recorded found joins = record {
     recorded = subst (λ (p : Parts H L T C). records p.trails (Tried trail) trails) is recorded;
     others = ap (λ (p : Parts H L T C). record p { trails = trails }) is;
-    replies = subst (λ kind. Replies one.request kind trail outbox at outbox'') (sym joined)
-        (values found.0 (subst (λ xs. JoinsNext one.request begin left xs at outbox'') found.1 joins));
+    replies = subst (λ kind. Replies kind (routed_request one.request trail) outbox (answer_state at outbox'')) (sym joined)
+        (values found.0 (subst (λ xs. JoinsNext (joining one.request begin left) xs (answer_state at outbox'')) found.1 joins));
   }
 
 -- the form of a request after an outcome was recorded
@@ -68,28 +69,28 @@ module _ {H L T C : Type 0} {steps : H → HealthItem → H → Type 0} {records
       (request : Request) (form : ℕ → Request) → mid ≡ record old { backend = record old.backend { health = mid.backend.health } }
       → request ≡ form (last_place to)
       → GoesOn steps old.backend.health (λ calls. Reached targets form calls to) mid.backend.health
-      → Settles records to (record { request = request; share = kind }) (mid, outbox) at (new, outbox')
-      → Goes steps records (record { targets = targets; form = form; share = kind }) (λ more. more) (old, outbox) at (new, outbox')
+      → Settles records to (key_state (record { request = request; share = kind }) (mid, outbox)) (answer_state at (new, outbox'))
+      → Goes (recording steps records) (no_calls (record { targets = targets; form = form; share = kind })) (old, outbox) (answer_state at (new, outbox'))
   begin_goes {old} {mid} {new} {outbox} {outbox'} {at} to targets kind request form same is on settles = record {
     stage = to;
     health = mid.backend.health;
     on = on;
-    settles = subst (λ (p : Parts H L T C). Settles records to (record { request = form (last_place to); share = kind }) (p, outbox) at (new, outbox')) same
-        (subst (λ r. Settles records to (record { request = r; share = kind }) (mid, outbox) at (new, outbox')) is settles);
+    settles = subst (λ (p : Parts H L T C). Settles records to (key_state (record { request = form (last_place to); share = kind }) (p, outbox)) (answer_state at (new, outbox'))) same
+        (subst (λ r. Settles records to (key_state (record { request = r; share = kind }) (mid, outbox)) (answer_state at (new, outbox'))) is settles);
   }
 
   pub begin_goes_cut : {old mid new : Parts H L T C} (to : Stage) (targets : List ℕ) (kind : Share)
       (request : Request) (form : ℕ → Request) → mid ≡ record old { backend = record old.backend { health = mid.backend.health } }
       → request ≡ form (last_place to)
       → GoesOn steps old.backend.health (λ calls. Reached targets form calls to) mid.backend.health
-      → IsSettleCut records to (record { request = request; share = kind }) mid new
-      → GoesCut steps records (record { targets = targets; form = form; share = kind }) (λ more. more) old new
+      → IsSettleCut records to (key_state (record { request = request; share = kind }) mid) new
+      → GoesCut (recording steps records) (no_calls (record { targets = targets; form = form; share = kind })) old new
   begin_goes_cut {old} {mid} {new} to targets kind request form same is on cut = record {
     stage = to;
     health = mid.backend.health;
     on = on;
-    cut = subst (λ (p : Parts H L T C). IsSettleCut records to (record { request = form (last_place to); share = kind }) p new) same
-        (subst (λ r. IsSettleCut records to (record { request = r; share = kind }) mid new) is cut);
+    cut = subst (λ (p : Parts H L T C). IsSettleCut records to (key_state (record { request = form (last_place to); share = kind }) p) new) same
+        (subst (λ r. IsSettleCut records to (key_state (record { request = r; share = kind }) mid) new) is cut);
   }
 
   -- what came of a send was recorded
@@ -98,14 +99,13 @@ module _ {H L T C : Type 0} {steps : H → HealthItem → H → Type 0} {records
       → request ≡ form_at exptime original place
       → ((r : Request) → request ≡ form_at exptime' r place → request' ≡ form_at exptime' r (last_place to))
       → GoesOn steps old.backend.health (λ more. Reached targets (form_at exptime original) (calls ++ came server (form_at exptime original place) (Ok got) ∷ more) to) health
-      → Settles records to (record { request = request'; share = kind }) (record old { backend = record old.backend { health = health } }, outbox) at (new, outbox')
-      → Goes steps records (record { targets = targets; form = form_at exptime original; share = kind })
-      (λ more. calls ++ came server request (Ok got) ∷ more) (old, outbox) at (new, outbox')
+      → Settles records to (key_state (record { request = request'; share = kind }) (record old { backend = record old.backend { health = health } }, outbox)) (answer_state at (new, outbox'))
+      → Goes (recording steps records) (course_calls (record { targets = targets; form = form_at exptime original; share = kind }) (λ more. calls ++ came server request (Ok got) ∷ more)) (old, outbox) (answer_state at (new, outbox'))
   answered_goes {old} {new} {health} {outbox} {outbox'} {at} to targets kind server place exptime exptime' got original request request' calls same is then on settles = record {
     stage = to;
     health = health;
     on = subst (λ r. GoesOn steps old.backend.health (λ more. Reached targets (form_at exptime original) (calls ++ came server r (Ok got) ∷ more) to) health) (sym is) on;
-    settles = subst (λ r. Settles records to (record { request = r; share = kind }) (record old { backend = record old.backend { health = health } }, outbox) at (new, outbox'))
+    settles = subst (λ r. Settles records to (key_state (record { request = r; share = kind }) (record old { backend = record old.backend { health = health } }, outbox)) (answer_state at (new, outbox')))
         (form_then to original request request' place exptime exptime' same is then) settles;
   }
 
@@ -114,14 +114,13 @@ module _ {H L T C : Type 0} {steps : H → HealthItem → H → Type 0} {records
       → request ≡ form_at exptime original place
       → ((r : Request) → request ≡ form_at exptime' r place → request' ≡ form_at exptime' r (last_place to))
       → GoesOn steps old.backend.health (λ more. Reached targets (form_at exptime original) (calls ++ came server (form_at exptime original place) (Ok got) ∷ more) to) health
-      → IsSettleCut records to (record { request = request'; share = kind }) (record old { backend = record old.backend { health = health } }) new
-      → GoesCut steps records (record { targets = targets; form = form_at exptime original; share = kind })
-      (λ more. calls ++ came server request (Ok got) ∷ more) old new
+      → IsSettleCut records to (key_state (record { request = request'; share = kind }) (record old { backend = record old.backend { health = health } })) new
+      → GoesCut (recording steps records) (course_calls (record { targets = targets; form = form_at exptime original; share = kind }) (λ more. calls ++ came server request (Ok got) ∷ more)) old new
   answered_goes_cut {old} {new} {health} to targets kind server place exptime exptime' got original request request' calls same is then on cut = record {
     stage = to;
     health = health;
     on = subst (λ r. GoesOn steps old.backend.health (λ more. Reached targets (form_at exptime original) (calls ++ came server r (Ok got) ∷ more) to) health) (sym is) on;
-    cut = subst (λ r. IsSettleCut records to (record { request = r; share = kind }) (record old { backend = record old.backend { health = health } }) new)
+    cut = subst (λ r. IsSettleCut records to (key_state (record { request = r; share = kind }) (record old { backend = record old.backend { health = health } })) new)
         (form_then to original request request' place exptime exptime' same is then) cut;
   }
 

@@ -11,10 +11,11 @@ use Rattle.tko_route.specs.declared.attempt.Attempt.{Attempt}
 use Rattle.tko_route.specs.declared.routing.Stage.{Stage}
 use Rattle.tko_route.specs.declared.routing.Stage.TheVariants as stage
 use Rattle.tko_answer.specs.Answering.{Extends}
-use Rattle.tko_answer.specs.Asking.{BeginsAt, Begins, Course, Goes, HasFront, IsFirst, IsSent, JoinsNext, Settles, front_of}
+use Rattle.tko_answer.specs.Asking.{BeginsAt, Begins, Course, Goes, HasFront, IsFirst, IsSent, JoinsNext, Settles, course_calls, front_of, joining, routed_request}
+use Rattle.tko_answer.specs.Ghosts.{recording}
 use Rattle.tko_answer.specs.Asking as asked
 use Rattle.tko_answer.specs.TrailEvents.{TrailEvent}
-use Rattle.tko_answer.specs.Standing.{Standing}
+use Rattle.tko_answer.specs.Standing.{Standing, answer_state, key_state}
 use Rattle.tko_answer.specs.Standing as answer
 use Rattle.tko_answer.specs.declared.asking.OneKey.{OneKey}
 use Rattle.tko_answer.specs.declared.asking.Share.{Share}
@@ -51,7 +52,7 @@ held_more begin outbox more within = omega (arith, within, length-append outbox 
 
 -- the next of several keys
 joins_held : {request : Request} {left : List (List ℕ)} {outbox outbox' : List ℕ} {at : Standing} (begin first : ℕ) → first ≡ begin
-    → begin ≤ length outbox → JoinsNext request first left outbox at outbox' → HoldsAt begin at outbox'
+    → begin ≤ length outbox → JoinsNext (joining request first left) outbox (answer_state at outbox') → HoldsAt begin at outbox'
 joins_held {outbox' = outbox'} begin first same within (asked.last none done end) = subst (λ a. HoldsAt begin a outbox') (sym done) tt
 joins_held {outbox = outbox} {outbox' = outbox'} begin first same within (asked.next key rest one are is alike kept) =
     let within' : begin ≤ length outbox' = subst (λ xs. begin ≤ length xs) (sym kept) within in
@@ -60,7 +61,7 @@ joins_held {outbox = outbox} {outbox' = outbox'} begin first same within (asked.
 
 -- a key has ended
 ended_held : (request : Request) (at : Standing) (outbox outbox' : List ℕ) (trail : List Attempt) (begin : ℕ) (kind : Share) → BeginsAt begin kind outbox
-    → asked.Replies request kind trail outbox at outbox' → HoldsAt begin at outbox'
+    → asked.Replies kind (routed_request request trail) outbox (answer_state at outbox') → HoldsAt begin at outbox'
 ended_held request at outbox outbox' trail begin (share.Whole silent) within (done, text) = subst (λ a. HoldsAt begin a outbox') (sym done) tt
 ended_held request at outbox outbox' trail begin (share.Joined first left) (same, within) (asked.other none done text) = subst (λ a. HoldsAt begin a outbox') (sym done) tt
 ended_held request at outbox outbox' trail begin (share.Joined first left) (same, within) (asked.values found then) =
@@ -68,19 +69,19 @@ ended_held request at outbox outbox' trail begin (share.Joined first left) (same
 
 -- after a key nothing is out
 joins_awaits : {request : Request} {first : ℕ} {left : List (List ℕ)} {outbox outbox' : List ℕ} {at : Standing} (config : Configuration) (targets : List ℕ)
-    → JoinsNext request first left outbox at outbox' → AwaitsAt config targets at
+    → JoinsNext (joining request first left) outbox (answer_state at outbox') → AwaitsAt config targets at
 joins_awaits config targets (asked.last none done end) = subst (AwaitsAt config targets) (sym done) tt
 joins_awaits config targets (asked.next key rest one are is alike kept) = subst (AwaitsAt config targets) (sym is) tt
 
 ended_awaits : (request : Request) (at : Standing) (outbox outbox' : List ℕ) (trail : List Attempt) (config : Configuration) (targets : List ℕ) (kind : Share)
-    → asked.Replies request kind trail outbox at outbox' → AwaitsAt config targets at
+    → asked.Replies kind (routed_request request trail) outbox (answer_state at outbox') → AwaitsAt config targets at
 ended_awaits request at outbox outbox' trail config targets (share.Whole silent) (done, text) = subst (AwaitsAt config targets) (sym done) tt
 ended_awaits request at outbox outbox' trail config targets (share.Joined first left) (asked.other none done text) = subst (AwaitsAt config targets) (sym done) tt
 ended_awaits request at outbox outbox' trail config targets (share.Joined first left) (asked.values found then) = joins_awaits config targets then
 
 module _ {H L T C : Type 0} (records : T → TrailEvent → T → Type 0) where
   settled_held : (old new : Parts H L T C × List ℕ) (at : Standing) (begin : ℕ) (to : Stage) (one : OneKey) → BeginsAt begin one.share old.1
-      → Settles records to one old at new → HoldsAt begin at new.1
+      → Settles records to (key_state one old) (answer_state at new) → HoldsAt begin at new.1
   settled_held old new at begin (stage.Away clear waiting) one held (is, same) =
       let held' : BeginsAt begin one.share new.1 = subst (λ (w : Parts H L T C × List ℕ). BeginsAt begin one.share w.1) (sym same) held in
       subst (λ a. HoldsAt begin a new.1) (sym is) held'
@@ -88,7 +89,7 @@ module _ {H L T C : Type 0} (records : T → TrailEvent → T → Type 0) where
 
   settled_awaits : (old new : Parts H L T C × List ℕ) (at : Standing) (targets : List ℕ) (original : Request) (calls : List Call) (config : Configuration) (to : Stage) (one : OneKey)
       → AreServers config targets → one.request ≡ form_at config.failover_exptime original (last_place to)
-      → Reached targets (form_at config.failover_exptime original) calls to → Settles records to one old at new → AwaitsAt config targets at
+      → Reached targets (form_at config.failover_exptime original) calls to → Settles records to (key_state one old) (answer_state at new) → AwaitsAt config targets at
   settled_awaits old new at targets original calls config (stage.Away clear waiting) one are form reached (is, same) =
       let sent : IsSent config targets (record { waiting = waiting; key = one }) =
       record { out = record { within = are; awaited = reached.0 }; original = original; calls = calls; form = form; found = reached.2 } in
@@ -99,13 +100,13 @@ module _ {H L T C : Type 0} (records : T → TrailEvent → T → Type 0) where
 module _ {H L T C : Type 0} {steps : H → HealthItem → H → Type 0} {records : T → TrailEvent → T → Type 0} where
   -- where the answer to a request goes on, its reply begins where it did
   pub goes_held : {course : Course} {calls : List Call → List Call} {old new : Parts H L T C × List ℕ} {at : Standing} (begin : ℕ)
-      → BeginsAt begin course.share old.1 → Goes steps records course calls old at new → HoldsAt begin at new.1
+      → BeginsAt begin course.share old.1 → Goes (recording steps records) (course_calls course calls) old (answer_state at new) → HoldsAt begin at new.1
   goes_held {course} {calls} {old} {new} {at} begin held goes = settled_held records _ new at begin goes.stage _ held goes.settles
 
   -- the send that is out is to one of the targets
   pub goes_awaits : {targets : List ℕ} {kind : Share} {calls : List Call → List Call} {old new : Parts H L T C × List ℕ} {at : Standing}
       (config : Configuration) (original : Request) → AreServers config targets
-      → Goes steps records (record { targets = targets; form = form_at config.failover_exptime original; share = kind }) calls old at new
+      → Goes (recording steps records) (course_calls (record { targets = targets; form = form_at config.failover_exptime original; share = kind }) calls) old (answer_state at new)
       → AwaitsAt config targets at
   goes_awaits {targets} {kind} {calls} {old} {new} {at} config original are goes =
       settled_awaits records _ new at targets original _ config goes.stage _ are refl goes.on.is goes.settles
@@ -119,7 +120,7 @@ first_held request outbox one (asked.of_several key left unique is e) =
 module _ {H L T C : Type 0} {steps : H → HealthItem → H → Type 0} where
   -- where the answer to a request begins, its reply does
   pub begins_held : {request : Request} {old new : Parts H L T C} {outbox outbox' : List ℕ} {at : Standing}
-      → Begins steps request (old, outbox) at (new, outbox') → HoldsAt (length outbox) at outbox'
+      → Begins steps request (old, outbox) (answer_state at (new, outbox')) → HoldsAt (length outbox) at outbox'
   begins_held {outbox = outbox} {outbox' = outbox'} (asked.answered text done itself more) = subst (λ a. HoldsAt (length outbox) a outbox') (sym done) tt
   begins_held {new = new} {outbox = outbox} {outbox' = outbox'} (asked.keyed (one, is, first) same) =
       let held : BeginsAt (length outbox) one.share outbox = first_held _ outbox one first in
@@ -127,6 +128,6 @@ module _ {H L T C : Type 0} {steps : H → HealthItem → H → Type 0} where
       subst (λ a. HoldsAt (length outbox) a outbox') (sym is) held'
 
   pub begins_awaits : {request : Request} {old new : Parts H L T C × List ℕ} {at : Standing} (config : Configuration) (targets : List ℕ)
-      → Begins steps request old at new → AwaitsAt config targets at
+      → Begins steps request old (answer_state at new) → AwaitsAt config targets at
   begins_awaits config targets (asked.answered text done itself more) = subst (AwaitsAt config targets) (sym done) tt
   begins_awaits config targets (asked.keyed (one, is, first) same) = subst (AwaitsAt config targets) (sym is) tt

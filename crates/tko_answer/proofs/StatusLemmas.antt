@@ -77,7 +77,7 @@ module _ {H : Type 0} {steps : H → HealthItem → H → Type 0} where
   -- the line `END` makes them a status text
   pub lines_end : {addresses : List (List ℕ)} {old new : H} {out out' out'' : List ℕ}
       → HasLines steps addresses old out new out' → out'' ≡ out' ++ codes "END\r\n"
-      → IsStatusAfter steps addresses old out new out''
+      → IsStatusAfter steps addresses (old, out) (new, out'')
   lines_end {addresses} {old} {new} {out} {out'} {out''} has end = record {
     text = flat_map status_line has.servers ++ codes "END\r\n";
     status = record { servers = has.servers; all = has.all; looks = has.looks; lines = refl };

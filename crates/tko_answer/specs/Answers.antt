@@ -3,7 +3,6 @@ use Rattle.std.specs.Prelude.{◌≡◌, ◌<◌, ℕ, List, [], ◌∷◌, leng
 use Rattle.tko_model.specs.Records.{HealthItem, Gains}
 use Rattle.tko_text.specs.declared.request.Request.{Request}
 use Rattle.tko_text.specs.declared.request.Request.TheVariants.{Get, Gets, Store, Cas, Delete, Incr, Decr, Touch, Version, Quit, StatsTko}
-use Rattle.tko_links.specs.Links.{LinksItem}
 use Rattle.tko_pools.specs.Configs.{Configuration, targets_of}
 use Rattle.tko_route.specs.declared.attempt.Attempt.{Attempt}
 use Rattle.tko_route.specs.Trail.{IsTrail, Attempts, Way, way}
@@ -11,7 +10,8 @@ use Rattle.tko_answer.specs.declared.parts.Parts.{Parts}
 use Rattle.tko_backend.specs.Probers.{noted}
 use Rattle.tko_answer.specs.Replies.{IsReply, RoutedKey, version_text, written}
 use Rattle.tko_answer.specs.Status.{IsStatus}
-use Rattle.tko_answer.specs.TrailEvents.{TrailEvent, Tried}
+use Rattle.tko_answer.specs.Ghosts.{Answering, upstream_of}
+use Rattle.tko_answer.specs.TrailEvents.{Tried}
 
 -- the health, the links and the probers have the servers of the configuration
 pub record Reaches {H L T C : Type 0} (servers : H → ℕ) (linked : L → ℕ)
@@ -45,45 +45,50 @@ abbrev pub way_of : Configuration → Request → List ℕ → List Attempt → 
 way_of config request key trail =
     way (targets_of config key) config.failover_exptime request trail
 
--- a request without a key is answered by the proxy itself
+-- what answered a request: the keys that were routed for it, and the text of its reply
+pub record RequestAnswer : Type 0 where
+  pub routed : List RoutedKey
+  pub text : List ℕ
+
+abbrev pub request_answer : List RoutedKey → List ℕ → RequestAnswer
+request_answer routed text = record { routed = routed; text = text }
+
+-- a request without a key is answered by the proxy itself: the parts after it, and the text
 abbrev pub AnswersItself : {H L T C : Type 0} → (H → HealthItem → H → Type 0) → Request
-    → Parts H L T C → List ℕ → Parts H L T C → Type 0
-AnswersItself steps Version old text new = (text ≡ version_text) × (new ≡ old)
-AnswersItself steps Quit old text new = (text ≡ []) × (new ≡ old)
-AnswersItself steps StatsTko old text new =
-    IsStatus steps old.config.addresses old.backend.health text new.backend.health
-    × (new ≡ record old { backend = record old.backend { health = new.backend.health } })
-AnswersItself steps _ old text new = ⊥
+    → Parts H L T C → Parts H L T C × List ℕ → Type 0
+AnswersItself steps Version old to = (to.1 ≡ version_text) × (to.0 ≡ old)
+AnswersItself steps Quit old to = (to.1 ≡ []) × (to.0 ≡ old)
+AnswersItself steps StatsTko old to =
+    IsStatus steps old.config.addresses old.backend.health (to.0.backend.health, to.1)
+    × (to.0 ≡ record old { backend = record old.backend { health = to.0.backend.health } })
+AnswersItself steps _ old to = ⊥
 
-module _ {H L T C : Type 0} (steps : H → HealthItem → H → Type 0)
-    (exchanges : L → LinksItem → L → Type 0) (sent : L → ℕ → ℕ)
-    (records : T → TrailEvent → T → Type 0) where
-  -- a key of a request took this trail over the targets of the key; the trail was recorded, and the
-  -- servers that its failures marked are going to be probed
-  pub record IsKeyRouted (request : Request) (old : Parts H L T C) (routed : RoutedKey)
-      (new : Parts H L T C) : Type 0 where
-    pub tried : IsTrail (targets_of old.config routed.key) routed.trail
-    pub attempts : Attempts (record { steps = steps; exchanges = exchanges; sent = sent })
-        (old.backend.health, old.backend.links)
-        (way_of old.config (request_for request routed.key) routed.key routed.trail)
-        (new.backend.health, new.backend.links)
-    pub recorded : records old.trails (Tried routed.trail) new.trails
-    pub config : new.config ≡ old.config
-    pub probers : new.backend.probers ≡ noted routed.trail old.backend.probers
-    pub clock : new.backend.clock ≡ old.backend.clock
+-- a key of a request took this trail over the targets of the key; the trail was recorded, and the
+-- servers that its failures marked are going to be probed
+pub record IsKeyRouted {H L T C : Type 0} (it : Answering H L T C) (old : Parts H L T C)
+    (routed : RoutedKey) (new : Parts H L T C) : Type 0 where
+  pub tried : IsTrail (targets_of old.config routed.key) routed.trail
+  pub attempts : Attempts (upstream_of it.ghosts) (old.backend.health, old.backend.links)
+      (way_of old.config (request_for it.request routed.key) routed.key routed.trail)
+      (new.backend.health, new.backend.links)
+  pub recorded : it.ghosts.records old.trails (Tried routed.trail) new.trails
+  pub config : new.config ≡ old.config
+  pub probers : new.backend.probers ≡ noted routed.trail old.backend.probers
+  pub clock : new.backend.clock ≡ old.backend.clock
 
-  -- the keys of a request were routed, one after another, and gave this text
-  pub record AnswersByKeys (request : Request) (old : Parts H L T C) (routed : List RoutedKey)
-      (text : List ℕ) (new : Parts H L T C) : Type 0 where
-    pub some : 0 < length (request_keys request)
-    pub each : Gains (IsKeyRouted request) old routed new
-    pub reply : List ℕ
-    pub is_reply : IsReply (request_keys request) routed reply
-    pub is_written : text ≡ written request reply
+-- the keys of a request were routed, one after another, and gave this text
+pub record AnswersByKeys {H L T C : Type 0} (it : Answering H L T C) (old : Parts H L T C)
+    (answer : RequestAnswer) (new : Parts H L T C) : Type 0 where
+  pub some : 0 < length (request_keys it.request)
+  pub each : Gains (IsKeyRouted it) old answer.routed new
+  pub reply : List ℕ
+  pub is_reply : IsReply (request_keys it.request) answer.routed reply
+  pub is_written : answer.text ≡ written it.request reply
 
-  -- what becomes of a request once it was recorded
-  pub data Answers (request : Request) (old : Parts H L T C) (routed : List RoutedKey)
-      (text : List ℕ) (new : Parts H L T C) : Type 0 where
-    itself : routed ≡ [] → AnswersItself steps request old text new
-        → Answers request old routed text new
-    by_keys : AnswersByKeys request old routed text new → Answers request old routed text new
+-- what becomes of a request once it was recorded
+pub data Answers {H L T C : Type 0} (it : Answering H L T C) (old : Parts H L T C)
+    (answer : RequestAnswer) (new : Parts H L T C) : Type 0 where
+  itself : answer.routed ≡ []
+      → AnswersItself it.ghosts.backend.steps it.request old (new, answer.text)
+      → Answers it old answer new
+  by_keys : AnswersByKeys it old answer new → Answers it old answer new

@@ -22,7 +22,7 @@ use Rattle.tko_answer.specs.Cuts.{LooksSome}
 use Rattle.tko_answer.specs.Ghosts.{Recording}
 use Rattle.tko_answer.specs.Replies.{end_line, reply_text, values_in}
 use Rattle.tko_answer.specs.TrailEvents.{TrailEvent, Tried}
-use Rattle.tko_answer.specs.Standing.{Asking, Standing}
+use Rattle.tko_answer.specs.Standing.{AnswerState, Asking, KeyState, Standing, answer_state, asking, key_state}
 use Rattle.tko_answer.specs.Standing as answer
 use Rattle.tko_answer.specs.declared.asking.OneKey.{OneKey}
 use Rattle.tko_answer.specs.declared.asking.Share.{Share}
@@ -107,11 +107,11 @@ BeginsKeys request waiting at =
 
 -- how the answer to a request begins: the proxy answers it itself; or a key is to be asked for
 pub data Begins {H L T C : Type 0} (steps : H → HealthItem → H → Type 0) (request : Request)
-    (old : Parts H L T C × List ℕ) (at : Standing) (new : Parts H L T C × List ℕ) : Type 0 where
-  answered : (text : List ℕ) → at ≡ answer.Done → AnswersItself steps request old.0 text new.0
-      → new.1 ≡ old.1 ++ text → Begins steps request old at new
-  keyed : BeginsKeys request (length old.1) at → new ≡ old
-      → Begins steps request old at new
+    (old : Parts H L T C × List ℕ) (to : AnswerState (Parts H L T C × List ℕ)) : Type 0 where
+  answered : (text : List ℕ) → to.at ≡ answer.Done
+      → AnswersItself steps request old.0 (to.state.0, text)
+      → to.state.1 ≡ old.1 ++ text → Begins steps request old to
+  keyed : BeginsKeys request (length old.1) to.at → to.state ≡ old → Begins steps request old to
 
 -- memory ran out there: nothing was done, or the first servers were looked up for their status
 pub data IsBeginCut {H L T C : Type 0} (steps : H → HealthItem → H → Type 0) (request : Request)
@@ -122,40 +122,54 @@ pub data IsBeginCut {H L T C : Type 0} (steps : H → HealthItem → H → Type 
       → new ≡ with_health new.backend.health old
       → IsBeginCut steps request old new
 
--- the next of several keys is asked for as the one before was
-pub record IsNextKey (request : Request) (begin : ℕ) (key : List ℕ) (left : List (List ℕ))
-    (one : OneKey) : Type 0 where
-  pub alike : (keys : List (List ℕ)) (unique : Bool) → request ≡ retrieval keys unique
+-- what the response to one of several keys is joined to: the request of the key, where the reply
+-- begins, and the keys that are left
+pub record Joining : Type 0 where
+  pub request : Request
+  pub begin : ℕ
+  pub left : List (List ℕ)
+
+abbrev pub joining : Request → ℕ → List (List ℕ) → Joining
+joining request begin left = record { request = request; begin = begin; left = left }
+
+-- the next of several keys is asked for as the one before was, and then come those that are left
+pub record IsNextKey (it : Joining) (key : List ℕ) (one : OneKey) : Type 0 where
+  pub alike : (keys : List (List ℕ)) (unique : Bool) → it.request ≡ retrieval keys unique
       → one.request ≡ retrieval (key ∷ []) unique
-  pub then_left : one.share ≡ share.Joined begin left
+  pub then_left : one.share ≡ share.Joined it.begin it.left
 
 -- after the values of a key another one is asked for, or `END` follows those of the last
-pub data JoinsNext (request : Request) (begin : ℕ) (left : List (List ℕ)) (outbox : List ℕ)
-    (at : Standing) (outbox' : List ℕ) : Type 0 where
-  last : left ≡ [] → at ≡ answer.Done → outbox' ≡ outbox ++ end_line
-      → JoinsNext request begin left outbox at outbox'
-  next : (key : List ℕ) (rest : List (List ℕ)) (one : OneKey) → left ≡ key ∷ rest
-      → at ≡ answer.Next one → IsNextKey request begin key rest one → outbox' ≡ outbox
-      → JoinsNext request begin left outbox at outbox'
+pub data JoinsNext (it : Joining) (outbox : List ℕ) (to : AnswerState (List ℕ)) : Type 0 where
+  last : it.left ≡ [] → to.at ≡ answer.Done → to.state ≡ outbox ++ end_line
+      → JoinsNext it outbox to
+  next : (key : List ℕ) (rest : List (List ℕ)) (one : OneKey) → it.left ≡ key ∷ rest
+      → to.at ≡ answer.Next one → IsNextKey (joining it.request it.begin rest) key one
+      → to.state ≡ outbox → JoinsNext it outbox to
 
 -- the response to one of several keys: its values follow those before; or, if it is no list of
 -- values, it takes their place and ends the reply
-pub data Joins (request : Request) (begin : ℕ) (left : List (List ℕ)) (trail : List Attempt)
-    (outbox : List ℕ) (at : Standing) (outbox' : List ℕ) : Type 0 where
-  other : ¬ (IsSome (values_in (answer_of trail))) → at ≡ answer.Done
-      → outbox' ≡ take begin outbox ++ reply_text trail
-      → Joins request begin left trail outbox at outbox'
+pub data Joins (it : Joining) (trail : List Attempt) (outbox : List ℕ)
+    (to : AnswerState (List ℕ)) : Type 0 where
+  other : ¬ (IsSome (values_in (answer_of trail))) → to.at ≡ answer.Done
+      → to.state ≡ take it.begin outbox ++ reply_text trail → Joins it trail outbox to
   values : IsSome (values_in (answer_of trail))
-      → JoinsNext request begin left
-      (outbox ++ unwrap_or (values_in (answer_of trail)) []) at outbox'
-      → Joins request begin left trail outbox at outbox'
+      → JoinsNext it (outbox ++ unwrap_or (values_in (answer_of trail)) []) to
+      → Joins it trail outbox to
 
--- what the response to a key is to the reply
-abbrev pub Replies : Request → Share → List Attempt → List ℕ → Standing → List ℕ → Type 0
-Replies request (share.Whole silent) trail outbox at outbox' =
-    (at ≡ answer.Done) × (outbox' ≡ outbox ++ (if silent then [] else reply_text trail))
-Replies request (share.Joined begin left) trail outbox at outbox' =
-    Joins request begin left trail outbox at outbox'
+-- a request of one key that was routed, and its trail
+pub record RoutedRequest : Type 0 where
+  pub request : Request
+  pub trail : List Attempt
+
+abbrev pub routed_request : Request → List Attempt → RoutedRequest
+routed_request request trail = record { request = request; trail = trail }
+
+-- what the response to a key is to the reply, which it has this share of
+abbrev pub Replies : Share → RoutedRequest → List ℕ → AnswerState (List ℕ) → Type 0
+Replies (share.Whole silent) routed outbox to = (to.at ≡ answer.Done)
+    × (to.state ≡ outbox ++ (if silent then [] else reply_text routed.trail))
+Replies (share.Joined begin left) routed outbox to =
+    Joins (joining routed.request begin left) routed.trail outbox to
 
 -- the servers that the attempts marked are going to be probed
 abbrev pub with_noted : {H L T C : Type 0} → List Attempt → Parts H L T C → Parts H L T C
@@ -165,40 +179,48 @@ with_noted trail old = record old {
 
 -- a key took this trail, which was recorded, and its response went into the reply
 pub record Ended {H L T C : Type 0} (records : T → TrailEvent → T → Type 0) (trail : List Attempt)
-    (one : OneKey) (old : Parts H L T C × List ℕ) (at : Standing) (new : Parts H L T C × List ℕ)
+    (from : KeyState (Parts H L T C × List ℕ)) (to : AnswerState (Parts H L T C × List ℕ))
     : Type 0 where
-  pub recorded : records old.0.trails (Tried trail) new.0.trails
-  pub others : new.0 ≡ record (with_noted trail old.0) { trails = new.0.trails }
-  pub replies : Replies one.request one.share trail old.1 at new.1
+  pub recorded : records from.state.0.trails (Tried trail) to.state.0.trails
+  pub others : to.state.0 ≡ record (with_noted trail from.state.0) { trails = to.state.0.trails }
+  pub replies : Replies from.key.share (routed_request from.key.request trail) from.state.1
+      (answer_state to.at to.state.1)
 
 -- memory ran out there: the reply or the record of the trail was lost; or after the values of the
 -- key
 pub data IsEndCut {H L T C : Type 0} (records : T → TrailEvent → T → Type 0) (trail : List Attempt)
-    (one : OneKey) (old new : Parts H L T C) : Type 0 where
-  lost : new ≡ record (with_noted trail old) { trails = new.trails }
-      → IsEndCut records trail one old new
-  joined : (begin : ℕ) (left : List (List ℕ)) → one.share ≡ share.Joined begin left
-      → IsSome (values_in (answer_of trail)) → records old.trails (Tried trail) new.trails
-      → new ≡ record (with_noted trail old) { trails = new.trails }
-      → IsEndCut records trail one old new
+    (from : KeyState (Parts H L T C)) (new : Parts H L T C) : Type 0 where
+  lost : new ≡ record (with_noted trail from.state) { trails = new.trails }
+      → IsEndCut records trail from new
+  joined : (begin : ℕ) (left : List (List ℕ)) → from.key.share ≡ share.Joined begin left
+      → IsSome (values_in (answer_of trail))
+      → records from.state.trails (Tried trail) new.trails
+      → new ≡ record (with_noted trail from.state) { trails = new.trails }
+      → IsEndCut records trail from new
 
 -- where a routing came to a stage: its request may be sent, or its key has ended
-abbrev pub Settles : {H L T C : Type 0} → (T → TrailEvent → T → Type 0) → Stage → OneKey
-    → Parts H L T C × List ℕ → Standing → Parts H L T C × List ℕ → Type 0
-Settles records (stage.Away clear waiting) one old at new =
-    (at ≡ answer.Asks clear (record { waiting = waiting; key = one })) × (new ≡ old)
-Settles records (stage.Done routed) one old at new = Ended records routed.trail one old at new
+abbrev pub Settles : {H L T C : Type 0} → (T → TrailEvent → T → Type 0) → Stage
+    → KeyState (Parts H L T C × List ℕ) → AnswerState (Parts H L T C × List ℕ) → Type 0
+Settles records (stage.Away clear waiting) from to =
+    (to.at ≡ answer.Asks clear (asking waiting from.key)) × (to.state ≡ from.state)
+Settles records (stage.Done routed) from to = Ended records routed.trail from to
 
-abbrev pub IsSettleCut : {H L T C : Type 0} → (T → TrailEvent → T → Type 0) → Stage → OneKey
-    → Parts H L T C → Parts H L T C → Type 0
-IsSettleCut records (stage.Away clear waiting) one old new = ⊥
-IsSettleCut records (stage.Done routed) one old new = IsEndCut records routed.trail one old new
+-- memory ran out there
+abbrev pub IsSettleCut : {H L T C : Type 0} → (T → TrailEvent → T → Type 0) → Stage
+    → KeyState (Parts H L T C) → Parts H L T C → Type 0
+IsSettleCut records (stage.Away clear waiting) from new = ⊥
+IsSettleCut records (stage.Done routed) from new = IsEndCut records routed.trail from new
 
 -- the request of a key that is routed to these targets, in the form of each place
 pub record Course : Type 0 where
   pub targets : List ℕ
   pub form : ℕ → Request
   pub share : Share
+
+-- the key where its routing came to this stage
+abbrev pub key_at_stage : Course → Stage → OneKey
+key_at_stage course stage =
+    record { request = course.form (last_place stage); share = course.share }
 
 -- the request of a key over these targets, in the form of each place
 abbrev pub course_of : Configuration → List ℕ → OneKey → Request → Course
@@ -207,6 +229,18 @@ course_of config targets one original = record {
   form = form_at config.failover_exptime original;
   share = one.share;
 }
+
+-- a course, and the calls of its key: those that stood before, and then more
+pub record CourseCalls : Type 0 where
+  pub course : Course
+  pub calls : List Call → List Call
+
+abbrev pub course_calls : Course → (List Call → List Call) → CourseCalls
+course_calls course calls = record { course = course; calls = calls }
+
+-- the same where no call was made for the key before
+abbrev pub no_calls : Course → CourseCalls
+no_calls course = course_calls course (λ more. more)
 
 -- a send to one of these targets, and what came of it
 pub record SendOutcome : Type 0 where
@@ -228,57 +262,54 @@ AfterSend config it outcome Holds = (original : Request) (calls : List Call)
     it.waiting.attempts it.waiting.server
     → Holds original (λ more. calls ++ came it.waiting.server it.key.request (Ok outcome) ∷ more)
 
-module _ {H L T C : Type 0} (steps : H → HealthItem → H → Type 0)
-    (records : T → TrailEvent → T → Type 0) where
+module _ {H L T C : Type 0} (ghosts : Recording H T) where
   -- health was asked or told more, with that the routing came to a stage, and it was settled
-  pub record Goes (course : Course) (calls : List Call → List Call)
-      (old : Parts H L T C × List ℕ) (at : Standing) (new : Parts H L T C × List ℕ) : Type 0 where
+  pub record Goes (it : CourseCalls) (old : Parts H L T C × List ℕ)
+      (to : AnswerState (Parts H L T C × List ℕ)) : Type 0 where
     pub stage : Stage
     pub health : H
-    pub on : GoesOn steps old.0.backend.health
-        (λ more. Reached course.targets course.form (calls more) stage) health
-    pub settles : Settles records stage
-        (record { request = course.form (last_place stage); share = course.share })
-        (with_health health old.0, old.1) at new
+    pub on : GoesOn ghosts.steps old.0.backend.health
+        (λ more. Reached it.course.targets it.course.form (it.calls more) stage) health
+    pub settles : Settles ghosts.records stage
+        (key_state (key_at_stage it.course stage) (with_health health old.0, old.1)) to
 
   -- memory ran out after that
-  pub record GoesCut (course : Course) (calls : List Call → List Call)
-      (old new : Parts H L T C) : Type 0 where
+  pub record GoesCut (it : CourseCalls) (old new : Parts H L T C) : Type 0 where
     pub stage : Stage
     pub health : H
-    pub on : GoesOn steps old.backend.health
-        (λ more. Reached course.targets course.form (calls more) stage) health
-    pub cut : IsSettleCut records stage
-        (record { request = course.form (last_place stage); share = course.share })
-        (with_health health old) new
+    pub on : GoesOn ghosts.steps old.backend.health
+        (λ more. Reached it.course.targets it.course.form (it.calls more) stage) health
+    pub cut : IsSettleCut ghosts.records stage
+        (key_state (key_at_stage it.course stage) (with_health health old)) new
 
   -- memory ran out before a key was routed, or after that
   pub data IsKeyBeginCut (course : Course) (old new : Parts H L T C) : Type 0 where
     untried : new ≡ old → IsKeyBeginCut course old new
-    ended : GoesCut course (λ more. more) old new → IsKeyBeginCut course old new
+    ended : GoesCut (no_calls course) old new → IsKeyBeginCut course old new
 
 module _ {H L T C : Type 0} (ghosts : Recording H T) where
   -- a key was asked for over these targets
-  abbrev pub KeyTaken : List ℕ → OneKey → Parts H L T C × List ℕ → Standing
-      → Parts H L T C × List ℕ → Type 0
-  KeyTaken targets one old at new = Goes ghosts.steps ghosts.records
-      (course_of old.0.config targets one (without_noreply one.request)) (λ more. more) old at new
+  abbrev pub KeyTaken : List ℕ → KeyState (Parts H L T C × List ℕ)
+      → AnswerState (Parts H L T C × List ℕ) → Type 0
+  KeyTaken targets from to = Goes ghosts (no_calls
+      (course_of from.state.0.config targets from.key (without_noreply from.key.request)))
+      from.state to
 
   -- memory ran out there
   abbrev pub KeyCut : OneKey → Parts H L T C → Parts H L T C → Type 0
   KeyCut one old new = (key : List ℕ) → request_keys one.request ≡ key ∷ []
-      → IsKeyBeginCut ghosts.steps ghosts.records
+      → IsKeyBeginCut ghosts
       (course_of old.config (targets_of old.config key) one (without_noreply one.request)) old new
 
   -- what came of a send was recorded, and its key went on
-  abbrev pub SendTaken : SendOutcome → Parts H L T C × List ℕ → Standing
-      → Parts H L T C × List ℕ → Type 0
-  SendTaken came old at new = AfterSend old.0.config came.asking came.outcome
-      (λ original calls. Goes ghosts.steps ghosts.records
-      (course_of old.0.config came.targets came.asking.key original) calls old at new)
+  abbrev pub SendTaken : SendOutcome → Parts H L T C × List ℕ
+      → AnswerState (Parts H L T C × List ℕ) → Type 0
+  SendTaken came old to = AfterSend old.0.config came.asking came.outcome
+      (λ original calls. Goes ghosts (course_calls
+      (course_of old.0.config came.targets came.asking.key original) calls) old to)
 
   -- memory ran out there
   abbrev pub SendCut : SendOutcome → Parts H L T C → Parts H L T C → Type 0
   SendCut came old new = AfterSend old.config came.asking came.outcome
-      (λ original calls. GoesCut ghosts.steps ghosts.records
-      (course_of old.config came.targets came.asking.key original) calls old new)
+      (λ original calls. GoesCut ghosts (course_calls
+      (course_of old.config came.targets came.asking.key original) calls) old new)

@@ -1,7 +1,13 @@
--- What health and the trails show of a key, in one record for those relations that need both.
-use Rattle.std.specs.Prelude.{ℕ}
+-- What the traits of the parts show, in one record for those relations that need it.
 use Rattle.tko_model.specs.Records.{HealthItem}
+use Rattle.tko_text.specs.declared.request.Request.{Request}
+use Rattle.tko_health.specs.declared.health.Health.{Ghosts as HealthGhosts}
+use Rattle.tko_links.specs.declared.links.Links.{Ghosts as LinksGhosts}
+use Rattle.tko_route.specs.Calls.{Upstream}
+use Rattle.tko_backend.specs.declared.clock.Clock.{Ghosts as ClockGhosts}
+use Rattle.tko_backend.specs.Ghosts.{BackendGhosts, backend_ghosts}
 use Rattle.tko_answer.specs.TrailEvents.{TrailEvent}
+use Rattle.tko_answer.specs.declared.trails.Trails.{Ghosts as TrailsGhosts}
 
 -- what health and the trails record
 pub record Recording (H T : Type 0) : Type 1 where
@@ -11,3 +17,33 @@ pub record Recording (H T : Type 0) : Type 1 where
 abbrev pub recording : {H T : Type 0} → (H → HealthItem → H → Type 0)
     → (T → TrailEvent → T → Type 0) → Recording H T
 recording steps records = record { steps = steps; records = records }
+
+-- what a backend shows, and what the trails record
+pub record PartsGhosts (H L T C : Type 0) : Type 1 where
+  pub backend : BackendGhosts H L C
+  pub records : T → TrailEvent → T → Type 0
+
+abbrev pub parts_ghosts : {H L T C : Type 0} → HealthGhosts H → LinksGhosts L → TrailsGhosts T
+    → ClockGhosts C → PartsGhosts H L T C
+parts_ghosts health links trails clock =
+    record { backend = backend_ghosts health links clock; records = trails.records }
+
+-- the servers as the health and the links of these parts show them
+abbrev pub upstream_of : {H L T C : Type 0} → PartsGhosts H L T C → Upstream H L
+upstream_of ghosts = record {
+  steps = ghosts.backend.steps;
+  exchanges = ghosts.backend.exchanges;
+  sent = ghosts.backend.sent;
+}
+
+-- a request that is answered over parts that show this
+pub record Answering (H L T C : Type 0) : Type 1 where
+  pub ghosts : PartsGhosts H L T C
+  pub request : Request
+
+abbrev pub answering : {H L T C : Type 0} → PartsGhosts H L T C → Request → Answering H L T C
+answering ghosts request = record { ghosts = ghosts; request = request }
+
+-- another request over the same parts
+abbrev pub with_request : {H L T C : Type 0} → Request → Answering H L T C → Answering H L T C
+with_request request it = record { ghosts = it.ghosts; request = request }

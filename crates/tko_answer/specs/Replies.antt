@@ -37,6 +37,9 @@ pub record RoutedKey : Type 0 where
   pub key : List ℕ
   pub trail : List Attempt
 
+abbrev pub routed_key : List ℕ → List Attempt → RoutedKey
+routed_key key trail = record { key = key; trail = trail }
+
 abbrev pub keys_in : List RoutedKey → List (List ℕ)
 keys_in routed = map (λ one. one.key) routed
 

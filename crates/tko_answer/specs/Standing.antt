@@ -30,3 +30,19 @@ standing_of answer.Done one = Done
 abbrev pub first_standing : Option OneKey → Standing
 first_standing (Some one) = Next one
 first_standing None = Done
+
+-- how far an answer came, and the state then: the parts and the outbox, or the outbox alone
+pub record AnswerState (W : Type 0) : Type 0 where
+  pub at : Standing
+  pub state : W
+
+abbrev pub answer_state : {W : Type 0} → Standing → W → AnswerState W
+answer_state at state = record { at = at; state = state }
+
+-- a key that is at work, and the state then
+pub record KeyState (W : Type 0) : Type 0 where
+  pub key : OneKey
+  pub state : W
+
+abbrev pub key_state : {W : Type 0} → OneKey → W → KeyState W
+key_state key state = record { key = key; state = state }

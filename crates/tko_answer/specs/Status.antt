@@ -35,18 +35,18 @@ looks_from number [] = []
 looks_from number (server ∷ servers) =
     look_item number server.found ∷ looks_from (number + 1) servers
 
--- each server was looked up once, in number order, and the text has the line of each and `END`
+-- each server was looked up once, in number order, which led to this health; and the text beside it
+-- has the line of each and `END`
 pub record IsStatus {H : Type 0} (steps : H → HealthItem → H → Type 0)
-    (addresses : List (List ℕ)) (old : H) (text : List ℕ) (new : H) : Type 0 where
+    (addresses : List (List ℕ)) (old : H) (to : H × List ℕ) : Type 0 where
   pub servers : List Looked
   pub all : addresses_in servers ≡ addresses
-  pub looks : Gains steps old (looks_from 0 servers) new
-  pub lines : text ≡ flat_map status_line servers ++ codes "END\r\n"
+  pub looks : Gains steps old (looks_from 0 servers) to.0
+  pub lines : to.1 ≡ flat_map status_line servers ++ codes "END\r\n"
 
--- such a text was put at the end of a buffer
+-- such a text was put at the end of a buffer: health and the buffer before and after
 pub record IsStatusAfter {H : Type 0} (steps : H → HealthItem → H → Type 0)
-    (addresses : List (List ℕ)) (old : H) (out : List ℕ) (new : H) (out' : List ℕ)
-    : Type 0 where
+    (addresses : List (List ℕ)) (old new : H × List ℕ) : Type 0 where
   pub text : List ℕ
-  pub status : IsStatus steps addresses old text new
-  pub appended : out' ≡ out ++ text
+  pub status : IsStatus steps addresses old.0 (new.0, text)
+  pub appended : new.1 ≡ old.1 ++ text

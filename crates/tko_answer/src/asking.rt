@@ -5,7 +5,7 @@ ghost use Rattle.tko_answer.specs.Answering.{Extends, retrieval};
 ghost use Rattle.tko_answer.specs.Answers.{request_keys};
 ghost use Rattle.tko_answer.specs.Asking.{Begins, Ended, GoesTo, HasFront, HasServers, IsBeginCut, IsEndCut, IsFirst, IsOutTo, IsSettleCut, KeyCut, KeyTaken, SendCut, SendTaken, Settles, Stays, front_of, send_outcome};
 ghost use Rattle.tko_answer.specs.Ghosts.{recording};
-ghost use Rattle.tko_answer.specs.Standing.{asking, first_standing, standing_of};
+ghost use Rattle.tko_answer.specs.Standing.{answer_state, asking, first_standing, key_state, standing_of};
 ghost use Rattle.tko_pools.specs.Configs.{AreServers};
 
 use crate::ending::{join_next, note};
@@ -68,7 +68,7 @@ impl OneKey {
     ) -> Result<Option<OneKey>, NoMemory>
         requires servers { HasServers H.servers parts.old }
         ensures ok { IfOk result (λ found. Begins H.steps request (parts.old, outbox.old)
-            (first_standing found) (parts.new, outbox.new)) }
+            (answer_state (first_standing found) (parts.new, outbox.new))) }
         ensures err { OnErr result (Extends outbox.old outbox.new) }
         ensures cut { OnErr result (IsBeginCut H.steps request parts.old parts.new) }
         ensures stays { Stays H.servers parts.old parts.new }
@@ -135,7 +135,8 @@ impl OneKey {
         requires servers { HasServers H.servers parts.old }
         requires front { HasFront self.old.share outbox.old }
         ensures ok { IfOk result (λ it. KeyTaken (recording H.steps T.records) targets.new.items
-            self.old (parts.old, outbox.old) (standing_of it self.new) (parts.new, outbox.new)) }
+            (key_state self.old (parts.old, outbox.old)) (answer_state (standing_of it self.new)
+            (parts.new, outbox.new))) }
         ensures err { OnErr result (Extends (front_of self.old.share outbox.old) outbox.new) }
         ensures cut { OnErr result (KeyCut (recording H.steps T.records)
             self.old parts.old parts.new) }
@@ -162,7 +163,7 @@ impl OneKey {
         requires out { IsOutTo parts.old.config targets.now waiting }
         ensures ok { IfOk result (λ answer. SendTaken (recording H.steps T.records)
             (send_outcome targets.now (asking waiting self.old) outcome) (parts.old, outbox.old)
-            (standing_of answer self.new) (parts.new, outbox.new)) }
+            (answer_state (standing_of answer self.new) (parts.new, outbox.new))) }
         ensures err { OnErr result (Extends (front_of self.old.share outbox.old) outbox.new) }
         ensures cut { OnErr result (SendCut (recording H.steps T.records)
             (send_outcome targets.now (asking waiting self.old) outcome) parts.old parts.new) }
@@ -189,10 +190,12 @@ impl OneKey {
         stage: Stage,
     ) -> Result<Answer, NoMemory>
         requires front { HasFront self.old.share outbox.old }
-        ensures ok { IfOk result (λ answer. Settles T.records stage self.old
-            (parts.old, outbox.old) (standing_of answer self.new) (parts.new, outbox.new)) }
+        ensures ok { IfOk result (λ answer. Settles T.records stage
+            (key_state self.old (parts.old, outbox.old))
+            (answer_state (standing_of answer self.new) (parts.new, outbox.new))) }
         ensures err { OnErr result (Extends (front_of self.old.share outbox.old) outbox.new) }
-        ensures cut { OnErr result (IsSettleCut T.records stage self.old parts.old parts.new) }
+        ensures cut { OnErr result (IsSettleCut T.records stage
+            (key_state self.old parts.old) parts.new) }
         ensures stays { (servers : H → ℕ) → Stays servers parts.old parts.new }
     {
         match stage {
@@ -211,10 +214,12 @@ impl OneKey {
         routed: Routed,
     ) -> Result<Answer, NoMemory>
         requires front { HasFront self.old.share outbox.old }
-        ensures ok { IfOk result (λ answer. Ended T.records routed.trail self.old
-            (parts.old, outbox.old) (standing_of answer self.new) (parts.new, outbox.new)) }
+        ensures ok { IfOk result (λ answer. Ended T.records routed.trail
+            (key_state self.old (parts.old, outbox.old))
+            (answer_state (standing_of answer self.new) (parts.new, outbox.new))) }
         ensures err { OnErr result (Extends (front_of self.old.share outbox.old) outbox.new) }
-        ensures cut { OnErr result (IsEndCut T.records routed.trail self.old parts.old parts.new) }
+        ensures cut { OnErr result (IsEndCut T.records routed.trail
+            (key_state self.old parts.old) parts.new) }
         ensures stays { (servers : H → ℕ) → Stays servers parts.old parts.new }
     {
         note(parts, &routed.trail);

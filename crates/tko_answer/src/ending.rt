@@ -1,7 +1,7 @@
 //! How a key ends: what was marked is noted, and the next of several keys takes its place.
 ghost use Rattle.std.specs.Prelude.{◌≡◌, ℕ, IfOk, OnErr, length};
-ghost use Rattle.tko_answer.specs.Asking.{JoinsNext, with_noted};
-ghost use Rattle.tko_answer.specs.Standing.{standing_of};
+ghost use Rattle.tko_answer.specs.Asking.{JoinsNext, joining, with_noted};
+ghost use Rattle.tko_answer.specs.Standing.{answer_state, standing_of};
 ghost use Rattle.tko_answer.specs.declared.asking.Share.TheVariants.{Joined};
 
 use crate::Parts;
@@ -42,11 +42,12 @@ pub(crate) fn join_next(
     request: &mut Request,
     left: &mut KeysLeft,
 ) -> Result<Answer, NoMemory>
-    ensures ok { IfOk result (λ answer. (begin : ℕ) → JoinsNext request.old begin left.old
-        outbox.old (standing_of answer (record {
+    ensures ok { IfOk result (λ answer. (begin : ℕ) → JoinsNext
+        (joining request.old begin left.old) outbox.old
+        (answer_state (standing_of answer (record {
           request = request.new;
           share = Joined begin left.new;
-        })) outbox.new) }
+        })) outbox.new)) }
     ensures err { OnErr result (outbox.new ≡ outbox.old) }
 {
     match left.next() {

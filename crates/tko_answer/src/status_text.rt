@@ -19,7 +19,7 @@ pub fn status<R: Wait, H: Health>(
 ) -> Result<Vec<u8>, NoMemory>
     requires { H.servers health.old ≡ length addresses.now }
     ensures ok { IfOk result (λ text. IsStatus H.steps (map string_bytes addresses.now)
-        health.old text.items health.new) }
+        health.old (health.new, text.items)) }
     ensures cut { OnErr result (LooksSome H.steps (map string_bytes addresses.now)
         health.old health.new) }
     ensures servers { H.servers health.new ≡ H.servers health.old }
@@ -38,7 +38,7 @@ pub(crate) fn append_status<R: Wait, H: Health>(
 ) -> Result<(), NoMemory>
     requires { H.servers health.old ≡ length addresses.now }
     ensures ok { OnOk result (IsStatusAfter H.steps (map string_bytes addresses.now)
-        health.old out.old.items health.new out.new.items) }
+        (health.old, out.old.items) (health.new, out.new.items)) }
     ensures err { OnErr result (Extends out.old.items out.new.items) }
     ensures cut { OnErr result (LooksSome H.steps (map string_bytes addresses.now)
         health.old health.new) }

@@ -16,11 +16,11 @@ use Rattle.tko_io.specs.declared.io.Inlet.{Ghosts as InletGhosts}
 use Rattle.tko_io.specs.declared.io.Outlet.{Ghosts as OutletGhosts}
 use Rattle.tko_turns.specs.Effects.{effects_of}
 use Rattle.tko_turns.specs.Events.{Effects}
-use Rattle.tko_turns.specs.Ghosts.{PartsGhosts}
 use Rattle.tko_backend.specs.Clocks.{IsFrozen}
 use Rattle.tko_backend.specs.Probers.{no_probers}
 use Rattle.tko_session.specs.Served.{CameTooLong, Served, context, serving}
 use Rattle.tko_answer.specs.TrailEvents.{Keeps}
+use Rattle.tko_answer.specs.Ghosts.{PartsGhosts}
 use Rattle.tko_pools.specs.Configs.{Configuration}
 use Rattle.tko_pools.specs.declared.fault.ConfigFault.{ConfigFault}
 use Rattle.tko_cli.specs.Configured.{IsConfigured, IsFlawed}

@@ -38,6 +38,25 @@ first_stop stops call = option_map (λ stop. stop.1) (find (λ stop. stop.0 == c
 abbrev pub stop_of : Tape → Option Stop
 stop_of tape = first_stop tape.stops tape.calls
 
+-- the tape of before one more call, with what a read changes as in the other one
+abbrev pub with_read : Tape → Tape → Tape
+with_read old new = record old {
+  left = new.left;
+  calls = old.calls + 1;
+  failures = new.failures;
+  idles = new.idles;
+}
+
+-- the same for a write
+abbrev pub with_write : Tape → Tape → Tape
+with_write old new = record old {
+  bytes = new.bytes;
+  room = new.room;
+  left = new.left;
+  calls = old.calls + 1;
+  failures = new.failures;
+}
+
 -- a read into this room either stops, as the list says, or moves as many bytes as it may
 abbrev pub ReadIs : Option Stop → Tape → ℕ → Result ℕ Stop → Type 0
 ReadIs (Some stop) old room result = result ≡ Err stop

@@ -94,7 +94,7 @@ fn first_stop_of(stops: &[(u64, Stop)], call: u64) -> Option<Stop>
 impl Inlet for Taped {
     ghost use Rattle.std.specs.Prelude.{refl};
     ghost use Rattle.std.proofs.Common.{ap, sym, ◌∙◌, append_assoc};
-    ghost use Rattle.tko_io.specs.Tape.{ReadIs, stop_of};
+    ghost use Rattle.tko_io.specs.Tape.{ReadIs, stop_of, with_read};
 
     ghost gives = { λ a bytes b. a.left ≡ bytes ++ b.left };
 
@@ -116,12 +116,7 @@ impl Inlet for Taped {
         ensures ended { result ≡ Ok 0 → 0 < length buffer.new → self.new.left ≡ [] }
         ensures failures { self.new.failures ≡ self.old.failures + faults_in result }
         ensures idles { self.new.idles ≡ self.old.idles + idles_in result }
-        ensures others { self.new ≡ record self.old {
-          left = self.new.left;
-          calls = self.old.calls + 1;
-          failures = self.new.failures;
-          idles = self.new.idles;
-        } }
+        ensures others { self.new ≡ with_read self.old self.new }
     {
         if let Some(stop) = self.next_call(rt) {
             return Err(self.counts.count(rt, stop));
@@ -136,7 +131,7 @@ impl Inlet for Taped {
 
 impl Outlet for Taped {
     ghost use Rattle.std.proofs.Common.{ap, sym, ◌∙◌, append_assoc, append-nil};
-    ghost use Rattle.tko_io.specs.Tape.{WriteIs, stop_of};
+    ghost use Rattle.tko_io.specs.Tape.{WriteIs, stop_of, with_write};
 
     ghost takes = { λ a bytes b. b.bytes ≡ a.bytes ++ bytes };
 
@@ -153,13 +148,7 @@ impl Outlet for Taped {
         ensures takes { self.new.bytes ≡ self.old.bytes ++ moved result piece.now }
         ensures failures { self.new.failures ≡ self.old.failures + refusals_in piece.now result }
         ensures never_idle { result ≢ Err Stop.Idle }
-        ensures others { self.new ≡ record self.old {
-          bytes = self.new.bytes;
-          room = self.new.room;
-          left = self.new.left;
-          calls = self.old.calls + 1;
-          failures = self.new.failures;
-        } }
+        ensures others { self.new ≡ with_write self.old self.new }
     {
         match self.next_call(rt) {
             Some(Stop::Fault) => return Err(self.counts.count(rt, Stop::Fault)),

@@ -72,8 +72,8 @@ impl ReadBuffer {
         }
     }
 
-    /// The response at the front of the bytes, and how many of them it takes. A value that is longer
-    /// than the room which would be kept takes the bytes with it, and is not copied.
+    /// The response at the front of the bytes, and how many of them it takes. A value that is
+    /// longer than the room which would be kept takes the bytes with it, and is not copied.
     pub(crate) fn response(
         &mut self,
         alloc: Global,

@@ -2,15 +2,16 @@
 -- attempt at a server that is up has two halves: its look-up, and what came of the send with the
 -- call that records it. The other calls of the servers' health may stand between the halves, so
 -- each half is told over whatever calls of the request stood before.
-use Rattle.std.specs.Prelude.{◌≡◌, ℕ, ◌≤◌, ◌-◌, ◌⊎◌, List, [], ◌∷◌, ◌++◌, length, map, take, Option, Some, None}
+use Rattle.std.specs.Prelude.{◌≡◌, ℕ, ◌≤◌, ◌-◌, ◌⊎◌, List, [], ◌∷◌, ◌++◌, length, map, take, Option, Some, None, Ok}
 use Rattle.tko_model.specs.declared.mark.Reply.TheVariants as reply
 use Rattle.tko_model.specs.Records.{Gains, HealthItem}
 use Rattle.tko_text.specs.declared.request.Request.{Request}
-use Rattle.tko_route.specs.Calls.{Call, Told, look_up}
+use Rattle.tko_links.specs.declared.links.Outcome.{Outcome}
+use Rattle.tko_route.specs.Calls.{Call, Told, came, look_up}
 use Rattle.tko_route.specs.declared.attempt.Attempt.{Attempt}
 use Rattle.tko_route.specs.declared.routing.Stage.{Stage}
 use Rattle.tko_route.specs.declared.routing.Stage.TheVariants as stage
-use Rattle.tko_route.specs.Trail.{IsCutTrail, IsTrail, LastAnswered, Makes, NoneAnswered, next_target, server_of}
+use Rattle.tko_route.specs.Trail.{IsCutTrail, IsTrail, LastAnswered, Makes, NoneAnswered, form_at, next_target, server_of}
 use Rattle.tko_route.specs.Underway.{Underway, Awaited}
 
 -- nothing is sent: the attempts are at the targets in order, with room for one at each target, and
@@ -55,6 +56,16 @@ pub record GoesOn {H : Type 0} (steps : H → HealthItem → H → Type 0) (old 
   pub items : List HealthItem
   pub gains : Gains steps old items new
   pub is : reached (map Told items)
+
+-- what came of a send that was out, with the request in the form of its place
+abbrev pub came_of : (ℕ → Request) → Awaited → Outcome → Call
+came_of form waiting outcome =
+    came waiting.server (form (length waiting.attempts)) (Ok outcome)
+
+-- a request that had the form of one place has that of another
+abbrev pub IsBrought : ℕ → Request × ℕ → Request × ℕ → Type 0
+IsBrought exptime old new = (original : Request)
+    → old.0 ≡ form_at exptime original old.1 → new.0 ≡ form_at exptime original new.1
 
 -- how far a routing came by these calls: the next target was found up, and the permission names it;
 -- or a target answered, or all were tried

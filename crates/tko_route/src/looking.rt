@@ -1,8 +1,8 @@
 //! The two halves of an attempt: look-ups until a server is up, and the record of an outcome.
 ghost use Rattle.std.specs.Prelude.{◌≡◌, ◌↔◌, ◌-◌, ◌<◌, ◌≤◌, ◌++◌, ℕ, All, IfNone, IfSome, IsSome, IsTrue, List, length, vec_capacity, Some};
 ghost use Rattle.tko_route.specs.Calls.{Call};
-ghost use Rattle.tko_route.specs.Routing.{Finds, GoesOn, IsNext, IsTried, place_of};
-ghost use Rattle.tko_route.specs.Trail.{Ends, IsRecorded, IsTrail, Makes, answer_of, form_at, op_of, outcome_of, server_of};
+ghost use Rattle.tko_route.specs.Routing.{Finds, GoesOn, IsBrought, IsNext, IsTried, place_of};
+ghost use Rattle.tko_route.specs.Trail.{Ends, IsRecorded, IsTrail, Makes, answer_of, op_of, outcome_of, server_of};
 ghost use Rattle.tko_text.specs.declared.request.Request.{Request};
 
 use crate::attempt::Attempt;
@@ -21,8 +21,7 @@ pub(crate) fn is_answered(attempts: &[Attempt]) -> bool
 
 /// Brings a request from the form of the place before into the form of this place.
 fn prepare(request: &mut Request, place: usize, exptime: u32)
-    ensures { (original : Request) → request.old ≡ form_at exptime original (place - 1)
-        → request.new ≡ form_at exptime original place }
+    ensures { IsBrought exptime (request.old, place - 1) (request.new, place) }
 {
     if place == 1 {
         request.replace_expiry(exptime);
@@ -46,9 +45,8 @@ pub(crate) fn look_on<R: Wait, H: Health>(
     ensures calls { (form : ℕ → Request) (calls : List Call) → Makes form calls attempts.old.items
         → GoesOn H.steps health.old
         (λ more. Finds form (calls ++ more) attempts.new.items result) health.new }
-    ensures request { (original : Request)
-        → request.old ≡ form_at exptime original (length attempts.old.items - 1)
-        → request.new ≡ form_at exptime original (place_of result (length attempts.new.items)) }
+    ensures request { IsBrought exptime (request.old, length attempts.old.items - 1)
+        (request.new, place_of result (length attempts.new.items)) }
     ensures grown { length attempts.old.items ≤ length attempts.new.items }
     ensures room { vec_capacity attempts.new ≡ vec_capacity attempts.old }
     ensures servers { H.servers health.new ≡ H.servers health.old }

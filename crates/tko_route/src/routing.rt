@@ -3,9 +3,9 @@
 //!
 //! - `Stage`: how far a routing came. `begin` looks for the first server that is up.
 //! - `Waiting`: a request was sent. `answered` takes what came of it, and goes on.
-ghost use Rattle.std.specs.Prelude.{◌≡◌, ◌+◌, ◌-◌, ◌<◌, ◌≤◌, ◌∷◌, ◌++◌, ℕ, [], All, IfOk, List, OnErr, length, Ok};
-ghost use Rattle.tko_route.specs.Calls.{Call, came};
-ghost use Rattle.tko_route.specs.Routing.{FindsUp, GoesOn, IsAwaited, IsUnderway, Reached, last_place, tries};
+ghost use Rattle.std.specs.Prelude.{◌≡◌, ◌+◌, ◌-◌, ◌<◌, ◌≤◌, ◌∷◌, ◌++◌, ℕ, [], All, IfOk, List, OnErr, length};
+ghost use Rattle.tko_route.specs.Calls.{Call};
+ghost use Rattle.tko_route.specs.Routing.{FindsUp, GoesOn, IsAwaited, IsBrought, IsUnderway, Reached, came_of, last_place, tries};
 ghost use Rattle.tko_route.specs.Trail.{Makes, form_at};
 ghost use Rattle.tko_text.specs.SentRequests.{without_noreply};
 ghost use Rattle.tko_text.specs.declared.request.Request.{Request};
@@ -98,9 +98,8 @@ impl Routing {
         ensures calls { (form : ℕ → Request) (calls : List Call) → Makes form calls self.attempts
             → GoesOn H.steps health.old
             (λ more. Reached targets.now form (calls ++ more) result) health.new }
-        ensures request { (original : Request)
-            → request.old ≡ form_at exptime original (length self.attempts - 1)
-            → request.new ≡ form_at exptime original (last_place result) }
+        ensures request { IsBrought exptime (request.old, length self.attempts - 1)
+            (request.new, last_place result) }
         ensures grown { length self.attempts ≤ tries result }
         ensures servers { H.servers health.new ≡ H.servers health.old }
     {
@@ -158,8 +157,7 @@ impl Waiting {
         ensures calls { (form : ℕ → Request) (calls : List Call)
             → FindsUp form calls self.attempts self.server
             → GoesOn H.steps health.old (λ more. Makes form
-            (calls ++ came self.server (form (length self.attempts)) (Ok outcome) ∷ more)
-            result.attempts) health.new }
+            (calls ++ came_of form self outcome ∷ more) result.attempts) health.new }
         ensures one { length result.attempts ≡ length self.attempts + 1 }
         ensures underway { (targets : List ℕ) → IsAwaited targets self → IsUnderway targets result }
         ensures servers { H.servers health.new ≡ H.servers health.old }
@@ -184,11 +182,9 @@ impl Waiting {
         ensures calls { (form : ℕ → Request) (calls : List Call)
             → FindsUp form calls self.attempts self.server
             → GoesOn H.steps health.old (λ more. Reached targets.now form
-            (calls ++ came self.server (form (length self.attempts)) (Ok outcome) ∷ more)
-            result) health.new }
-        ensures request { (original : Request)
-            → request.old ≡ form_at exptime original (length self.attempts)
-            → request.new ≡ form_at exptime original (last_place result) }
+            (calls ++ came_of form self outcome ∷ more) result) health.new }
+        ensures request { IsBrought exptime (request.old, length self.attempts)
+            (request.new, last_place result) }
         ensures grown { length self.attempts < tries result }
         ensures servers { H.servers health.new ≡ H.servers health.old }
     {

@@ -5,6 +5,7 @@ use Rattle.tko_model.proofs.RecordLemmas.{gains_append, gains_none, gains_one}
 use Rattle.tko_io.specs.declared.io.Inlet.{Ghosts as InletGhosts}
 use Rattle.tko_io.specs.declared.io.Outlet.{Ghosts as OutletGhosts}
 use Rattle.tko_answer.specs.declared.parts.Parts.{Parts}
+use Rattle.tko_answer.specs.Ghosts.{PartsGhosts}
 use Rattle.std.specs.Prelude.{MatchBool}
 use Rattle.tko_text.specs.declared.item.Item.{Item}
 use Rattle.tko_text.specs.declared.reader.FeedFault.{FeedFault}
@@ -25,7 +26,6 @@ use Rattle.tko_turns.specs.Effects.{effects_of}
 use Rattle.tko_turns.specs.Ends.{AnsweringEnds, IsRun, NoneRun}
 use Rattle.tko_session.specs.Ends.{AllDelivered, DeliveryStops, PieceStops, SessionStops}
 use Rattle.tko_turns.specs.Events.{Effects, Event, IdleRound, Rounded, idle_rounds, turns_of}
-use Rattle.tko_turns.specs.Ghosts.{PartsGhosts}
 use Rattle.tko_session.specs.Faults.{fault_of}
 use Rattle.tko_turns.specs.SessionState.{SessionState, Snapshot, Answered, AnsweredPart, GoesOn, InSession, IsBehind, ProgressIs, fed_state, fresh, items_of, snapshot, text_of, cut_short, no_more, stop_point}
 use Rattle.tko_session.specs.Served.{Context, Delivered, DeliveredPart, Delivery, EndsAt, Served, ServedSoFar, StoppedByLine, StoppedByRead, StoppedByWrite, StoppedEarly, Transcript, after_cut, at_end_of_input, at_once, at_quit, context, delivering, delivery, serve_state, serving}

@@ -169,7 +169,8 @@ module _ {O W : Type 0} (ghosts : Delivering O W) where
     pub front : List ℕ
     pub unwritten : List ℕ
     pub text : text_of (turns_of events) ≡ front ++ unwritten
-    pub output : Writes ghosts.outlet.takes (old.writer, old.written) front (new.writer, new.written)
+    pub output : Writes ghosts.outlet.takes (old.writer, old.written) front
+        (new.writer, new.written)
 
 -- what serving a client works with at a moment: its reader, and its session with the writer
 pub record ServeState (I O W : Type 0) : Type 0 where

@@ -130,8 +130,8 @@ fn deliver<R: IoRuntime, O: Outlet, H: Health, L: Links, T: Trails, C: Clock>(
     Ok(progress)
 }
 
-/// Writes the replies that wait, piece by piece. Where the writer fails, the fault has the number of
-/// bytes of the session that were written.
+/// Writes the replies that wait, piece by piece. Where the writer fails, the fault has the number
+/// of bytes of the session that were written.
 fn write_replies<R: IoRuntime, O: Outlet>(
     rt: &R,
     session: &mut Session,
@@ -139,9 +139,8 @@ fn write_replies<R: IoRuntime, O: Outlet>(
     written: &mut u64,
 ) -> Result<(), SessionFault>
     requires between { session.old.work ≡ Between }
-    ensures taken { OnOk result (session.new ≡ record session.old { outbox = [] }) }
-    ensures others { OnErr result
-        (session.new ≡ record session.old { outbox = session.new.outbox }) }
+    ensures others { session.new ≡ record session.old { outbox = session.new.outbox } }
+    ensures taken { OnOk result (session.new.outbox ≡ []) }
     ensures all { OnOk result (Writes O.takes
         (writer.old, written.old) session.old.outbox (writer.new, written.new)) }
     ensures calm { OnOk result (O.failures writer.new ≡ O.failures writer.old) }

@@ -11,12 +11,12 @@ use Rattle.tko_text.specs.declared.request.Request.{Request}
 use Rattle.tko_pools.specs.Configs.{Configuration, targets_of}
 use Rattle.tko_answer.specs.Answering.{Extends}
 use Rattle.tko_answer.specs.Answers.{request_keys}
-use Rattle.tko_answer.specs.Asking.{Begins, BeginsAt, Goes, GoesCut, IsFirst, IsKeyBeginCut, Stays, with_noted, AfterSend, course_of, send_outcome}
+use Rattle.tko_answer.specs.Asking.{Begins, BeginsAt, Goes, GoesCut, IsFirst, IsKeyBeginCut, Stays, with_noted, AfterSend, course_calls, course_of, no_calls, send_outcome}
 use Rattle.tko_answer.specs.Asking as begins
 use Rattle.tko_answer.specs.Ghosts.{recording}
 use Rattle.tko_answer.specs.TrailEvents.{Asked, TrailEvent}
 use Rattle.tko_route.specs.Underway.{Awaited}
-use Rattle.tko_answer.specs.Standing.{Asking, Standing, asking}
+use Rattle.tko_answer.specs.Standing.{Asking, Standing, answer_state, asking}
 use Rattle.tko_answer.specs.Standing as answer
 use Rattle.tko_answer.specs.declared.asking.OneKey.{OneKey}
 use Rattle.tko_answer.specs.declared.parts.Parts.{Parts}
@@ -47,7 +47,7 @@ not_both at one next done = cc
 
 module _ {H L T C : Type 0} {steps : H → HealthItem → H → Type 0} where
   begins_first : {old mid : SessionState} {told : Parts H L T C} {to : Parts H L T C × List ℕ} {request : Request} {at : Standing} {one : OneKey}
-      → mid ≡ old → at ≡ answer.Next one → Begins steps request (told, mid.outbox) at to
+      → mid ≡ old → at ≡ answer.Next one → Begins steps request (told, mid.outbox) (answer_state at to)
       → IsFirst request (length old.outbox) one × (to ≡ (told, old.outbox))
   begins_first same is (begins.answered text done itself more) = absurd (not_both _ _ is done)
   begins_first {old} {mid} {told} {to} {request} {at} {one} same is (begins.keyed (other, at', first) kept) =
@@ -59,7 +59,7 @@ module _ {H L T C : Type 0} {steps : H → HealthItem → H → Type 0} where
 
   -- a request began with its first key, and nothing else was done
   pub first_at : {old mid : SessionState} {told after : Parts H L T C} {outbox : List ℕ} {begin : ℕ} {request : Request} {at : Standing} {one : OneKey}
-      → mid ≡ old → begin ≡ length mid.outbox → at ≡ answer.Next one → Begins steps request (told, mid.outbox) at (after, outbox)
+      → mid ≡ old → begin ≡ length mid.outbox → at ≡ answer.Next one → Begins steps request (told, mid.outbox) (answer_state at (after, outbox))
       → IsFirst request (length old.outbox) one
       × (snapshot (record mid { outbox = outbox; owes = true; work = work.AtKey one; begin = begin }) after ≡ snapshot (record (begun_at old) { work = work.AtKey one }) told)
   first_at {old} {mid} {told} {after} {outbox} {begin} {request} {at} {one} same from is began =
@@ -90,7 +90,7 @@ module _ {H L T C : Type 0} {steps : H → HealthItem → H → Type 0} {records
   -- the proxy answered a request itself
   pub by_itself : {old mid new : SessionState} {told : T} {parts after : Parts H L T C} {outbox : List ℕ} {begin : ℕ} {request : Request} {at : Standing} {progress : Progress} {wanted : Step}
       → records parts.trails (Asked request) told → mid ≡ old → begin ≡ length mid.outbox → at ≡ answer.Done
-      → Begins steps request (record parts { trails = told }, mid.outbox) at (after, outbox)
+      → Begins steps request (record parts { trails = told }, mid.outbox) (answer_state at (after, outbox))
       → progress ≡ progress_of request → wanted ≡ step.At progress
       → new ≡ went answer.Done (record mid { outbox = outbox; owes = true; begin = begin })
       → RequestBegun (recording steps records) request (snapshot old parts) (stepped wanted (snapshot new after))
@@ -135,7 +135,7 @@ module _ {H L T C : Type 0} {steps : H → HealthItem → H → Type 0} {records
   -- a key was asked for
   pub key_begun : {old new : SessionState} {parts parts' : Parts H L T C} {wanted : Step} (one : OneKey) (at : Standing)
       (front : List ℕ) (reading : Reading) (outbox : List ℕ) (requests : ℕ) (owes : Bool) (begin : ℕ) (targets : List ℕ)
-      → Goes steps records (course_of parts.config targets one (without_noreply one.request)) (λ more. more) (parts, front) at (parts', outbox)
+      → Goes (recording steps records) (no_calls (course_of parts.config targets one (without_noreply one.request))) (parts, front) (answer_state at (parts', outbox))
       → ((key : List ℕ) → request_keys one.request ≡ key ∷ [] → targets ≡ targets_of parts.config key)
       → wanted ≡ step_of progress.More at → new ≡ is_went at reading outbox requests owes begin targets
       → front ≡ old.outbox → reading ≡ old.reading → requests ≡ old.requests → owes ≡ old.owes → begin ≡ old.begin
@@ -144,7 +144,7 @@ module _ {H L T C : Type 0} {steps : H → HealthItem → H → Type 0} {records
       let o : new.outbox ≡ outbox = ap (λ (s : SessionState). s.outbox) is in
       let t : new.targets ≡ targets = ap (λ (s : SessionState). s.targets) is in
       let P : List ℕ → List ℕ → List ℕ → Type 0 = λ xs ts ys.
-      Goes steps records (course_of parts.config ts one (without_noreply one.request)) (λ more. more) (parts, xs) at (parts', ys) in
+      Goes (recording steps records) (no_calls (course_of parts.config ts one (without_noreply one.request))) (parts, xs) (answer_state at (parts', ys)) in
       record {
         at = at;
         goes = subst (λ xs. P xs new.targets new.outbox) waits (subst (λ ts. P front ts new.outbox) (sym t) (subst (λ ys. P front targets ys) (sym o) goes));
@@ -156,7 +156,7 @@ module _ {H L T C : Type 0} {steps : H → HealthItem → H → Type 0} {records
   -- memory ran out there
   pub key_lost : {old new : SessionState} {parts parts' : Parts H L T C} (one : OneKey) (targets : List ℕ)
       → ((key : List ℕ) → request_keys one.request ≡ key ∷ []
-      → IsKeyBeginCut steps records (course_of parts.config (targets_of parts.config key) one (without_noreply one.request)) parts parts')
+      → IsKeyBeginCut (recording steps records) (course_of parts.config (targets_of parts.config key) one (without_noreply one.request)) parts parts')
       → new ≡ record (dropped old) { targets = targets }
       → KeyDropped (recording steps records) one (snapshot old parts) (snapshot new parts')
   key_lost {old} {new} one targets cut is = record {
@@ -167,14 +167,14 @@ module _ {H L T C : Type 0} {steps : H → HealthItem → H → Type 0} {records
   -- what came of a send was recorded
   pub outcome_taken : {old new : SessionState} {parts parts' : Parts H L T C} {wanted : Step} (outcome : Outcome) (it : Asking) (at : Standing)
       (aimed front : List ℕ) (reading : Reading) (outbox : List ℕ) (requests : ℕ) (owes : Bool) (begin : ℕ) (targets : List ℕ)
-      → AfterSend parts.config it outcome (λ original calls. Goes steps records (course_of parts.config aimed it.key original) calls (parts, front) at (parts', outbox))
+      → AfterSend parts.config it outcome (λ original calls. Goes (recording steps records) (course_calls (course_of parts.config aimed it.key original) calls) (parts, front) (answer_state at (parts', outbox)))
       → wanted ≡ step_of progress.More at → new ≡ is_went at reading outbox requests owes begin targets
       → aimed ≡ old.targets → front ≡ old.outbox → reading ≡ old.reading → requests ≡ old.requests → owes ≡ old.owes → begin ≡ old.begin
       → targets ≡ old.targets → OutcomeTaken (recording steps records) (send_outcome old.targets it outcome) (snapshot old parts) (stepped wanted (snapshot new parts'))
   outcome_taken {old} {new} {parts} {parts'} outcome it at aimed front reading outbox requests owes begin targets goes asks is aims waits reads counts owed begins same =
       let o : new.outbox ≡ outbox = ap (λ (s : SessionState). s.outbox) is in
       let P : List ℕ → List ℕ → List ℕ → Type 0 = λ ts xs ys.
-      AfterSend parts.config it outcome (λ original calls. Goes steps records (course_of parts.config ts it.key original) calls (parts, xs) at (parts', ys)) in
+      AfterSend parts.config it outcome (λ original calls. Goes (recording steps records) (course_calls (course_of parts.config ts it.key original) calls) (parts, xs) (answer_state at (parts', ys))) in
       record {
         at = at;
         goes =
@@ -197,11 +197,11 @@ module _ {H L T C : Type 0} {steps : H → HealthItem → H → Type 0} {records
 
   -- memory ran out there
   pub outcome_lost : {old new : SessionState} {parts parts' : Parts H L T C} (outcome : Outcome) (it : Asking) (aimed : List ℕ)
-      → AfterSend parts.config it outcome (λ original calls. GoesCut steps records (course_of parts.config aimed it.key original) calls parts parts')
+      → AfterSend parts.config it outcome (λ original calls. GoesCut (recording steps records) (course_calls (course_of parts.config aimed it.key original) calls) parts parts')
       → aimed ≡ old.targets → new ≡ dropped old → OutcomeDropped (recording steps records) (send_outcome old.targets it outcome) (snapshot old parts) (snapshot new parts')
   outcome_lost {old} {new} {parts} {parts'} outcome it aimed cut aims is = record {
     cut =
-        subst (λ ts. AfterSend parts.config it outcome (λ original calls. GoesCut steps records (course_of parts.config ts it.key original) calls parts parts'))
+        subst (λ ts. AfterSend parts.config it outcome (λ original calls. GoesCut (recording steps records) (course_calls (course_of parts.config ts it.key original) calls) parts parts'))
         aims cut;
     state = is;
   }

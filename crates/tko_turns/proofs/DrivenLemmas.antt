@@ -17,7 +17,7 @@ use Rattle.tko_answer.specs.Answers.{request_keys}
 use Rattle.tko_answer.specs.Asking.{Begins, BeginsAt, Goes, GoesCut, IsFirst, Stays, with_noted, AfterSend, course_of, send_outcome}
 use Rattle.tko_answer.specs.Asking as begins
 use Rattle.tko_answer.specs.Cuts.{IsAnswerCut}
-use Rattle.tko_answer.specs.Ghosts.{recording}
+use Rattle.tko_answer.specs.Ghosts.{answering, parts_ghosts, recording}
 use Rattle.tko_answer.specs.Replies.{reply_bound}
 use Rattle.tko_answer.specs.TrailEvents.{Asked}
 use Rattle.tko_answer.specs.Standing.{Asking, Standing}
@@ -27,7 +27,6 @@ use Rattle.tko_answer.specs.declared.parts.Parts.{Parts}
 use Rattle.tko_answer.specs.declared.trails.Trails.{Ghosts as TrailsGhosts}
 use Rattle.tko_answer.proofs.DrivingLemmas.{Stands, at_extends, begin_cut, begun, begun_in, gone_on, gone_on_cut, keyed, sent_cut, stands}
 use Rattle.tko_turns.specs.Driven.{IsOut, IsReady, IsReadyFor, ItemDropped, ItemRead, KeyBegun, KeyDropped, OutcomeDropped, OutcomeTaken, RequestBegun, RequestDropped, WasDropped, WentOn, begun_at, dropped, requests_after, step_of, stepped, went, work_of}
-use Rattle.tko_turns.specs.Ghosts.{parts_ghosts}
 use Rattle.tko_turns.specs.Driven as driven
 use Rattle.tko_turns.specs.Effects.{effects}
 use Rattle.tko_turns.specs.Ends.{IsSettled}
@@ -77,7 +76,7 @@ pauses answer.Done = tt
 pauses (answer.Next one) = refl
 pauses (answer.Asks clear it) = refl
 
-module _ {H L T C : Type 0} (health : HealthGhosts H) (links : LinksGhosts L) (trails : TrailsGhosts T) where
+module _ {H L T C : Type 0} (health : HealthGhosts H) (links : LinksGhosts L) (trails : TrailsGhosts T) (clock : ClockGhosts C) where
   -- the answer to the next item came so far, and with its reply the session is at `end`
   pub record IsUnder (end : Progress) (old : Snapshot (Parts H L T C)) (at : Standing) (now : Snapshot (Parts H L T C)) : Type 0 where
     pub it : Request
@@ -85,7 +84,7 @@ module _ {H L T C : Type 0} (health : HealthGhosts H) (links : LinksGhosts L) (t
     pub emits : Emits old.state.reading (item.Request it) now.state.reading
     pub recorded : trails.records old.parts.trails (Asked it) told
     pub stands :
-        Stands health.steps links.exchanges links.sent links.probed trails.records it (record old.parts { trails = told }) old.state.outbox
+        Stands (parts_ghosts health links trails clock) it (record old.parts { trails = told }) old.state.outbox
         at now.state.targets now.parts now.state.outbox
     pub begin : now.state.begin ≡ length old.state.outbox
     pub requests : now.state.requests ≡ old.state.requests
@@ -110,13 +109,13 @@ module _ {H L T C : Type 0} (health : HealthGhosts H) (links : LinksGhosts L) (t
   pub record IsAtKey (old now : Snapshot (Parts H L T C)) : Type 0 where
     pub one : OneKey
     pub at : now.state.work ≡ work.AtKey one
-    pub under : IsUnder health links trails progress.More old (answer.Next one) now
+    pub under : IsUnder health links trails clock progress.More old (answer.Next one) now
 
   -- a send for it is out
   pub record IsOutFor (old : Snapshot (Parts H L T C)) (clear : ℕ) (now : Snapshot (Parts H L T C)) : Type 0 where
     pub it : Asking
     pub at : now.state.work ≡ work.Awaits it
-    pub under : IsUnder health links trails progress.More old (answer.Asks clear it) now
+    pub under : IsUnder health links trails clock progress.More old (answer.Asks clear it) now
 
   -- how far the next item was answered, where the session asks for this
   abbrev pub IsOnAt : Snapshot (Parts H L T C) → Step → Snapshot (Parts H L T C) → Type 0
@@ -130,12 +129,12 @@ module _ {H L T C : Type 0} (health : HealthGhosts H) (links : LinksGhosts L) (t
 module _ {H L T C : Type 0} (health : HealthGhosts H) (links : LinksGhosts L) (trails : TrailsGhosts T) (clock : ClockGhosts C) where
   -- the reply is complete
   complete : {at : Progress} {old mid : Snapshot (Parts H L T C)} → old.state.owes ≡ false → length old.state.outbox < reply_bound
-      → IsUnder health links trails at old answer.Done mid
+      → IsUnder health links trails clock at old answer.Done mid
       → IsOver health links trails clock at old (snapshot (went answer.Done mid.state) mid.parts)
   unfolding NeedsMore
   complete {at} {old} {mid} none room under =
       let read : SessionState = record old.state { reading = mid.state.reading } in
-      let done : AnsweredInto health.steps links.exchanges links.sent links.probed trails.records under.it (record old.parts { trails = under.told }) old.state.outbox mid.parts mid.state.outbox = under.stands in
+      let done : AnsweredInto (answering (parts_ghosts health links trails clock) under.it) (record old.parts { trails = under.told }, old.state.outbox) (mid.parts, mid.state.outbox) = under.stands in
       let replied : Replied (parts_ghosts health links trails clock) (snapshot read old.parts) under.it (snapshot (went answer.Done mid.state) mid.parts) = record {
         routed = done.routed;
         text = done.text;
@@ -157,8 +156,8 @@ module _ {H L T C : Type 0} (health : HealthGhosts H) (links : LinksGhosts L) (t
 
   -- the session goes on, as what is under way says
   paused : {at : Progress} {to : Standing} {old mid : Snapshot (Parts H L T C)} → at ≡ progress.More
-      → requests_after to mid.state.requests ≡ mid.state.requests → IsUnder health links trails at old to mid
-      → IsUnder health links trails progress.More old to (snapshot (went to mid.state) mid.parts)
+      → requests_after to mid.state.requests ≡ mid.state.requests → IsUnder health links trails clock at old to mid
+      → IsUnder health links trails clock progress.More old to (snapshot (went to mid.state) mid.parts)
   paused pause same under = record {
     it = under.it;
     told = under.told;
@@ -173,7 +172,7 @@ module _ {H L T C : Type 0} (health : HealthGhosts H) (links : LinksGhosts L) (t
 
   -- a call of the session led to this answer
   lands : {at : Progress} {old mid : Snapshot (Parts H L T C)} (to : Standing) → old.state.owes ≡ false → length old.state.outbox < reply_bound
-      → MayPause at to → IsUnder health links trails at old to mid
+      → MayPause at to → IsUnder health links trails clock at old to mid
       → IsOn health links trails clock old (step_of at to) (snapshot (went to mid.state) mid.parts)
   lands answer.Done none room pause under = record { on = complete none room under }
   lands {at} {old} {mid} (answer.Next one) none room pause under =
@@ -182,7 +181,7 @@ module _ {H L T C : Type 0} (health : HealthGhosts H) (links : LinksGhosts L) (t
       record { on = record { it = it; at = refl; under = paused pause refl under } }
 
   landed : {at : Progress} {old mid : Snapshot (Parts H L T C)} {wanted : Step} {new : SessionState} (to : Standing) → old.state.owes ≡ false
-      → length old.state.outbox < reply_bound → MayPause at to → IsUnder health links trails at old to mid
+      → length old.state.outbox < reply_bound → MayPause at to → IsUnder health links trails clock at old to mid
       → wanted ≡ step_of at to → new ≡ went to mid.state → IsOn health links trails clock old wanted (snapshot new mid.parts)
   landed {at} {old} {mid} {wanted} {new} to none room pause under asks is =
       subst (λ s. IsOn health links trails clock old s (snapshot new mid.parts)) (sym asks)
@@ -190,7 +189,7 @@ module _ {H L T C : Type 0} (health : HealthGhosts H) (links : LinksGhosts L) (t
 
   -- a key was asked for
   key_on : {old now new : Snapshot (Parts H L T C)} {one : OneKey} {wanted : Step} → old.state.owes ≡ false → length old.state.outbox < reply_bound
-      → IsUnder health links trails progress.More old (answer.Next one) now → KeyBegun (recording health.steps trails.records) one now (stepped wanted new)
+      → IsUnder health links trails clock progress.More old (answer.Next one) now → KeyBegun (recording health.steps trails.records) one now (stepped wanted new)
       → IsOn health links trails clock old wanted new
   key_on {old} {now} {new} none room under key =
       let it = under.stands in
@@ -216,7 +215,7 @@ module _ {H L T C : Type 0} (health : HealthGhosts H) (links : LinksGhosts L) (t
   -- the first key of a request is to be asked for
   first_under : {old : Snapshot (Parts H L T C)} {it : Request} {one : OneKey} {told : T} {to : Reading} → Emits old.state.reading (item.Request it) to
       → trails.records old.parts.trails (Asked it) told → IsFirst it (length old.state.outbox) one
-      → IsUnder health links trails progress.More old (answer.Next one)
+      → IsUnder health links trails clock progress.More old (answer.Next one)
       (snapshot (begun_at (record old.state { reading = to })) (record old.parts { trails = told }))
   first_under {old} {it} {one} {told} {to} emits recorded first = record {
     it = it;
@@ -224,7 +223,7 @@ module _ {H L T C : Type 0} (health : HealthGhosts H) (links : LinksGhosts L) (t
     emits = emits;
     recorded = recorded;
     stands =
-        stands health.steps links.exchanges links.sent links.probed trails.records {servers = λ health. 0} old.state.targets
+        stands (parts_ghosts health links trails clock) {servers = λ health. 0} old.state.targets
         (begins.keyed (one, refl, first) refl) (record { others = refl; health = refl; slots = refl });
     begin = refl;
     requests = refl;
@@ -265,7 +264,7 @@ module _ {H L T C : Type 0} (health : HealthGhosts H) (links : LinksGhosts L) (t
         emits = emits;
         recorded = recorded;
         stands =
-            stands health.steps links.exchanges links.sent links.probed trails.records {servers = servers} old.state.targets
+            stands (parts_ghosts health links trails clock) {servers = servers} old.state.targets
             (begins.answered text refl itself refl) (record { others = stays.others; health = stays.health; slots = stays.slots });
         begin = refl;
         requests = refl;
@@ -283,7 +282,7 @@ module _ {H L T C : Type 0} (health : HealthGhosts H) (links : LinksGhosts L) (t
 
   -- what came of a send was recorded
   pub outcome_on : {old now new : Snapshot (Parts H L T C)} {clear : ℕ} {it : Asking} {wanted : Step} {after : L} {got : Outcome} → old.state.owes ≡ false
-      → length old.state.outbox < reply_bound → IsUnder health links trails progress.More old (answer.Asks clear it) now
+      → length old.state.outbox < reply_bound → IsUnder health links trails clock progress.More old (answer.Asks clear it) now
       → IsExchange (upstream health links) now.parts.backend.links (record { server = clear; request = it.key.request; result = Ok got }) after
       → ((server : ℕ) → links.probed after server ≡ links.probed now.parts.backend.links server)
       → OutcomeTaken (recording health.steps trails.records) (send_outcome now.state.targets it got) (snapshot now.state (record now.parts { backend = record now.parts.backend { links = after } })) (stepped wanted new)
@@ -306,9 +305,9 @@ module _ {H L T C : Type 0} (health : HealthGhosts H) (links : LinksGhosts L) (t
       }) outcome.asks outcome.state
 
   -- the request was dropped
-  drop_cut : {at : Progress} {to : Standing} {old now new : Snapshot (Parts H L T C)} → old.state.owes ≡ false → (under : IsUnder health links trails at old to now)
+  drop_cut : {at : Progress} {to : Standing} {old now new : Snapshot (Parts H L T C)} → old.state.owes ≡ false → (under : IsUnder health links trails clock at old to now)
       → Extends old.state.outbox now.state.outbox
-      → IsAnswerCut health.steps links.exchanges links.sent links.probed trails.records under.it (record old.parts { trails = under.told }) new.parts
+      → IsAnswerCut (answering (parts_ghosts health links trails clock) under.it) (record old.parts { trails = under.told }) new.parts
       → new.state.outbox ≡ take now.state.begin now.state.outbox → new.state.owes ≡ now.state.owes → new.state.work ≡ work.Between
       → IsCut health links trails clock old new
   drop_cut {at} {to} {old} {now} {new} none under more cut left owes between = record {
@@ -321,7 +320,7 @@ module _ {H L T C : Type 0} (health : HealthGhosts H) (links : LinksGhosts L) (t
 
   -- where a key was asked for
   key_dropped : {old now new : Snapshot (Parts H L T C)} {one : OneKey} → old.state.owes ≡ false
-      → IsUnder health links trails progress.More old (answer.Next one) now → KeyDropped (recording health.steps trails.records) one now new
+      → IsUnder health links trails clock progress.More old (answer.Next one) now → KeyDropped (recording health.steps trails.records) one now new
       → IsCut health links trails clock old new
   key_dropped none under key =
       let it = under.stands in
@@ -336,7 +335,7 @@ module _ {H L T C : Type 0} (health : HealthGhosts H) (links : LinksGhosts L) (t
 
   -- where the outcome was recorded
   pub outcome_cut : {old now : Snapshot (Parts H L T C)} {clear : ℕ} {it : Asking} {after : L} {got : Outcome} (new : Snapshot (Parts H L T C)) → old.state.owes ≡ false
-      → IsUnder health links trails progress.More old (answer.Asks clear it) now
+      → IsUnder health links trails clock progress.More old (answer.Asks clear it) now
       → IsExchange (upstream health links) now.parts.backend.links (record { server = clear; request = it.key.request; result = Ok got }) after
       → ((server : ℕ) → links.probed after server ≡ links.probed now.parts.backend.links server)
       → OutcomeDropped (recording health.steps trails.records) (send_outcome now.state.targets it got) (snapshot now.state (record now.parts { backend = record now.parts.backend { links = after } })) new
@@ -350,7 +349,7 @@ module _ {H L T C : Type 0} (health : HealthGhosts H) (links : LinksGhosts L) (t
 
   -- at the send
   pub stop_cut : {old now : Snapshot (Parts H L T C)} {clear : ℕ} {it : Asking} {after : L} {was_sent : Bool} (new : Snapshot (Parts H L T C)) → old.state.owes ≡ false
-      → IsUnder health links trails progress.More old (answer.Asks clear it) now
+      → IsUnder health links trails clock progress.More old (answer.Asks clear it) now
       → IsExchange (upstream health links) now.parts.backend.links (record { server = clear; request = it.key.request; result = Err (record { sent = was_sent }) }) after
       → ((server : ℕ) → links.probed after server ≡ links.probed now.parts.backend.links server)
       → new.state ≡ dropped now.state
@@ -359,7 +358,7 @@ module _ {H L T C : Type 0} (health : HealthGhosts H) (links : LinksGhosts L) (t
   stop_cut {old} {now} new none under exchange unprobed left noted =
       let sending = under.stands in
       drop_cut none under (at_extends sending.at)
-      (subst (λ p. IsAnswerCut health.steps links.exchanges links.sent links.probed trails.records under.it (record old.parts { trails = under.told }) p) (sym noted)
+      (subst (λ p. IsAnswerCut (answering (parts_ghosts health links trails clock) under.it) (record old.parts { trails = under.told }) p) (sym noted)
       (sent_cut sending exchange unprobed))
       (ap (λ s. s.outbox) left) (ap (λ s. s.owes) left) (ap (λ s. s.work) left)
 

@@ -22,7 +22,7 @@ use Rattle.tko_answer.specs.Replies.{trails_in}
 use Rattle.tko_turns.specs.Effects.{effects_of}
 use Rattle.tko_turns.specs.Events.{Answer, Effects, Event, IdleRound, RoundAfter, Rounded, turns_of}
 use Rattle.tko_turns.specs.Ends.{IsRun, NoneRun}
-use Rattle.tko_turns.specs.Ghosts.{PartsGhosts}
+use Rattle.tko_answer.specs.Ghosts.{PartsGhosts}
 use Rattle.tko_backend.specs.Round.{probes_in, ran_out}
 use Rattle.tko_turns.specs.Turns.{Turn, is_request, refused}
 use Rattle.tko_turns.specs.declared.step.Progress.{Progress}

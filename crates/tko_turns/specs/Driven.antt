@@ -1,6 +1,6 @@
 -- A session as a value that is driven: what each of its calls does. A request that is answered is
 -- one of three: the session is between two items, a key is to be asked for, or a send is out.
-use Rattle.std.specs.Prelude.{◌≡◌, ℕ, ◌+◌, true, List, [], ◌∷◌, ◌++◌, length, take}
+use Rattle.std.specs.Prelude.{◌≡◌, ℕ, ◌+◌, true, List, ◌++◌, length, take}
 use Rattle.tko_text.specs.Reading.{Emits, NeedsMore}
 use Rattle.tko_text.specs.Requests.{fault_text}
 use Rattle.tko_text.specs.declared.fault.TextFault.{TextFault}
@@ -13,7 +13,7 @@ use Rattle.tko_answer.specs.Answers.{AnswersItself}
 use Rattle.tko_answer.specs.Asking.{BeginsAt, GoesTo, IsBeginCut, IsFirst, IsSent, KeyCut, KeyTaken, SendCut, SendOutcome, SendTaken, send_outcome}
 use Rattle.tko_answer.specs.Ghosts.{Recording}
 use Rattle.tko_answer.specs.TrailEvents.{Asked}
-use Rattle.tko_answer.specs.Standing.{Asking, Standing}
+use Rattle.tko_answer.specs.Standing.{Asking, Standing, answer_state, key_state}
 use Rattle.tko_answer.specs.Standing as answer
 use Rattle.tko_answer.specs.declared.asking.OneKey.{OneKey}
 use Rattle.tko_answer.specs.declared.parts.Parts.{Parts}
@@ -95,8 +95,9 @@ module _ {H L T C : Type 0} (ghosts : Recording H T) where
   pub record KeyBegun (one : OneKey) (old : Snapshot (Parts H L T C))
       (to : Stepped (Parts H L T C)) : Type 0 where
     pub at : Standing
-    pub goes : KeyTaken ghosts to.session.state.targets one (old.parts, old.state.outbox) at
-        (to.session.parts, to.session.state.outbox)
+    pub goes : KeyTaken ghosts to.session.state.targets
+        (key_state one (old.parts, old.state.outbox))
+        (answer_state at (to.session.parts, to.session.state.outbox))
     pub targets : GoesTo old.parts.config one.request to.session.state.targets
     pub asks : to.wanted ≡ step_of progress.More at
     pub state : to.session.state ≡ went at (record old.state {
@@ -121,8 +122,8 @@ module _ {H L T C : Type 0} (ghosts : Recording H T) where
   pub data RequestBegun (request : Request) (old : Snapshot (Parts H L T C))
       (to : Stepped (Parts H L T C)) : Type 0 where
     itself : (told : T) (text : List ℕ) → ghosts.records old.parts.trails (Asked request) told
-        → AnswersItself ghosts.steps request (record old.parts { trails = told }) text
-        to.session.parts
+        → AnswersItself ghosts.steps request (record old.parts { trails = told })
+        (to.session.parts, text)
         → to.wanted ≡ step.At (progress_of request)
         → to.session.state ≡ went answer.Done
         (record (begun_at old.state) { outbox = old.state.outbox ++ text })
@@ -186,8 +187,8 @@ module _ {H L T C : Type 0} (ghosts : Recording H T) where
   pub record OutcomeTaken (came : SendOutcome) (old : Snapshot (Parts H L T C))
       (to : Stepped (Parts H L T C)) : Type 0 where
     pub at : Standing
-    pub goes : SendTaken ghosts came (old.parts, old.state.outbox) at
-        (to.session.parts, to.session.state.outbox)
+    pub goes : SendTaken ghosts came (old.parts, old.state.outbox)
+        (answer_state at (to.session.parts, to.session.state.outbox))
     pub asks : to.wanted ≡ step_of progress.More at
     pub state : to.session.state
         ≡ went at (record old.state { outbox = to.session.state.outbox })

@@ -6,7 +6,7 @@ use Rattle.tko_answer.specs.declared.trails.Trails.{Ghosts as TrailsGhosts}
 use Rattle.tko_answer.specs.declared.parts.Parts.{Parts}
 use Rattle.tko_turns.specs.Turns.{IsRequestCut}
 use Rattle.tko_turns.specs.Events.{Effects, IsEvent}
-use Rattle.tko_turns.specs.Ghosts.{PartsGhosts, parts_ghosts}
+use Rattle.tko_answer.specs.Ghosts.{PartsGhosts, parts_ghosts}
 use Rattle.tko_turns.specs.SessionState.{probed_by, sent_by}
 
 -- the effects on parts that show this

@@ -5,7 +5,7 @@ use Rattle.tko_text.specs.declared.request.Request.{Request}
 use Rattle.tko_answer.specs.declared.parts.Parts.{Parts}
 use Rattle.tko_backend.specs.Ghosts.{BackendGhosts}
 use Rattle.tko_backend.specs.Round.{IsRound, Visit, ran_out}
-use Rattle.tko_turns.specs.Ghosts.{PartsGhosts}
+use Rattle.tko_answer.specs.Ghosts.{PartsGhosts}
 use Rattle.tko_turns.specs.Turns.{Turn, IsTurn, is_request}
 
 -- an item and what became of it, the round after a request, or the round at an idle turn of the

@@ -2,7 +2,6 @@ pub mod Driven
 pub mod Effects
 pub mod Ends
 pub mod Events
-pub mod Ghosts
 pub mod SessionState
 pub mod Turns
 pub mod Working

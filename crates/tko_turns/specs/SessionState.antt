@@ -18,7 +18,7 @@ use Rattle.tko_turns.specs.Events.{Effects, Event, NoneShort, idle_rounds, owed_
 use Rattle.tko_io.specs.Io.{capped}
 use Rattle.tko_answer.specs.Replies.{RoutedKey, reply_bound, sends_to, trails_in}
 use Rattle.tko_backend.specs.Round.{probes_in}
-use Rattle.tko_turns.specs.Ghosts.{PartsGhosts}
+use Rattle.tko_answer.specs.Ghosts.{PartsGhosts}
 use Rattle.tko_turns.specs.Turns.{IsTurn, Turn, is_request}
 
 -- how far the input was read, the replies that wait to be written, the number of requests, and

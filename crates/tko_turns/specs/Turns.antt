@@ -5,12 +5,12 @@ use Rattle.tko_text.specs.declared.item.Item.{Item}
 use Rattle.tko_text.specs.declared.item.Item.TheVariants as item
 use Rattle.tko_text.specs.declared.request.Request.{Request}
 use Rattle.tko_text.specs.Requests.{fault_text}
-use Rattle.tko_answer.specs.Answers.{Answers}
+use Rattle.tko_answer.specs.Answers.{Answers, request_answer}
 use Rattle.tko_answer.specs.Cuts.{IsAnswerCut}
 use Rattle.tko_answer.specs.declared.parts.Parts.{Parts}
 use Rattle.tko_answer.specs.Replies.{RoutedKey}
 use Rattle.tko_answer.specs.TrailEvents.{Asked}
-use Rattle.tko_turns.specs.Ghosts.{PartsGhosts}
+use Rattle.tko_answer.specs.Ghosts.{PartsGhosts, answering}
 
 -- an item, the keys that were routed for it, and the text of its reply
 pub record Turn : Type 0 where
@@ -29,14 +29,13 @@ module _ {H L T C : Type 0} (ghosts : PartsGhosts H L T C) where
         → turn.text ≡ fault_text fault → new ≡ old → IsTurn old turn new
     answered : (request : Request) (told : T) → turn.item ≡ item.Request request
         → ghosts.records old.trails (Asked request) told
-        → Answers ghosts.backend.steps ghosts.backend.exchanges ghosts.backend.sent
-        ghosts.records request (record old { trails = told }) turn.routed turn.text new
+        → Answers (answering ghosts request) (record old { trails = told })
+        (request_answer turn.routed turn.text) new
         → IsTurn old turn new
 
   -- a request was cut short: memory ran out while it was recorded, or in its answer
   pub data IsRequestCut (request : Request) (old new : Parts H L T C) : Type 0 where
     unrecorded : new ≡ record old { trails = new.trails } → IsRequestCut request old new
     recorded : (told : T) → ghosts.records old.trails (Asked request) told
-        → IsAnswerCut ghosts.backend.steps ghosts.backend.exchanges ghosts.backend.sent
-        ghosts.backend.probed ghosts.records request (record old { trails = told }) new
+        → IsAnswerCut (answering ghosts request) (record old { trails = told }) new
         → IsRequestCut request old new

@@ -102,7 +102,7 @@ impl Outbox {
     ) -> Result<(), NoMemory>
         requires { H.servers health.old ≡ length addresses.now }
         ensures ok { OnOk result (IsStatusAfter H.steps (map string_bytes addresses.now)
-            health.old self.old health.new self.new) }
+            (health.old, self.old) (health.new, self.new)) }
         ensures err { OnErr result (Extends self.old self.new) }
         ensures cut { OnErr result (LooksSome H.steps (map string_bytes addresses.now)
             health.old health.new) }

@@ -38,7 +38,7 @@ pub returns-in_err-progress-clause-ends : goal.returns-in_err-progress-clause-en
 returns-in_err-progress-clause-ends g c =
     let p = err_from_is_err_and c.from_residual-in_err-progress.result c.from_residual-in_err-progress.ensures.1 in
     let wrote = c.in_ok-wrote.ensures in
-    let run = rw wrote.taken at c.run_owed_round-rounded.ensures.round in
+    let run = rw wrote.others at c.run_owed_round-rounded.ensures.round in
     let text = c.answer-answered.new.session.outbox in
     rw (p.1, p.2) (record {
       part = err_delivered text [] c.in_err-progress.ensures.ends (record { ran = run.ran }) c.requires.outbox (sym (append-nil text)) wrote.all;
@@ -47,11 +47,11 @@ returns-in_err-progress-clause-ends g c =
 
 pub returns-in_err-progress-clause-begun : goal.returns-in_err-progress-clause-begun
 returns-in_err-progress-clause-begun g c = λ begun.
-    begun_paid (c.answer-answered.ensures.begun begun) (rw c.in_ok-wrote.ensures.taken at c.run_owed_round-rounded.ensures.round)
+    begun_paid (c.answer-answered.ensures.begun begun) (rw c.in_ok-wrote.ensures.others at c.run_owed_round-rounded.ensures.round)
 
 pub returns-in_err-progress-clause-between : goal.returns-in_err-progress-clause-between
 returns-in_err-progress-clause-between g c =
-    ap (λ s. s.work) c.run_owed_round-rounded.ensures.none_owed ∙ ap (λ s. s.work) c.in_ok-wrote.ensures.taken ∙ c.answer-answered.ensures.between
+    ap (λ s. s.work) c.run_owed_round-rounded.ensures.none_owed ∙ ap (λ s. s.work) c.in_ok-wrote.ensures.others ∙ c.answer-answered.ensures.between
 
 pub returns-in_err-progress-clause-reach : goal.returns-in_err-progress-clause-reach
 returns-in_err-progress-clause-reach g c = c.run_owed_round-rounded.ensures.reach
@@ -60,7 +60,7 @@ pub returns-in_err-rounded-clause-ends : goal.returns-in_err-rounded-clause-ends
 returns-in_err-rounded-clause-ends g c =
     let p = err_from_is_err_and c.from_residual-in_err-rounded.result c.from_residual-in_err-rounded.ensures.1 in
     let wrote = c.in_ok-wrote.ensures in
-    let run = rw wrote.taken at c.in_err-rounded.ensures.round in
+    let run = rw wrote.others at c.in_err-rounded.ensures.round in
     let text = c.answer-answered.new.session.outbox in
     rw (p.1, p.2) (record {
       part = ok_delivered text [] c.in_ok-progress.ensures.ends (record { ran = run.ran }) c.requires.outbox (sym (append-nil text)) wrote.all;
@@ -69,11 +69,11 @@ returns-in_err-rounded-clause-ends g c =
 
 pub returns-in_err-rounded-clause-begun : goal.returns-in_err-rounded-clause-begun
 returns-in_err-rounded-clause-begun g c = λ begun.
-    begun_paid (c.answer-answered.ensures.begun begun) (rw c.in_ok-wrote.ensures.taken at c.run_owed_round-rounded.ensures.round)
+    begun_paid (c.answer-answered.ensures.begun begun) (rw c.in_ok-wrote.ensures.others at c.run_owed_round-rounded.ensures.round)
 
 pub returns-in_err-rounded-clause-between : goal.returns-in_err-rounded-clause-between
 returns-in_err-rounded-clause-between g c =
-    ap (λ s. s.work) c.run_owed_round-rounded.ensures.none_owed ∙ ap (λ s. s.work) c.in_ok-wrote.ensures.taken ∙ c.answer-answered.ensures.between
+    ap (λ s. s.work) c.run_owed_round-rounded.ensures.none_owed ∙ ap (λ s. s.work) c.in_ok-wrote.ensures.others ∙ c.answer-answered.ensures.between
 
 pub returns-in_err-rounded-clause-reach : goal.returns-in_err-rounded-clause-reach
 returns-in_err-rounded-clause-reach g c = c.run_owed_round-rounded.ensures.reach
@@ -81,18 +81,19 @@ returns-in_err-rounded-clause-reach g c = c.run_owed_round-rounded.ensures.reach
 pub returns-clause-ends : goal.returns-clause-ends
 returns-clause-ends g c =
     let wrote = c.in_ok-wrote.ensures in
-    let run = rw wrote.taken at c.in_ok-rounded.ensures.round in
+    let run = rw wrote.others at c.in_ok-rounded.ensures.round in
     let settled : SessionState = record c.answer-answered.new.session { owes = false } in
     all_of (answered_paid {state = settled} c.in_ok-progress.ensures.ends (record { ran = run.ran }) refl) c.requires.outbox refl wrote.all
-    wrote.calm (c.run_owed_round-rounded.ensures.none_owed ∙ ap (λ (s : SessionState). record s { owes = false }) wrote.taken)
+    wrote.calm (c.run_owed_round-rounded.ensures.none_owed
+    ∙ ap (λ (s : SessionState). record s { owes = false }) (wrote.others ∙ ap (λ out. record c.answer-answered.new.session { outbox = out }) wrote.taken))
 
 pub returns-clause-begun : goal.returns-clause-begun
 returns-clause-begun g c = λ begun.
-    begun_paid (c.answer-answered.ensures.begun begun) (rw c.in_ok-wrote.ensures.taken at c.run_owed_round-rounded.ensures.round)
+    begun_paid (c.answer-answered.ensures.begun begun) (rw c.in_ok-wrote.ensures.others at c.run_owed_round-rounded.ensures.round)
 
 pub returns-clause-between : goal.returns-clause-between
 returns-clause-between g c =
-    ap (λ s. s.work) c.run_owed_round-rounded.ensures.none_owed ∙ ap (λ s. s.work) c.in_ok-wrote.ensures.taken ∙ c.answer-answered.ensures.between
+    ap (λ s. s.work) c.run_owed_round-rounded.ensures.none_owed ∙ ap (λ s. s.work) c.in_ok-wrote.ensures.others ∙ c.answer-answered.ensures.between
 
 pub returns-clause-reach : goal.returns-clause-reach
 returns-clause-reach g c = c.run_owed_round-rounded.ensures.reach

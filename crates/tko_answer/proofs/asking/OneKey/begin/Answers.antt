@@ -2,6 +2,7 @@ use Rattle.std.proofs.Common.{subst}
 use Rattle.tko_route.specs.Trail.{form_at}
 use Rattle.tko_text.specs.SentRequests.{without_noreply}
 use Rattle.tko_answer.specs.Asking.{IsKeyBeginCut, ended}
+use Rattle.tko_answer.specs.Ghosts.{recording}
 use Rattle.tko_answer.proofs.AskingLemmas.{if_ok}
 use Rattle.tko_answer.proofs.GoingLemmas.{begin_goes, begin_goes_cut, front_same, stays_append, stays_health}
 use Rattle.tko_answer.proofs.ResultLemmas.{on_err, on_errs}
@@ -23,7 +24,7 @@ returns-clause-cut g c =
     let on = c.in_ok-stage.ensures in
     on_errs c.settle.result c.settle.ensures.cut (λ cut key is.
     let goes = begin_goes_cut c.in_ok-stage.stage _ c.args.self.now.share _ form on.others on.request (on.ok form) cut in
-    subst (λ xs. IsKeyBeginCut g.H.Health.steps g.T.Trails.records (record { targets = xs; form = form; share = c.args.self.now.share }) c.args.parts.now c.settle.new.parts)
+    subst (λ xs. IsKeyBeginCut (recording g.H.Health.steps g.T.Trails.records) (record { targets = xs; form = form; share = c.args.self.now.share }) c.args.parts.now c.settle.new.parts)
     (on.targets key is) (ended goes))
 
 pub returns-clause-stays : goal.returns-clause-stays

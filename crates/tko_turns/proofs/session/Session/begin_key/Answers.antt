@@ -1,9 +1,9 @@
 use Rattle.std.proofs.Common.{ap, subst, sym, take, ◌∙◌}
 use Rattle.tko_pools.specs.Configs.{AreServers}
 use Rattle.tko_text.specs.SentRequests.{without_noreply}
-use Rattle.tko_answer.specs.Asking.{BeginsAt, Goes, course_of}
+use Rattle.tko_answer.specs.Asking.{BeginsAt, Goes, course_of, no_calls}
 use Rattle.tko_answer.specs.Ghosts.{recording}
-use Rattle.tko_answer.specs.Standing.{standing_of}
+use Rattle.tko_answer.specs.Standing.{answer_state, standing_of}
 use Rattle.tko_answer.proofs.HeldLemmas.{front_stays, goes_awaits, goes_held}
 use Rattle.tko_turns.specs.Driven.{KeyBegun, KeyDropped, stepped}
 use Rattle.tko_turns.specs.SessionState.{SessionState, snapshot}
@@ -46,7 +46,6 @@ returns-clause-ready g c =
     let held = subst (λ (s : SessionState). BeginsAt s.begin c.in-Some.field-0.key.share s.outbox) (sym same) begins in
     let config = sym (ap (λ p. p.config) c.in-Ok.ensures.stays.others) in
     let within = subst (λ config. AreServers config c.begin.new.targets.items) config c.in-Ok.ensures.within in
-    let goes = subst (λ config. Goes g.H.Health.steps g.T.Trails.records (course_of config c.begin.new.targets.items c.in-Some.field-0.key (without_noreply c.in-Some.field-0.key.request))
-    (λ more. more) (c.args.parts.now, c.self.inside.outbox) (standing_of c.in-Ok.answer c.begin.new.self) (c.begin.new.parts, c.begin.new.outbox)) config c.in-Ok.ensures.ok in
+    let goes = subst (λ config. Goes (recording g.H.Health.steps g.T.Trails.records) (no_calls (course_of config c.begin.new.targets.items c.in-Some.field-0.key (without_noreply c.in-Some.field-0.key.request))) (c.args.parts.now, c.self.inside.outbox) (answer_state (standing_of c.in-Ok.answer c.begin.new.self) (c.begin.new.parts, c.begin.new.outbox))) config c.in-Ok.ensures.ok in
     ready_went c.begin.new.parts.config _ _ _ _ _ _ _ (c.go_to.ensures.went _ (ap (key_work _) none)) (goes_held _ held c.in-Ok.ensures.ok)
     (goes_awaits c.begin.new.parts.config (without_noreply c.in-Some.field-0.key.request) within goes)
