@@ -59,10 +59,11 @@ class Target:
 
 def memcached(connections, threads=4):
     """So many from the load itself, and as many from each of three proxies, which keep theirs while another is measured.
-    memcached takes 1,024 unless it is told otherwise."""
+    memcached takes 1,024 unless it is told otherwise. It has room for 1,000 values of 1,000,000 bytes."""
     port = free_port()
     user = ["-u", "nobody"] if os.getuid() == 0 else []
     return Target("memcached", ["memcached", "-l", HOST, "-p", str(port), "-U", "0", "-t", str(threads),
+                                "-m", "2048", "-I", "2m",
                                 "-c", str(max(1024, 4 * connections + 64)), *user], port)
 
 
