@@ -1,9 +1,11 @@
 """Must-fail edits: which of them are tried in one check, and what came of each.
 
-Edits in the bodies of different functions change no contract, so one check judges each of them by itself. An edit in
-such a batch counts as refused only if a clause in its own function refuses it, and only if no function without an edit
-is refused. Every other edit is tried alone, by the kit's own procedure, and so is each that a batch did not refuse."""
+Edits in the bodies of different functions change no contract, so one check of these functions and of what they call
+judges each edit by itself. An edit of such a batch counts as refused only if a clause in its own function refuses it,
+and only if no function without an edit is refused. Every other edit is tried alone, by the kit's own procedure, and so
+is each that its batch did not refuse."""
 import os
+import re
 import shutil
 import tempfile
 import threading
@@ -12,6 +14,10 @@ import time
 import kit
 from places import changed_function
 from refusals import refusals
+
+# rattle's status where the name of an `--only` fits no function, or several.
+NO_SUCH_NAME = 2
+ONLY = re.compile(r"only=(\d+) proved=(\d+)")
 
 
 class Tries:
@@ -43,7 +49,8 @@ class Tries:
 
     def try_batch(self, crate, batch):
         began = time.time()
-        judged = self.together(crate, batch) if len(batch) > 1 else {}
+        is_in_bodies = all(changed_function(it, crate.folder) for it in batch)
+        judged = self.together(crate, batch) if is_in_bodies else {}
         self.verdicts.update(judged)
         self.verdicts.update({edit: self.alone(crate, edit) for edit in batch if edit not in judged})
         self.rt.say(f"{crate.name}: {len(batch)} must-fail edits, {len(judged)} of them judged in one check, "
@@ -53,7 +60,7 @@ class Tries:
         """Checks all edits of the batch at once. Returns the verdict on each whose own function is refused."""
         functions = {edit: changed_function(edit, crate.folder) for edit in batch}
         texts = together(self.rt, crate, batch, functions)[1]
-        ran = self.over_proof(crate, texts)
+        ran = self.of_functions(crate, texts, functions.values())
         if not is_judged(self.rt, ran, texts):
             return {}
         found = refusals(ran.stdout, crate.name)
@@ -70,9 +77,15 @@ class Tries:
             return self.verdict(crate, edit, refusals(self.last.ran.stdout, crate.name))
         return kit.failing(self.rt, kind), text
 
-    def over_proof(self, crate, texts=None, edit=None):
+    def of_functions(self, crate, texts, functions):
+        """A check of the edited functions and what they call: no caller sees another contract. Where one of the names fits
+        several functions, all of the crate is checked."""
+        ran = self.over_proof(crate, texts, only=[word for it in functions for word in ("--only", it.end())])
+        return self.over_proof(crate, texts) if ran.returncode == NO_SUCH_NAME else ran
+
+    def over_proof(self, crate, texts=None, edit=None, only=()):
         """A check of the edited crate over a copy of what its proof left. It writes files anew, so links will do."""
-        flags = ["--jobs", "1"]
+        flags = ["--jobs", "1", *only]
         with tempfile.TemporaryDirectory(prefix="gate-edit-") as room:
             shutil.copytree(self.proved(crate), f"{room}/kept", copy_function=os.link)
             if edit:
@@ -96,7 +109,9 @@ def is_judged(rt, ran, texts):
     """Whether the prover read the edited texts and refused the crate, as the kit's `must_fail` asks of one edit."""
     lines = ran.stdout.rstrip("\n").split("\n")
     is_read = not any(rt.unread(it, texts) for it in lines) and not rt.rtlib.STALE.search(ran.stdout)
-    return is_read and ran.returncode == 1 and lines[-1].startswith("logic=not-proved")
+    only = ONLY.fullmatch(lines[-1])
+    is_refused = int(only[2]) < int(only[1]) if only else lines[-1].startswith("logic=not-proved")
+    return is_read and ran.returncode == 1 and is_refused
 
 
 def batches(rt, crate, edits):

@@ -1,10 +1,13 @@
-"""The kit's `rt ci` with four changes, all of them about work that `rt ci` does more than once.
+"""The kit's `rt ci` with six changes, most of them about work that `rt ci` does more than once.
 
 1. Each library is proved once, from nothing, into a folder that this run makes and removes. Its tests and its edits are
    checked over what that proof left there. `rt ci` proves the library for each of the three.
 2. Must-fail edits are tried many in one check (edits.py), and the checks of one crate's edits side by side.
 3. An edit passes only if a clause refuses it, and the gate says which.
 4. Nothing is taken from earlier runs on this machine, and nothing is left to later ones.
+5. The tests of some crates are run and not proved (tried_tests.py).
+6. A line says how far the run is as each check ends (progress.py), and memory is reckoned by what checks were seen to
+   hold (costs.py).
 
 Everything else is the kit's own code: the rules on the text, the handles, the last line of each check, the runs."""
 import os
@@ -14,13 +17,16 @@ import tempfile
 
 import costs
 import kit
+import progress
+import tried_tests
 from edits import Tries, batches
 
 KEPT_WORK = "( incremental=trusted)?"
 
-# How much of the memory that the kit reckons for a check from nothing is set aside for one over kept work. Such checks
-# were seen to take less than half of it, and a proof with two jobs all of it.
+# How much of the memory that the kit reckons for a check from nothing is set aside for one over kept work.
 OVER_PROOF = 0.6
+# What is set aside for a check whose memory was seen: a fifth more, for what has changed since.
+OVER_SEEN = 1.2
 
 
 def install(rt, with_edits):
@@ -38,11 +44,15 @@ def install(rt, with_edits):
         rt.add_edits = lambda tasks, crate, edits, *others: add_edits(rt, tried, tasks, crate, edits)
     else:
         rt.must_fail_all = lambda crate, edits, flags: [tried.verdicts[it] for it in edits]
-    in_lanes = rt.in_lanes
+    in_lanes, say = rt.in_lanes, rt.say
+    rt.say = lambda text, out=None: say(tried_tests.said(text), out)
 
     def proved_once(tasks):
-        given = in_lanes(dict(rearranged(rt, tasks, tried)))
-        print("Processor minutes of the checks:", *costs.table(spent), sep="\n", flush=True)
+        known = costs.usual()
+        tasks = dict(rearranged(rt, tasks, tried, known))
+        given = in_lanes(progress.told(tasks, known, rt.processors(), lambda text: print(text, flush=True)))
+        print("Processor minutes of the checks, and what one of their processes held at most:", *costs.report(spent, known),
+              sep="\n", flush=True)
         return given
 
     rt.in_lanes = proved_once
@@ -80,6 +90,8 @@ def crate_proved_once(rt, room):
         keeps_proof = False
 
         def ci(self, flags, tests):
+            if tests and tried_tests.is_tried(self):
+                return tried_tests.run(self, costs.file_in(room))
             self.keeps_proof = not self.is_program
             status = super().ci(flags, tests)
             if self.keeps_proof and not tests and not status:
@@ -108,34 +120,46 @@ def proved(room, crate):
     return f"{room}/{crate.name}.proved"
 
 
-def rearranged(rt, tasks, tried):
-    """Has the tests of a crate wait for its proof, and gives the proofs two jobs at least. Where the kit has one task for
-    all edits of a crate, each check of them becomes a task."""
+def rearranged(rt, tasks, tried, known):
+    """Has the tests that are proved wait for the proof of their crate, and gives the proofs on the longest chain two jobs
+    at least. Where the kit has one task for all edits of a crate, each check of them becomes a task."""
     crates = {it.name: it for it in rt.rtlib.crates_below(os.getcwd())}
+    chain = costs.longest_chain(crates.values(), known) if rt.processors() >= 4 else ()
     for key, (waits, lines, needs, call) in tasks.items():
         name, what = key[:2]
         if what == "tests":
-            yield key, ([*waits, (name, "proof")], lines, OVER_PROOF * needs, call)
+            yield key, tests_task(crates[name], waits, lines, held(known, name, OVER_PROOF * needs), call)
         elif what == "edits" and not kit.has_store(rt):
             tries = tries_of(rt, tried, crates[name], rt.edits_of(crates[name])[0])
             yield from tries.items()
             # (what is left to this task is to say what came of them)
             yield key, ([*waits, *tries], 0, 0, call)
-        elif what == "proof" and rt.processors() >= 4:
-            yield key, (waits, lines, needs, with_two_jobs(call))
+        elif what == "proof" and name in chain:
+            yield key, (waits, lines, held(known, name, needs, processes=2), with_two_jobs(call))
         else:
-            yield key, (waits, lines, needs, call)
+            yield key, (waits, lines, held(known, name, needs), call)
+
+
+def tests_task(crate, waits, lines, needs, call):
+    """The task of a crate's tests: over its proof, or, where they are run alone, over nothing."""
+    if tried_tests.is_tried(crate):
+        return waits, lines, tried_tests.NEEDS, call
+    return [*waits, (crate.name, "proof")], lines, needs, call
+
+
+def held(known, name, reckoned, processes=1):
+    """The memory to set aside for a check of so many processes: what was seen, where that is less than what is reckoned."""
+    return min(reckoned, OVER_SEEN * processes * known[name].held) if name in known else reckoned
 
 
 def with_two_jobs(call):
-    """A proof's call with two jobs at least: what waits for a proof, another proof above all, is longer than what runs
-    beside it."""
+    """A proof's call with two jobs at least, for a proof that others wait for longer than for what runs beside it."""
     return lambda given, jobs: call(given, max(jobs, 2))
 
 
 def tries_of(rt, tried, crate, edits):
     """Returns a task for each check of these edits."""
-    proof, lines, needs = (crate.name, "proof"), crate.count(rb"\n"), OVER_PROOF * rt.need(crate)
+    proof, lines, needs = (crate.name, "proof"), crate.count(rb"\n"), held(costs.usual(), crate.name, OVER_PROOF * rt.need(crate))
     each = enumerate(batches(rt, crate, edits))
     return {(crate.name, "edits", at): ([proof], lines, needs, tried.task(crate, batch, proof)) for at, batch in each}
 

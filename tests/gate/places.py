@@ -3,16 +3,21 @@ import re
 from dataclasses import dataclass
 
 FUNCTION = re.compile(r"( *)(?:pub(?:\(\w+\))? )?(?:const |unsafe )*fn (\w+)")
-IMPL = re.compile(r"( *)impl\b(?:<.*?>)? (?:.* for )?(?:\w+::)*(\w+)")
+IMPL = re.compile(r"( *)impl\b(?:<.*?>)? (?:(?:\w+::)*(\w+)\b.* for )?(?:\w+::)*(\w+)")
 
 
 @dataclass(frozen=True)
 class Function:
-    """A function of the source: its module, the type that it is a method of if any, and its name."""
+    """A function of the source: its module, the type and the trait that it is a method of, if any, and its name."""
 
     module: tuple
     type: str
+    trait: str
     name: str
+
+    def end(self):
+        """The end of rattle's name for it, as `--only` takes it: that of a method begins with its type and its trait."""
+        return f"{self.type}{self.trait}::{self.name}" if self.type else "::".join((*self.module, self.name))
 
     def is_called(self, name):
         """Whether rattle's name, without the crate's, is that of this function or of a closure in it."""
@@ -55,7 +60,8 @@ def function_at(file, path, text):
     found = FUNCTION.match(rows[head])
     outer = above(rows, head, len(found[1]), IMPL)
     module = tuple(re.sub(r"^src/|(/mod|(^|/)lib|(^|/)main)?\.rt$", "", path).split("/"))
-    return Function(tuple(it for it in module if it), IMPL.match(rows[outer])[2] if outer is not None else "", found[2])
+    trait, type = IMPL.match(rows[outer]).group(2, 3) if outer is not None else ("", "")
+    return Function(tuple(it for it in module if it), type, trait or "", found[2])
 
 
 def indent_of(row):

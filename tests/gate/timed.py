@@ -1,8 +1,18 @@
-"""timed.py FILE COMMAND..: runs a check and adds a line to the file: its crate, what it checked, its processor seconds."""
+"""timed.py FILE COMMAND..: runs a check and adds a line to the file: its crate, what it checked, its processor seconds, and
+the most memory that one of its processes held, in KiB."""
 import os
 import resource
 import subprocess
 import sys
+
+TRY = ["rt", "try", "--test"]
+
+
+def crate_of(words):
+    """The crate that the command checks, or none: `rt try` has no word for it."""
+    if list(words[: len(TRY)]) == TRY:
+        return os.path.basename(os.getcwd())
+    return words[words.index("--crate-name") + 1] if "--crate-name" in words else None
 
 
 def what(words):
@@ -15,10 +25,10 @@ def what(words):
 def main(file, *words):
     status = subprocess.call(words)
     used = resource.getrusage(resource.RUSAGE_CHILDREN)
-    if "--crate-name" in words:
-        crate = words[words.index("--crate-name") + 1]
+    crate = crate_of(words)
+    if crate:
         with open(file, "a", encoding="utf-8") as it:
-            it.write(f"{crate} {what(words)} {used.ru_utime + used.ru_stime:.1f}\n")
+            it.write(f"{crate} {what(words)} {used.ru_utime + used.ru_stime:.1f} {used.ru_maxrss}\n")
     if status < 0:
         os.kill(os.getpid(), -status)
     return status

@@ -1,9 +1,4 @@
-pub mod ConfiguredLemmas
-pub mod DryLemmas
-pub mod FaultLineLemmas
-pub mod GroupedLemmas
+pub mod EndingLemmas
 pub mod NoticeLemmas
 pub mod PlannedLemmas
-pub mod ReasonLemmas
-pub mod ReplayLemmas
 pub mod ServingLemmas

@@ -4,10 +4,10 @@ use Rattle.std.specs.Prelude.{string_bytes}
 use Rattle.tko_model.specs.Ranges.{first_fault}
 use Rattle.tko_model.specs.declared.settings.SettingsFault.{SettingsFault}
 use Rattle.tko_pools.specs.Configs.{Configuration, Means}
-use Rattle.tko_cli.specs.declared.fault.Fault.{Fault}
-use Rattle.tko_cli.specs.declared.fault.Fault.TheVariants as fault
+use Rattle.tko_commands.specs.declared.fault.Fault.{Fault}
+use Rattle.tko_commands.specs.declared.fault.Fault.TheVariants as fault
 use Rattle.tko_options.specs.declared.serve_options.ServeOptions.{ServeOptions}
-use Rattle.tko_cli.specs.Grouped.{NoSettings}
+use Rattle.tko_commands.specs.Grouped.{NoSettings}
 use Rattle.tko_cli.specs.Planned.{NoPlan, plan_options}
 use Rattle.tko_options.specs.Trackers.{serve_settings}
 

@@ -1,6 +1,5 @@
 -- What `serve` writes, and why it fails.
-use Rattle.std.proofs.Common.{◌≡◌, ℕ, List, Option, Some, None, inl, inr, refl, subst}
-use Rattle.tko_counts.specs.declared.counts.Counts.{Counts}
+use Rattle.std.proofs.Common.{◌≡◌, ◌<◌, ℕ, List, Option, Some, inl, inr, refl, subst, sym}
 use Rattle.tko_model.specs.Ranges.{IsWithinRanges, first_fault}
 use Rattle.tko_model.specs.Settings.{Settings}
 use Rattle.tko_model.specs.declared.settings.SettingsFault.{SettingsFault}
@@ -8,14 +7,13 @@ use Rattle.tko_server.specs.Runs.{tracker_settings}
 use Rattle.tko_server.specs.declared.run_fault.RunFault.{RunFault as ServerFault}
 use Rattle.tko_server.specs.declared.run_fault.RunFault.TheVariants as server_fault
 use Rattle.tko_server.specs.declared.running.Options.{Options as Server}
-use Rattle.tko_cli.proofs.GroupedLemmas.{no_fault}
-use Rattle.tko_cli.specs.Faults.{fault_of_server}
+use Rattle.tko_commands.proofs.GroupedLemmas.{no_fault}
+use Rattle.tko_commands.specs.declared.fault.Fault.{Fault}
+use Rattle.tko_commands.specs.declared.fault.Fault.TheVariants as fault
 use Rattle.tko_cli.specs.Planned.{IsPlanned, IsServerOf}
-use Rattle.tko_cli.specs.Serving.{HasNoMetrics, HasServed, ServeFails, ready_text}
-use Rattle.tko_cli.specs.Totals.{totals_text}
-use Rattle.tko_cli.specs.declared.fault.Fault.{Fault}
-use Rattle.tko_cli.specs.declared.fault.Fault.TheVariants as fault
+use Rattle.tko_cli.specs.Serving.{HasBegun, HasPlan, IsConfig, IsPrepared, IsRunnable, IsUnprepared, NotWritten, PreparedFails, Ready, ServeFails, TotalsFail, fault_of_server, ready_text}
 use Rattle.tko_cli.specs.declared.planned.Plan.{Plan}
+use Rattle.tko_cli.specs.declared.serving.Prepared.{Prepared}
 use Rattle.tko_options.specs.declared.serve_options.ServeOptions.{ServeOptions}
 
 -- the tracker of a planned server has the plan's settings
@@ -24,56 +22,118 @@ settings_of_plan : (options : ServeOptions) (plan : Plan) (open_files : Option �
     → tracker_settings server ≡ plan.settings
 settings_of_plan options plan open_files server planned is = rw (is.settings, is.config, planned.settings) refl
 
--- so no setting of it is a fault
-pub never_unset : (options : ServeOptions) (plan : Plan) (open_files : Option ℕ) (server : Server)
-    (name : SettingsFault) → IsPlanned options plan → IsServerOf plan options open_files server
-    → first_fault (tracker_settings server) ≡ Some name → ⊥
-never_unset options plan open_files server name planned is first =
-    let P : Settings → Type 0 = λ s. first_fault s ≡ Some name in
-    let broken = subst P (settings_of_plan options plan open_files server planned is) first in
-    let none = no_fault plan.settings planned.within in
+-- so it can run
+pub is_runnable : (options : ServeOptions) (prepared : Prepared) → IsPrepared options prepared → IsRunnable prepared
+is_runnable options prepared is =
+    subst IsWithinRanges (sym (settings_of_plan options is.plan is.open_files prepared.server is.planned is.server)) is.planned.within
+
+pub has_plan : (options : ServeOptions) (prepared : Prepared) → IsPrepared options prepared → HasPlan options
+has_plan options prepared is = record { plan = is.plan; planned = is.planned }
+
+-- no setting of a server that can run is a fault
+pub never_unset : (settings : Settings) (name : SettingsFault) → IsWithinRanges settings
+    → first_fault settings ≡ Some name → ⊥
+never_unset settings name within first =
+    let none = no_fault settings within in
     absurd (cc)
 
 -- after `ready` a server fails without another word
-pub server_fails : {O : Type 0} (takes : O → List ℕ → O → Type 0) (failures : O → ℕ) (options : ServeOptions)
-    (plan : Plan) (from to : O) (cause : ServerFault) → IsPlanned options plan → takes from ready_text to
+pub server_fails : {O : Type 0} (takes : O → List ℕ → O → Type 0) (failures : O → ℕ) (from to : O)
+    (cause : ServerFault) → takes from ready_text to
     → ((name : SettingsFault) → cause ≡ server_fault.Settings name → ⊥)
-    → ServeFails takes failures options from to (fault_of_server cause)
-server_fails takes failures options plan from to (server_fault.Settings name) planned ready never = absurd (never name refl)
-server_fails takes failures options plan from to server_fault.Memory planned ready never =
-    inr (record { plan = record { plan = plan; planned = planned }; ready = ready })
-server_fails takes failures options plan from to server_fault.Accept planned ready never =
-    record { plan = record { plan = plan; planned = planned }; ready = ready }
+    → PreparedFails takes failures from to (fault_of_server cause)
+server_fails takes failures from to (server_fault.Settings name) ready never = absurd (never name refl)
+server_fails takes failures from to server_fault.Memory ready never = ready
+server_fails takes failures from to server_fault.Accept ready never = ready
 
--- where it can have no metrics it fails before it has written anything
-pub no_metrics : {O : Type 0} (takes : O → List ℕ → O → Type 0) (failures : O → ℕ) (options : ServeOptions)
-    (plan : Plan) (from : O) (reason : Fault) → IsPlanned options plan → HasNoMetrics options reason
-    → ServeFails takes failures options from from reason
-no_metrics takes failures options plan from fault.Metrics planned none =
-    (record { plan = plan; planned = planned }, none, refl)
-no_metrics takes failures options plan from fault.Memory planned none = inl refl
-no_metrics takes failures options plan from fault.Read planned none = absurd none
-no_metrics takes failures options plan from fault.Write planned none = absurd none
-no_metrics takes failures options plan from fault.LineTooLong planned none = absurd none
-no_metrics takes failures options plan from (fault.Settings name) planned none = absurd none
-no_metrics takes failures options plan from (fault.Config cause) planned none = absurd none
-no_metrics takes failures options plan from fault.ConfigFile planned none = absurd none
-no_metrics takes failures options plan from (fault.Outcomes number) planned none = absurd none
-no_metrics takes failures options plan from (fault.Line number) planned none = absurd none
-no_metrics takes failures options plan from fault.Check planned none = absurd none
-no_metrics takes failures options plan from fault.Delays planned none = absurd none
-no_metrics takes failures options plan from fault.Listen planned none = absurd none
-no_metrics takes failures options plan from fault.Accept planned none = absurd none
+-- after `ready` the totals were not written
+pub totals_fail : {O : Type 0} (takes : O → List ℕ → O → Type 0) (failures : O → ℕ) (from middle to : O)
+    (reason : Fault) → takes from ready_text middle → failures middle ≡ failures from
+    → TotalsFail failures middle to reason → PreparedFails takes failures from to reason
+totals_fail takes failures from middle to fault.Write ready calm is = subst (λ n. n < failures to) calm is
+totals_fail takes failures from middle to fault.Memory ready calm is = subst (takes from ready_text) (sym is) ready
+totals_fail takes failures from middle to fault.Read ready calm is = absurd is
+totals_fail takes failures from middle to fault.LineTooLong ready calm is = absurd is
+totals_fail takes failures from middle to (fault.Settings name) ready calm is = absurd is
+totals_fail takes failures from middle to (fault.Config cause) ready calm is = absurd is
+totals_fail takes failures from middle to fault.ConfigFile ready calm is = absurd is
+totals_fail takes failures from middle to (fault.Outcomes number) ready calm is = absurd is
+totals_fail takes failures from middle to (fault.Line number) ready calm is = absurd is
+totals_fail takes failures from middle to fault.Check ready calm is = absurd is
+totals_fail takes failures from middle to fault.Delays ready calm is = absurd is
+totals_fail takes failures from middle to fault.Listen ready calm is = absurd is
+totals_fail takes failures from middle to fault.Metrics ready calm is = absurd is
+totals_fail takes failures from middle to fault.Accept ready calm is = absurd is
 
--- `ready` and then the totals
-pub has_served : {O : Type 0} (takes : O → List ℕ → O → Type 0) (options : ServeOptions) (plan : Plan)
-    (from middle to : O) (counts : Counts) → IsPlanned options plan → takes from ready_text middle
-    → takes middle (totals_text counts) to → HasServed takes options from to
-has_served takes options plan from middle to counts planned ready totals =
-    record {
-      plan = record { plan = plan; planned = planned };
-      middle = middle;
-      counts = counts;
-      ready = ready;
-      totals = totals;
-    }
+-- where nothing can run, nothing was written
+pub unprepared_fails : {O : Type 0} (takes : O → List ℕ → O → Type 0) (failures : O → ℕ) (options : ServeOptions)
+    (from : O) (reason : Fault) → IsUnprepared options reason → ServeFails takes failures options from from reason
+unprepared_fails takes failures options from fault.Listen is = (is, refl)
+unprepared_fails takes failures options from fault.Metrics is = (is.0, is.1, refl)
+unprepared_fails takes failures options from fault.Memory is = inl refl
+unprepared_fails takes failures options from fault.Write is = absurd is
+unprepared_fails takes failures options from fault.Accept is = absurd is
+unprepared_fails takes failures options from fault.Read is = (is, refl)
+unprepared_fails takes failures options from fault.LineTooLong is = (is, refl)
+unprepared_fails takes failures options from (fault.Settings name) is = (is, refl)
+unprepared_fails takes failures options from (fault.Config cause) is = (is, refl)
+unprepared_fails takes failures options from fault.ConfigFile is = (is, refl)
+unprepared_fails takes failures options from (fault.Outcomes number) is = (is, refl)
+unprepared_fails takes failures options from (fault.Line number) is = (is, refl)
+unprepared_fails takes failures options from fault.Check is = (is, refl)
+unprepared_fails takes failures options from fault.Delays is = (is, refl)
+
+-- why a server that was ready to run fails
+pub prepared_fails : {O : Type 0} (takes : O → List ℕ → O → Type 0) (failures : O → ℕ) (options : ServeOptions)
+    (from to : O) (reason : Fault) → HasPlan options → PreparedFails takes failures from to reason
+    → ServeFails takes failures options from to reason
+prepared_fails takes failures options from to fault.Write plan is = is
+prepared_fails takes failures options from to fault.Accept plan is = record { plan = plan; ready = is }
+prepared_fails takes failures options from to fault.Memory plan is = inr (record { plan = plan; ready = is })
+prepared_fails takes failures options from to fault.Read plan is = absurd is
+prepared_fails takes failures options from to fault.LineTooLong plan is = absurd is
+prepared_fails takes failures options from to (fault.Settings name) plan is = absurd is
+prepared_fails takes failures options from to (fault.Config cause) plan is = absurd is
+prepared_fails takes failures options from to fault.ConfigFile plan is = absurd is
+prepared_fails takes failures options from to (fault.Outcomes number) plan is = absurd is
+prepared_fails takes failures options from to (fault.Line number) plan is = absurd is
+prepared_fails takes failures options from to fault.Check plan is = absurd is
+prepared_fails takes failures options from to fault.Delays plan is = absurd is
+prepared_fails takes failures options from to fault.Listen plan is = absurd is
+prepared_fails takes failures options from to fault.Metrics plan is = absurd is
+
+-- such a server had begun
+pub has_begun : {O : Type 0} (takes : O → List ℕ → O → Type 0) (failures : O → ℕ) (from to : O) (reason : Fault)
+    → PreparedFails takes failures from to reason → HasBegun takes failures from to
+has_begun takes failures from to fault.Write is = NotWritten is
+has_begun takes failures from to fault.Accept is = Ready is
+has_begun takes failures from to fault.Memory is = Ready is
+has_begun takes failures from to fault.Read is = absurd is
+has_begun takes failures from to fault.LineTooLong is = absurd is
+has_begun takes failures from to (fault.Settings name) is = absurd is
+has_begun takes failures from to (fault.Config cause) is = absurd is
+has_begun takes failures from to fault.ConfigFile is = absurd is
+has_begun takes failures from to (fault.Outcomes number) is = absurd is
+has_begun takes failures from to (fault.Line number) is = absurd is
+has_begun takes failures from to fault.Check is = absurd is
+has_begun takes failures from to fault.Delays is = absurd is
+has_begun takes failures from to fault.Listen is = absurd is
+has_begun takes failures from to fault.Metrics is = absurd is
+
+-- and its fault is none of the configuration
+pub never_config : {O : Type 0} (takes : O → List ℕ → O → Type 0) (failures : O → ℕ) (from to : O) (reason : Fault)
+    → PreparedFails takes failures from to reason → IsConfig reason → ⊥
+never_config takes failures from to fault.Read is config = absurd config
+never_config takes failures from to fault.LineTooLong is config = absurd config
+never_config takes failures from to (fault.Settings name) is config = absurd config
+never_config takes failures from to (fault.Config cause) is config = absurd is
+never_config takes failures from to fault.ConfigFile is config = absurd config
+never_config takes failures from to (fault.Outcomes number) is config = absurd config
+never_config takes failures from to (fault.Line number) is config = absurd config
+never_config takes failures from to fault.Check is config = absurd config
+never_config takes failures from to fault.Delays is config = absurd config
+never_config takes failures from to fault.Listen is config = absurd config
+never_config takes failures from to fault.Metrics is config = absurd config
+never_config takes failures from to fault.Accept is config = absurd config
+never_config takes failures from to fault.Write is config = absurd config
+never_config takes failures from to fault.Memory is config = absurd config

@@ -1,15 +1,5 @@
-pub mod Checks
-pub mod Configured
-pub mod DryRuns
-pub mod FaultLines
-pub mod Faults
-pub mod Grouped
+pub mod Endings
 pub mod Notices
-pub mod Outcomes
 pub mod Planned
-pub mod Readings
-pub mod Reasons
-pub mod Replays
 pub mod Serving
-pub mod Texts
 pub mod Totals

@@ -10,10 +10,10 @@ use Rattle.tko_prober.specs.Delay.{IsRange}
 use Rattle.tko_server.specs.declared.patience.Patience.{Patience}
 use Rattle.tko_server.specs.declared.running.Options.{Options as Server}
 use Rattle.tko_options.specs.Trackers.{serve_settings}
-use Rattle.tko_cli.specs.Faults.{fault_of_config}
-use Rattle.tko_cli.specs.Grouped.{grouped}
-use Rattle.tko_cli.specs.declared.fault.Fault.{Fault}
-use Rattle.tko_cli.specs.declared.fault.Fault.TheVariants as fault
+use Rattle.tko_commands.specs.Faults.{fault_of_config}
+use Rattle.tko_commands.specs.Grouped.{grouped}
+use Rattle.tko_commands.specs.declared.fault.Fault.{Fault}
+use Rattle.tko_commands.specs.declared.fault.Fault.TheVariants as fault
 use Rattle.tko_cli.specs.declared.planned.Plan.{Plan}
 use Rattle.tko_options.specs.declared.serve_options.ServeOptions.{ServeOptions}
 

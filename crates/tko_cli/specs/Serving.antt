@@ -1,12 +1,17 @@
 -- What `serve` writes, and why it fails.
-use Rattle.std.specs.Prelude.{◌≡◌, ◌<◌, ◌⊎◌, ℕ, true, List, codes, is_some}
+use Rattle.std.specs.Prelude.{◌≡◌, ◌<◌, ◌⊎◌, ℕ, true, List, Option, codes, is_some}
 use Rattle.tko_counts.specs.declared.counts.Counts.{Counts}
 use Rattle.tko_cli.specs.Notices.{HasNotices}
-use Rattle.tko_cli.specs.Planned.{IsPlanned, NoPlan}
+use Rattle.tko_cli.specs.Planned.{IsPlanned, IsServerOf, NoPlan}
 use Rattle.tko_cli.specs.Totals.{totals_text}
-use Rattle.tko_cli.specs.declared.fault.Fault.{Fault}
-use Rattle.tko_cli.specs.declared.fault.Fault.TheVariants as fault
+use Rattle.tko_commands.specs.declared.fault.Fault.{Fault}
+use Rattle.tko_commands.specs.declared.fault.Fault.TheVariants as fault
 use Rattle.tko_cli.specs.declared.planned.Plan.{Plan}
+use Rattle.tko_cli.specs.declared.serving.Prepared.{Prepared}
+use Rattle.tko_model.specs.Ranges.{IsWithinRanges}
+use Rattle.tko_server.specs.Runs.{tracker_settings}
+use Rattle.tko_server.specs.declared.run_fault.RunFault.{RunFault}
+use Rattle.tko_server.specs.declared.run_fault.RunFault.TheVariants as server_fault
 use Rattle.tko_options.specs.declared.serve_options.ServeOptions.{ServeOptions}
 
 -- what is printed once clients can connect
@@ -18,14 +23,35 @@ pub record HasPlan (options : ServeOptions) : Type 0 where
   pub plan : Plan
   pub planned : IsPlanned options plan
 
--- the options name what to run on, `ready` went out, and then the totals' lines
-pub record HasServed {O : Type 0} (takes : O → List ℕ → O → Type 0) (options : ServeOptions)
-    (from to : O) : Type 0 where
-  pub plan : HasPlan options
+-- `ready` went out, and then the totals' lines
+pub record HasTotals {O : Type 0} (takes : O → List ℕ → O → Type 0) (from to : O) : Type 0 where
   pub middle : O
   pub counts : Counts
   pub ready : takes from ready_text middle
   pub totals : takes middle (totals_text counts) to
+
+-- the options name what to run on, and a server ran to its totals
+pub record HasServed {O : Type 0} (takes : O → List ℕ → O → Type 0) (options : ServeOptions)
+    (from to : O) : Type 0 where
+  pub plan : HasPlan options
+  pub totals : HasTotals takes from to
+
+-- the server is to run on what the options name
+pub record IsPrepared (options : ServeOptions) (prepared : Prepared) : Type 0 where
+  pub plan : Plan
+  pub planned : IsPlanned options plan
+  pub open_files : Option ℕ
+  pub server : IsServerOf plan options open_files prepared.server
+
+-- no setting of the server is out of its range
+abbrev pub IsRunnable : Prepared → Type 0
+IsRunnable prepared = IsWithinRanges (tracker_settings prepared.server)
+
+-- which fault of the program the server's is
+abbrev pub fault_of_server : RunFault → Fault
+fault_of_server (server_fault.Settings name) = fault.Settings name
+fault_of_server server_fault.Memory = fault.Memory
+fault_of_server server_fault.Accept = fault.Accept
 
 -- a server that had begun ended by a fault: the outlet failed, or `ready` went out and nothing else
 pub data HasBegun {O : Type 0} (takes : O → List ℕ → O → Type 0) (failures : O → ℕ)
@@ -57,7 +83,31 @@ HasNoMetrics options fault.Metrics = is_some options.metrics ≡ true
 HasNoMetrics options fault.Memory = Unit {0}
 HasNoMetrics options _ = ⊥
 
+-- why nothing can run: the options name nothing to run on, nothing can listen there or where they
+-- ask for metrics, or memory ran out
+abbrev pub IsUnprepared : ServeOptions → Fault → Type 0
+IsUnprepared options fault.Listen = NoPlan options fault.Listen ⊎ HasPlan options
+IsUnprepared options fault.Metrics = HasPlan options × HasNoMetrics options fault.Metrics
+IsUnprepared options fault.Write = ⊥
+IsUnprepared options fault.Accept = ⊥
+IsUnprepared options fault.Memory = Unit {0}
+IsUnprepared options reason = NoPlan options reason
+
+-- why the totals were not written: the outlet failed, or memory ran out, and then nothing was
+abbrev pub TotalsFail : {O : Type 0} → (O → ℕ) → O → O → Fault → Type 0
+TotalsFail failures from to fault.Write = failures from < failures to
+TotalsFail failures from to fault.Memory = to ≡ from
+TotalsFail failures from to _ = ⊥
+
 module _ {O : Type 0} (takes : O → List ℕ → O → Type 0) (failures : O → ℕ) where
+  -- why a server that was ready to run fails: the outlet failed; or accepting failed or memory ran
+  -- out after `ready`, and then nothing else went out
+  abbrev pub PreparedFails : O → O → Fault → Type 0
+  PreparedFails from to fault.Write = failures from < failures to
+  PreparedFails from to fault.Accept = takes from ready_text to
+  PreparedFails from to fault.Memory = takes from ready_text to
+  PreparedFails from to _ = ⊥
+
   -- why it fails: the options name nothing to run on, or nothing can listen there or where the
   -- metrics are asked for, and then nothing was written; the outlet failed; accepting failed after
   -- `ready`; or memory ran out, and then `ready` went out or nothing

@@ -2,9 +2,9 @@
 ghost use Rattle.std.specs.Prelude.{◌≡◌, ◌++◌, IfOk, OnOk};
 ghost use Rattle.tko_cli.specs.Notices.{HasNotice, HasNotices, notice_bytes, notice_line, use_text};
 
-use crate::writing::write_text;
 use std::alloc::Global;
 use tko_bytes::NoMemory;
+use tko_commands::write_text;
 use tko_io::Outlet;
 use tko_links::IoRuntime;
 use tko_model::append_number;

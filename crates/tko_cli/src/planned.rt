@@ -2,9 +2,8 @@
 ghost use Rattle.std.specs.Prelude.{◌≡◌, IfOk, IfErr};
 ghost use Rattle.tko_cli.specs.Planned.{IsPlanned, IsServerOf, NoPlan, serve_patience};
 
-use crate::Fault;
-use crate::grouped::settings_over;
 use std::alloc::Global;
+use tko_commands::{Fault, settings_over};
 use tko_model::Settings;
 use tko_options::ServeOptions;
 use tko_pools::{Config, is_address};

@@ -1,27 +1,16 @@
 //! From the arguments to the status.
-ghost use Rattle.std.specs.Prelude.{◌≡◌, ◌≤◌, ◌<◌, OnOk, OnErr};
-ghost use Rattle.tko_cli.specs.FaultLines.{HasLine, IsFaultTold, IsFaultWritten, IsQuiet, IsReasonTold};
+ghost use Rattle.std.specs.Prelude.{◌≡◌, ◌≤◌};
+ghost use Rattle.tko_cli.specs.Endings.{IsFaultTold, IsQuiet};
 
-use crate::Fault;
-use crate::checking::check;
-use crate::dry::dry;
-use crate::loading::{loaded_check, loaded_dry, loaded_server};
-use crate::reasons::write_config_reason;
-use crate::replay::replay;
 use crate::serving::serve;
-use crate::writing::{WriteFault, write_text};
 use std::alloc::Global;
 use std::fs::{File, Files};
 use std::net::TcpListener;
 use std::thread::Threads;
+use tko_commands::{DONE, Fault, fail, loaded_server, refuse_config, run_check, run_dry, run_replay, status_of, write_text};
 use tko_io::{Inlet, Outlet};
 use tko_links::IoRuntime;
-use tko_options::{Asked, CheckOptions, DryOptions, Refusal, ServeOptions};
-use tko_pools::ConfigFault;
-
-const DONE: u8 = 0;
-
-const FAILED: u8 = 1;
+use tko_options::{Asked, Refusal, ServeOptions};
 
 const REFUSED: u8 = 2;
 
@@ -43,10 +32,7 @@ pub fn command<
 {
     match Asked::read(alloc, words) {
         Ok(Asked::Dry(options)) => run_dry(rt, alloc, options, input, output, faults),
-        Ok(Asked::Replay) => {
-            let done = replay(rt, alloc, input, output);
-            status_of(rt, alloc, faults, done)
-        }
+        Ok(Asked::Replay) => run_replay(rt, alloc, input, output, faults),
         Ok(Asked::Serve(options)) => run_server(rt, alloc, options, output, faults),
         Ok(Asked::Check(options)) => run_check(rt, alloc, options, output, faults),
         Err(Refusal::Memory) => status_of(rt, alloc, faults, Err(Fault::Memory)),
@@ -55,75 +41,6 @@ pub fn command<
             let done = show(rt, output, text.as_str());
             status_of(rt, alloc, faults, done)
         }
-    }
-}
-
-/// The status of a command that wrote nothing to `faults`. Its fault is reported.
-fn status_of<R: IoRuntime, F: Outlet>(
-    rt: &R,
-    alloc: Global,
-    faults: &mut F,
-    done: Result<(), Fault>,
-) -> u8
-    ensures status { result ≤ 1 }
-    ensures done { result ≡ 0 → faults.new ≡ faults.old }
-    ensures fault { result ≡ 1 → IsReasonTold F.takes F.failures faults.old faults.new }
-{
-    match done {
-        Ok(()) => DONE,
-        Err(fault) => fail(rt, alloc, faults, fault),
-    }
-}
-
-/// Answers the input from scripted servers, and returns the status.
-fn run_dry<R: IoRuntime + Files, I: Inlet, O: Outlet, F: Outlet>(
-    rt: &R,
-    alloc: Global,
-    options: DryOptions,
-    input: &mut I,
-    output: &mut O,
-    faults: &mut F,
-) -> u8
-    ensures status { result ≤ 1 }
-    ensures done { result ≡ 0 → faults.new ≡ faults.old }
-    ensures fault { result ≡ 1 → IsReasonTold F.takes F.failures faults.old faults.new }
-{
-    match loaded_dry(rt, alloc, options, faults) {
-        Ok(options) => {
-            let done = dry(rt, alloc, &options, input, output);
-            status_over(rt, alloc, faults, json_of(&options), done)
-        }
-        Err(fault) => fail(rt, alloc, faults, fault),
-    }
-}
-
-/// The text of the configuration, and the empty one where there is none.
-fn json_of(options: &DryOptions) -> &str {
-    match &options.config {
-        Some(json) => json.as_str(),
-        None => "",
-    }
-}
-
-/// Checks a configuration, and returns the status.
-fn run_check<R: IoRuntime + Files, O: Outlet, F: Outlet>(
-    rt: &R,
-    alloc: Global,
-    options: CheckOptions,
-    output: &mut O,
-    faults: &mut F,
-) -> u8
-    ensures status { result ≤ 1 }
-    ensures done { result ≡ 0 → faults.new ≡ faults.old }
-    ensures fault { result ≡ 1 → IsReasonTold F.takes F.failures faults.old faults.new }
-{
-    match loaded_check(rt, alloc, options, faults) {
-        Ok(options) => {
-            let json = options.config.as_str();
-            let done = check(rt, alloc, json, &options.keys, output);
-            status_over(rt, alloc, faults, json, done)
-        }
-        Err(fault) => fail(rt, alloc, faults, fault),
     }
 }
 
@@ -166,40 +83,6 @@ fn serve_loaded<
     }
 }
 
-/// The status of a command over this text of a configuration, which wrote nothing to `faults`. Its
-/// fault is reported, and before it why the text is no configuration.
-fn status_over<R: IoRuntime, F: Outlet>(
-    rt: &R,
-    alloc: Global,
-    faults: &mut F,
-    json: &str,
-    done: Result<(), Fault>,
-) -> u8
-    ensures status { result ≤ 1 }
-    ensures done { result ≡ 0 → faults.new ≡ faults.old }
-    ensures fault { result ≡ 1 → IsReasonTold F.takes F.failures faults.old faults.new }
-{
-    match done {
-        Err(Fault::Config(cause)) => refuse_config(rt, alloc, faults, json, cause),
-        done => status_of(rt, alloc, faults, done),
-    }
-}
-
-/// Reports why a text is no configuration, and then the fault. Returns its status.
-fn refuse_config<R: IoRuntime, F: Outlet>(
-    rt: &R,
-    alloc: Global,
-    faults: &mut F,
-    json: &str,
-    cause: ConfigFault,
-) -> u8
-    ensures status { result ≡ 1 }
-    ensures fault { IsReasonTold F.takes F.failures faults.old faults.new }
-{
-    write_config_reason(rt, alloc, faults, json, &cause);
-    fail(rt, alloc, faults, Fault::Config(cause))
-}
-
 /// Reports why the words were refused, and returns the status. A failure to report it is not
 /// reported.
 fn refuse<R: IoRuntime, F: Outlet>(rt: &R, faults: &mut F, text: &str) -> u8
@@ -213,29 +96,4 @@ fn refuse<R: IoRuntime, F: Outlet>(rt: &R, faults: &mut F, text: &str) -> u8
 fn show<R: IoRuntime, O: Outlet>(rt: &R, outlet: &mut O, text: &str) -> Result<(), Fault> {
     write_text(rt, outlet, text.as_bytes())?;
     Ok(())
-}
-
-/// Reports a fault and returns its status. A failure to report it is not reported.
-fn fail<R: IoRuntime, F: Outlet>(rt: &R, alloc: Global, faults: &mut F, fault: Fault) -> u8
-    ensures status { result ≡ 1 }
-    ensures fault { IsFaultWritten F.takes F.failures fault faults.old faults.new }
-{
-    let _ = write_fault(rt, alloc, faults, fault);
-    FAILED
-}
-
-/// Writes the line of a fault, or that memory ran out.
-fn write_fault<R: IoRuntime, F: Outlet>(
-    rt: &R,
-    alloc: Global,
-    faults: &mut F,
-    fault: Fault,
-) -> Result<(), WriteFault>
-    ensures ok { OnOk result (HasLine F.takes fault faults.old faults.new) }
-    ensures err { OnErr result (F.failures faults.old < F.failures faults.new) }
-{
-    match format!(in alloc; "{fault}\n") {
-        Ok(line) => write_text(rt, faults, line.as_bytes()),
-        Err(_) => write_text(rt, faults, b"fault: memory\n"),
-    }
 }

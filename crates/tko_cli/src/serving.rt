@@ -1,25 +1,35 @@
 //! The command `serve`: a server over TCP, and its totals.
 ghost use Rattle.std.specs.Prelude.{◌≡◌, IfOk, OnOk, IfErr, OnErr, bytes_eq, codes, is_some, string_bytes};
 ghost use Rattle.tko_cli.specs.Notices.{HasNotices};
-ghost use Rattle.tko_cli.specs.Serving.{HasNoMetrics, HasServed, IsConfig, IsSilentOrBegun, ServeFails};
+ghost use Rattle.tko_cli.specs.Serving.{HasNoMetrics, HasServed, HasTotals, IsConfig, IsPrepared, IsRunnable, IsSilentOrBegun, IsUnprepared, PreparedFails, ServeFails, TotalsFail, fault_of_server, ready_text};
+ghost use Rattle.tko_cli.specs.Totals.{totals_text};
 
-use crate::Fault;
 use crate::notice::{Notice, write_notice, write_notice_if};
 use crate::open_files::open_file_limit;
 use crate::planned::{Plan, plan_of};
 use crate::totals::totals_lines;
-use crate::writing::write_text;
 use std::alloc::{AllocError, Global};
 use std::fs::{File, Files};
 use std::net::TcpListener;
 use std::thread::Threads;
+use tko_commands::{Fault, WriteFault, write_text};
+use tko_desk::Totals;
 use tko_events::What;
 use tko_io::Outlet;
 use tko_links::IoRuntime;
 use tko_metrics::Process;
 use tko_options::ServeOptions;
 use tko_pools::is_address;
-use tko_server::{Logging, Metering, WorkerReport, run_metered};
+use tko_server::{Logging, Metering, RunFault, WorkerReport, run_metered};
+
+/// A server that is ready to run: clients can connect to its listener.
+#[derive(Drop)]
+pub(crate) struct Prepared {
+    pub server: tko_server::Options,
+    listener: TcpListener,
+    logging: Option<Logging>,
+    metering: Option<Metering>,
+}
 
 /// Serves clients over TCP until the last of the connections has ended, and then prints the totals.
 /// `ready` is printed once clients can connect. Before it a notice says what the server does with
@@ -42,6 +52,20 @@ pub(crate) fn serve<
         output.old output.new faults.old faults.new) }
     ensures refused { IfErr result (λ fault. IsConfig fault → faults.new ≡ faults.old) }
 {
+    let prepared = prepare(rt, alloc, options)?;
+    run_prepared(rt, alloc, prepared, output, faults)
+}
+
+/// What the options name, with a listener for its clients, and with the event log and the metrics
+/// that the options ask for.
+fn prepare<R: IoRuntime<Listener = TcpListener> + Files<File = File>>(
+    rt: &R,
+    alloc: Global,
+    options: &ServeOptions,
+) -> Result<Prepared, Fault>
+    ensures ok { IfOk result (IsPrepared options.now) }
+    ensures err { IfErr result (IsUnprepared options.now) }
+{
     let plan = plan_of(alloc, options)?;
     let logging = logging_of(rt, alloc, options, &plan)?;
     let Ok(listener) = TcpListener::bind(rt, options.listen.as_str()) else {
@@ -50,14 +74,91 @@ pub(crate) fn serve<
     let limit = open_file_limit(rt, alloc);
     let metering = metering_of(rt, alloc, options, &plan, limit)?;
     let server = plan.server(options, limit);
-    note_descriptors(rt, alloc, faults, &server);
-    tell_listening(rt, &logging);
-    write_text(rt, output, b"ready\n")?;
-    let ended = run_metered(rt, alloc, &listener, &server, logging, metering)?;
-    report(rt, alloc, faults, &ended.report);
-    let lines = totals_lines(alloc, &ended.totals)?;
+    Ok(Prepared {
+        server,
+        listener,
+        logging,
+        metering,
+    })
+}
+
+/// Runs the server to its end, with `ready` before and the totals after it.
+fn run_prepared<
+    R: IoRuntime<Listener = TcpListener> + Threads + Sync + Files<File = File> + Eprint,
+    O: Outlet,
+    F: Outlet,
+>(
+    rt: &R,
+    alloc: Global,
+    prepared: Prepared,
+    output: &mut O,
+    faults: &mut F,
+) -> Result<(), Fault>
+    requires { IsRunnable prepared }
+    ensures ok { OnOk result (HasTotals O.takes output.old output.new) }
+    ensures err { IfErr result (PreparedFails O.takes O.failures output.old output.new) }
+    ensures noted { HasNotices F.takes F.failures faults.old faults.new }
+{
+    let Prepared {
+        server,
+        listener,
+        logging,
+        metering,
+    } = prepared;
+    announce(rt, alloc, &server, &logging, output, faults)?;
+    match run_metered(rt, alloc, &listener, &server, logging, metering) {
+        Ok(ended) => {
+            report(rt, alloc, faults, &ended.report);
+            write_totals(rt, alloc, output, &ended.totals)
+        }
+        Err(cause) => Err(fault_of_server(cause)),
+    }
+}
+
+/// Tells that clients can connect: on standard error what the server does with its descriptors, to
+/// the event log, and by `ready`.
+fn announce<R: IoRuntime, O: Outlet, F: Outlet>(
+    rt: &R,
+    alloc: Global,
+    server: &tko_server::Options,
+    logging: &Option<Logging>,
+    output: &mut O,
+    faults: &mut F,
+) -> Result<(), WriteFault>
+    ensures ready { OnOk result (O.takes output.old ready_text output.new) }
+    ensures calm { OnOk result (O.failures output.new ≡ O.failures output.old) }
+    ensures err { OnErr result (O.failures output.old < O.failures output.new) }
+    ensures noted { HasNotices F.takes F.failures faults.old faults.new }
+{
+    note_descriptors(rt, alloc, faults, server);
+    tell_listening(rt, logging);
+    write_text(rt, output, b"ready\n")
+}
+
+/// Writes a line for each kind of total.
+fn write_totals<R: IoRuntime, O: Outlet>(
+    rt: &R,
+    alloc: Global,
+    output: &mut O,
+    totals: &Totals,
+) -> Result<(), Fault>
+    ensures ok { OnOk result (O.takes output.old (totals_text totals.now.counts) output.new) }
+    ensures err { IfErr result (TotalsFail O.failures output.old output.new) }
+{
+    let lines = totals_lines(alloc, totals)?;
     write_text(rt, output, &lines)?;
     Ok(())
+}
+
+/// Which fault of the program the server's is.
+fn fault_of_server(cause: RunFault) -> Fault
+    ensures { result ≡ fault_of_server cause }
+{
+    match cause {
+        RunFault::Settings(setting) => Fault::Settings(setting),
+        RunFault::Memory => Fault::Memory,
+        RunFault::Accept => Fault::Accept,
+    }
 }
 
 /// The event log that the options ask for, if they do. Its lines go to the standard error of the

@@ -29,21 +29,18 @@ max_number = 4294967295
 abbrev pub any_number : ValueParser
 any_number = parser.Signed (pos 0) (pos max_number)
 
+-- `--name VALUE`, a text that may be left out
+abbrev pub text_option : Text → Rule
+text_option name = record (new_rule name) { long = Some name; value_names = 1 }
+
 -- `--name N`, a number
 abbrev pub number_option : Text → Text → Rule
-number_option name default = record (new_rule name) {
-  long = Some name;
-  value_names = 1;
-  defaults = default ∷ [];
-  parser = Some any_number;
-}
+number_option name default =
+    record (text_option name) { defaults = default ∷ []; parser = Some any_number }
 
 -- `--config JSON`, which may be left out
 abbrev pub config_option : Rule
-config_option = record (new_rule (codes "config")) {
-  long = Some (codes "config");
-  value_names = 1;
-}
+config_option = text_option (codes "config")
 
 -- `--config JSON`, which is wanted where another option is not given
 abbrev pub required_config : Rule
@@ -51,19 +48,11 @@ required_config = record config_option { is_free = false }
 
 -- `--config-file PATH`, which stands beside no option of another name
 abbrev pub config_file_option : Rule
-config_file_option = record (new_rule (codes "config-file")) {
-  long = Some (codes "config-file");
-  value_names = 1;
-  is_free = false;
-}
+config_file_option = record (text_option (codes "config-file")) { is_free = false }
 
 -- `--outcomes LIST`, empty by default
 abbrev pub outcomes_option : Rule
-outcomes_option = record (new_rule (codes "outcomes")) {
-  long = Some (codes "outcomes");
-  value_names = 1;
-  defaults = [] ∷ [];
-}
+outcomes_option = record (text_option (codes "outcomes")) { defaults = [] ∷ [] }
 
 -- `--trail`, a switch that is off by default
 abbrev pub trail_option : Rule

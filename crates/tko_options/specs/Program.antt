@@ -6,11 +6,13 @@ use Rattle.tko_options.specs.CheckCommand.{check_command}
 use Rattle.tko_options.specs.CommandLine.{dry_command, replay_command}
 use Rattle.tko_options.specs.ServeCommand.{serve_command}
 
--- the program without its commands: it has a version, and wants a command
+-- the program with a version
+abbrev pub titled_program : App
+titled_program = on_top (λ shape. record shape { has_version = true }) (new_app (codes "tkoproxy"))
+
+-- the program without its commands, which wants one of them
 abbrev pub named_program : App
-named_program =
-    on_top (λ shape. record shape { has_version = true; subcommand_required = true })
-    (new_app (codes "tkoproxy"))
+named_program = on_top (λ shape. record shape { subcommand_required = true }) titled_program
 
 abbrev pub program_app : App
 program_app =

@@ -1,9 +1,9 @@
 -- The command `serve` as clap reads it, and its defaults.
 use Rattle.std.specs.Prelude.{ℕ, true, pos, Some, [], ◌∷◌, codes}
-use Rattle.clap.specs.Words.{App, Rule, Text, new_app, new_rule, with_rule}
+use Rattle.clap.specs.Words.{App, Rule, Text, new_app, with_rule}
 use Rattle.clap.specs.declared.builder.value_parser.ValueParser.{ValueParser}
 use Rattle.clap.specs.declared.builder.value_parser.ValueParser.TheVariants as parser
-use Rattle.tko_options.specs.CommandLine.{config_file_option, max_number, number_option, required_config, with_tracker}
+use Rattle.tko_options.specs.CommandLine.{config_file_option, max_number, number_option, required_config, text_option, with_tracker}
 
 abbrev pub default_threads : Text
 default_threads = codes "4"
@@ -48,26 +48,15 @@ any_limit = parser.Signed (pos min_limit) (pos max_number)
 
 -- `--listen ADDRESS`, which is required
 abbrev pub listen_option : Rule
-listen_option = record (new_rule (codes "listen")) {
-  long = Some (codes "listen");
-  value_names = 1;
-  required = true;
-}
+listen_option = record (text_option (codes "listen")) { required = true }
 
 -- `--log WHERE`
 abbrev pub log_option : Rule
-log_option = record (new_rule (codes "log")) {
-  long = Some (codes "log");
-  value_names = 1;
-  defaults = default_log ∷ [];
-}
+log_option = record (text_option (codes "log")) { defaults = default_log ∷ [] }
 
 -- `--metrics ADDRESS`, which may be left out
 abbrev pub metrics_option : Rule
-metrics_option = record (new_rule (codes "metrics")) {
-  long = Some (codes "metrics");
-  value_names = 1;
-}
+metrics_option = text_option (codes "metrics")
 
 -- `--connections N`, a number of 64 bits
 abbrev pub connections_option : Rule

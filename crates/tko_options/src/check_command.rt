@@ -4,7 +4,7 @@ ghost use Rattle.clap.specs.Words.{App, rule_of};
 ghost use Rattle.tko_options.specs.CheckCommand.{check_command, key_option};
 ghost use Rattle.tko_options.specs.CommandLine.{ReadsAs};
 
-use crate::command_line::config_file;
+use crate::command_line::{config_file, text};
 use crate::serve_command::config;
 use clap::{Arg, ArgAction, Command};
 use std::alloc::{AllocError, Global};
@@ -34,9 +34,7 @@ fn key<'a>(alloc: Global) -> Arg<'a>
     ensures rule { rule_of result ≡ key_option }
     ensures local { result.global ≡ false }
 {
-    Arg::new(alloc, "key")
-        .long("key")
-        .value_name("KEY")
-        .action(ArgAction::Append)
-        .help("Also prints the servers that this key tries; may be given several times")
+    text(alloc, "key", "KEY").action(ArgAction::Append).help(
+        "Also prints the servers that this key tries; may be given several times",
+    )
 }

@@ -1,8 +1,8 @@
 //! The program as clap reads it, and the options that several commands have.
 ghost use Rattle.std.specs.Prelude.{◌≡◌, false, IfOk};
 ghost use Rattle.clap.specs.Words.{App, rule_of};
-ghost use Rattle.tko_options.specs.CommandLine.{IsOption, ReadsAs, config_file_option, number_option, replay_command, with_tracker};
-ghost use Rattle.tko_options.specs.Program.{named_program, program_app};
+ghost use Rattle.tko_options.specs.CommandLine.{IsOption, ReadsAs, config_file_option, number_option, replay_command, text_option, with_tracker};
+ghost use Rattle.tko_options.specs.Program.{named_program, program_app, titled_program};
 
 use crate::check_command::check;
 use crate::dry_command::dry;
@@ -54,12 +54,16 @@ pub(crate) fn program<'a>(alloc: Global) -> Result<Command<'a>, AllocError>
 fn named<'a>(alloc: Global) -> Result<Command<'a>, AllocError>
     ensures { IfOk result (ReadsAs named_program) }
 {
+    titled(alloc).subcommand_required(true).bin_name("tkoproxy")
+}
+
+fn titled<'a>(alloc: Global) -> Command<'a>
+    ensures { ReadsAs titled_program result }
+{
     Command::new(alloc, "tkoproxy")
         .about("A failover cache proxy with shared server health")
         .after_help(PROGRAM_HELP)
         .version(VERSION)
-        .subcommand_required(true)
-        .bin_name("tkoproxy")
 }
 
 fn replay<'a>(alloc: Global) -> Command<'a>
@@ -97,14 +101,20 @@ pub(crate) fn config_file<'a>(alloc: Global) -> Result<Arg<'a>, AllocError>
         .conflicts_with("config")
 }
 
+/// `--name VALUE`, a text that may be left out.
+pub(crate) fn text<'a>(alloc: Global, name: &'a str, value: &'a str) -> Arg<'a>
+    ensures rule { rule_of result ≡ text_option name.now }
+    ensures local { result.global ≡ false }
+{
+    Arg::new(alloc, name).long(name).value_name(value)
+}
+
 /// `--name N`, a number of 32 bits.
 pub(crate) fn number<'a>(alloc: Global, name: &'a str, default: &'a str, help: &'a str) -> Arg<'a>
     ensures rule { rule_of result ≡ number_option name.now default.now }
     ensures local { result.global ≡ false }
 {
-    Arg::new(alloc, name)
-        .long(name)
-        .value_name("N")
+    text(alloc, name, "N")
         .value_parser(value_parser!(u32))
         .default_value(default)
         .help(help)

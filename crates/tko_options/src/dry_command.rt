@@ -3,7 +3,7 @@ ghost use Rattle.std.specs.Prelude.{◌≡◌, false, IfOk};
 ghost use Rattle.clap.specs.Words.{App, rule_of};
 ghost use Rattle.tko_options.specs.CommandLine.{ReadsAs, config_option, dry_command, outcomes_option, servers_option, trail_option, with_script};
 
-use crate::command_line::{config_file, number, with_tracker};
+use crate::command_line::{config_file, number, text, with_tracker};
 use clap::{Arg, ArgAction, Command};
 use std::alloc::{AllocError, Global};
 
@@ -51,24 +51,19 @@ fn config<'a>(alloc: Global) -> Arg<'a>
     ensures rule { rule_of result ≡ config_option }
     ensures local { result.global ≡ false }
 {
-    Arg::new(alloc, "config")
-        .long("config")
-        .value_name("JSON")
-        .help("The pools and the route; without it every key tries all servers in order")
+    text(alloc, "config", "JSON").help(
+        "The pools and the route; without it every key tries all servers in order",
+    )
 }
 
 fn outcomes<'a>(alloc: Global) -> Arg<'a>
     ensures rule { rule_of result ≡ outcomes_option }
     ensures local { result.global ≡ false }
 {
-    Arg::new(alloc, "outcomes")
-        .long("outcomes")
-        .value_name("LIST")
-        .default_value("")
-        .help(
-            "What comes of each send, separated by commas: refused, timeout, broken, miss, \
+    text(alloc, "outcomes", "LIST").default_value("").help(
+        "What comes of each send, separated by commas: refused, timeout, broken, miss, \
              hit:<text>, line:<text>, bytes:<hex>; then refused",
-        )
+    )
 }
 
 fn trail<'a>(alloc: Global) -> Arg<'a>

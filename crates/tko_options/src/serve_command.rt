@@ -4,7 +4,7 @@ ghost use Rattle.clap.specs.Words.{App, rule_of};
 ghost use Rattle.tko_options.specs.CommandLine.{IsOption, ReadsAs, number_option, required_config};
 ghost use Rattle.tko_options.specs.ServeCommand.{connections_option, default_timeout, limit_option, listen_option, log_option, metrics_option, serve_command, with_clients, with_ends, with_patience, with_reports, with_times};
 
-use crate::command_line::{config_file, number, with_tracker};
+use crate::command_line::{config_file, number, text, with_tracker};
 use clap::builder::ValueParser;
 use clap::{Arg, Command, value_parser};
 use std::alloc::{AllocError, Global};
@@ -108,9 +108,7 @@ fn log<'a>(alloc: Global) -> Arg<'a>
     ensures rule { rule_of result ≡ log_option }
     ensures local { result.global ≡ false }
 {
-    Arg::new(alloc, "log")
-        .long("log")
-        .value_name("WHERE")
+    text(alloc, "log", "WHERE")
         .default_value(DEFAULT_LOG)
         .help("Where the event log goes, stderr or off")
 }
@@ -120,21 +118,16 @@ fn metrics<'a>(alloc: Global) -> Arg<'a>
     ensures rule { rule_of result ≡ metrics_option }
     ensures local { result.global ≡ false }
 {
-    Arg::new(alloc, "metrics")
-        .long("metrics")
-        .value_name("ADDRESS")
-        .help(
-            "Where it answers HTTP `GET /metrics` for Prometheus, <host>:<port>, as 127.0.0.1:9311",
-        )
+    text(alloc, "metrics", "ADDRESS").help(
+        "Where it answers HTTP `GET /metrics` for Prometheus, <host>:<port>, as 127.0.0.1:9311",
+    )
 }
 
 fn listen<'a>(alloc: Global) -> Arg<'a>
     ensures rule { rule_of result ≡ listen_option }
     ensures local { result.global ≡ false }
 {
-    Arg::new(alloc, "listen")
-        .long("listen")
-        .value_name("ADDRESS")
+    text(alloc, "listen", "ADDRESS")
         .required(true)
         .help("Where it listens, <host>:<port>")
 }

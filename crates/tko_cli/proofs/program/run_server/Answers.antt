@@ -1,5 +1,5 @@
-use Rattle.tko_cli.specs.FaultLines.{AfterReason}
-use Rattle.tko_cli.proofs.ReasonLemmas.{told_with}
+use Rattle.tko_commands.specs.FaultLines.{AfterReason}
+use Rattle.tko_commands.proofs.ReasonLemmas.{told_with}
 use Rattle.tko_cli.proofs.program.run_server.Goals as goal
 
 pub returns-in-Err-clause-fault : goal.returns-in-Err-clause-fault

@@ -1,7 +1,7 @@
 use Rattle.std.proofs.Common.{Err, ap, inr, refl}
 use Rattle.std.proofs.lemmas.Result.{err_from_is_err_and}
 use Rattle.tko_cli.specs.Serving.{Begun, NotWritten, Ready}
-use Rattle.tko_cli.proofs.FaultLineLemmas.{on_err}
+use Rattle.tko_commands.proofs.FaultLineLemmas.{on_err}
 use Rattle.tko_cli.proofs.NoticeLemmas.{more_notices}
 use Rattle.tko_cli.proofs.ServingLemmas.{has_served, never_unset, no_metrics, server_fails}
 use Rattle.tko_cli.proofs.serving.serve.Goals as goal

@@ -1,7 +1,0 @@
-use Rattle.tko_cli.proofs.ReasonLemmas.{told_with}
-use Rattle.tko_cli.proofs.program.run_dry.Goals as goal
-
-pub returns-in-Err-clause-fault : goal.returns-in-Err-clause-fault
-returns-in-Err-clause-fault g c =
-    λ is. told_with g.F.Outlet.takes g.F.Outlet.failures c.in-Err.fault c.args.faults.now c.loaded_dry.new.faults
-    c.fail.new.faults c.in-Err.ensures.told c.fail.ensures.fault

@@ -1,0 +1,11 @@
+use Rattle.tko_commands.proofs.ReasonLemmas.{config_reason, told_with}
+use Rattle.tko_commands.specs.declared.fault.Fault.TheVariants as fault
+use Rattle.tko_commands.proofs.status.refuse_config.Goals as goal
+
+pub returns-clause-fault : goal.returns-clause-fault
+returns-clause-fault g c =
+    told_with g.F.Outlet.takes g.F.Outlet.failures (fault.Config c.args.cause) c.args.faults.now
+    c.write_config_reason.new.faults c.fail.new.faults
+    (config_reason g.F.Outlet.takes g.F.Outlet.failures c.args.json.now c.args.cause c.args.faults.now
+    c.write_config_reason.new.faults c.write_config_reason.ensures)
+    c.fail.ensures.fault

@@ -1,0 +1,30 @@
+-- What is written for a fault.
+use Rattle.std.specs.Prelude.{ℕ, ◌≡◌, ◌<◌, ◌⊎◌, List, ◌++◌, codes}
+use Rattle.tko_commands.specs.declared.fault.Fault.{Fault}
+use Rattle.tko_commands.specs.declared.fault.Fault.TheVariants as fault
+use Rattle.tko_commands.specs.Faults.{fault_line}
+use Rattle.tko_commands.specs.Reasons.{HasLineOf, IsReasonFor}
+
+-- the line of a fault with its LF
+abbrev pub fault_bytes : Fault → List ℕ
+fault_bytes reason = fault_line reason ++ codes "\n"
+
+-- the line of the fault was written, or that of running out of memory
+abbrev pub HasLine : {O : Type 0} → (O → List ℕ → O → Type 0) → Fault → O → O → Type 0
+HasLine takes reason old new =
+    takes old (fault_bytes reason) new ⊎ takes old (fault_bytes fault.Memory) new
+
+-- the line of the fault was written, or that of running out of memory, and nothing else; or the
+-- outlet failed
+pub data IsFaultWritten {O : Type 0} (takes : O → List ℕ → O → Type 0) (failures : O → ℕ)
+    (reason : Fault) (old new : O) : Type 0 where
+  Written : HasLine takes reason old new → IsFaultWritten takes failures reason old new
+  Failed : failures old < failures new → IsFaultWritten takes failures reason old new
+
+-- a line may say why there is this fault, and then its line was written, and nothing else
+pub record IsReasonTold {O : Type 0} (takes : O → List ℕ → O → Type 0) (failures : O → ℕ)
+    (old new : O) : Type 0 where
+  pub middle : O
+  pub fault : Fault
+  pub reason : HasLineOf takes failures (IsReasonFor fault) old middle
+  pub line : IsFaultWritten takes failures fault middle new

@@ -1,0 +1,11 @@
+pub mod Checks
+pub mod Configured
+pub mod DryRuns
+pub mod FaultLines
+pub mod Faults
+pub mod Grouped
+pub mod Outcomes
+pub mod Readings
+pub mod Reasons
+pub mod Replays
+pub mod Texts

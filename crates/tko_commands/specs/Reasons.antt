@@ -1,0 +1,49 @@
+-- The line that says why in words, before the line of a fault.
+use Rattle.std.specs.Prelude.{◌≡◌, ◌<◌, ℕ, List, ◌++◌, None, codes}
+use Rattle.tko_explain.specs.Reasons.{IsReasonOf}
+use Rattle.tko_pools.specs.declared.fault.ConfigFault.{ConfigFault}
+use Rattle.tko_commands.specs.declared.fault.Fault.{Fault}
+use Rattle.tko_commands.specs.declared.fault.Fault.TheVariants as fault
+use Rattle.tko_options.specs.declared.check_options.CheckOptions.{CheckOptions}
+use Rattle.tko_options.specs.declared.dry_options.DryOptions.{DryOptions}
+use Rattle.tko_options.specs.declared.serve_options.ServeOptions.{ServeOptions}
+
+-- the file of a configuration cannot be read: its path, and what the system says
+pub record IsFileReason (path line : List ℕ) : Type 0 where
+  pub detail : List ℕ
+  pub is : line ≡ codes "config: " ++ path ++ codes ": " ++ detail ++ codes "\n"
+
+-- a line that says why a command ends with a fault: of which text the configuration is to be, or
+-- which file cannot be read. No other fault has one.
+abbrev pub IsReasonFor : Fault → List ℕ → Type 0
+IsReasonFor (fault.Config cause) line = (json : List ℕ) × IsReasonOf json cause line
+IsReasonFor fault.ConfigFile line = (path : List ℕ) × IsFileReason path line
+IsReasonFor other line = ⊥
+
+-- such a line was written, or nothing, or the outlet failed
+pub data HasLineOf {O : Type 0} (takes : O → List ℕ → O → Type 0) (failures : O → ℕ)
+    (is : List ℕ → Type 0) (old new : O) : Type 0 where
+  Written : (line : List ℕ) → is line → takes old line new → HasLineOf takes failures is old new
+  LeftOut : new ≡ old → HasLineOf takes failures is old new
+  Failed : failures old < failures new → HasLineOf takes failures is old new
+
+-- the faults of a file that cannot be read
+abbrev pub IsFileFault : Fault → Type 0
+IsFileFault fault.ConfigFile = Unit {0}
+IsFileFault fault.Memory = Unit {0}
+IsFileFault other = ⊥
+
+-- the options of a dry run with the text of their file, if they name one
+pub record IsLoadedDry (options loaded : DryOptions) : Type 0 where
+  pub others : loaded ≡ record options { config = loaded.config }
+  pub alone : options.config_file ≡ None → loaded.config ≡ options.config
+
+-- the options of a server with the text of their file, if they name one
+pub record IsLoadedServer (options loaded : ServeOptions) : Type 0 where
+  pub others : loaded ≡ record options { config = loaded.config }
+  pub alone : options.config_file ≡ None → loaded.config ≡ options.config
+
+-- the options of a check with the text of their file, if they name one
+pub record IsLoadedCheck (options loaded : CheckOptions) : Type 0 where
+  pub others : loaded ≡ record options { config = loaded.config }
+  pub alone : options.config_file ≡ None → loaded.config ≡ options.config

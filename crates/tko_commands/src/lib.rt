@@ -1,0 +1,28 @@
+//! The commands that need no server, and what all commands share: faults, files and texts.
+//!
+//! - `Fault`: why a command ended with status 1; it prints as the line on standard error. `fail`
+//!   and `refuse_config` report it.
+//! - `run_dry`, `run_replay`, `run_check`: each runs a command and returns its status.
+//! - `loaded_server`, `settings_over`, `write_text`: what `serve` shares with them.
+#![tactic(auto)]
+
+mod causes;
+mod checking;
+mod configured;
+mod dry;
+mod fault;
+mod grouped;
+mod loading;
+mod outcomes;
+mod reading;
+mod reasons;
+mod replay;
+mod status;
+mod trail_lines;
+mod writing;
+
+pub use fault::Fault;
+pub use grouped::settings_over;
+pub use loading::loaded_server;
+pub use status::{DONE, fail, refuse_config, run_check, run_dry, run_replay, status_of};
+pub use writing::{WriteFault, write_text};

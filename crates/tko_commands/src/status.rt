@@ -1,0 +1,166 @@
+//! Commands run to their status. Their faults are reported.
+ghost use Rattle.std.specs.Prelude.{◌≡◌, ◌≤◌, ◌<◌, OnOk, OnErr};
+ghost use Rattle.tko_commands.specs.FaultLines.{HasLine, IsFaultWritten, IsReasonTold};
+
+use crate::Fault;
+use crate::checking::check;
+use crate::dry::dry;
+use crate::loading::{loaded_check, loaded_dry};
+use crate::reasons::write_config_reason;
+use crate::replay::replay;
+use crate::writing::{WriteFault, write_text};
+use std::alloc::Global;
+use std::fs::Files;
+use tko_io::{Inlet, Outlet};
+use tko_links::IoRuntime;
+use tko_options::{CheckOptions, DryOptions};
+use tko_pools::ConfigFault;
+
+/// The status of a command that was done.
+pub const DONE: u8 = 0;
+
+const FAILED: u8 = 1;
+
+/// Answers the input from scripted servers, and returns the status.
+pub fn run_dry<R: IoRuntime + Files, I: Inlet, O: Outlet, F: Outlet>(
+    rt: &R,
+    alloc: Global,
+    options: DryOptions,
+    input: &mut I,
+    output: &mut O,
+    faults: &mut F,
+) -> u8
+    ensures status { result ≤ 1 }
+    ensures done { result ≡ 0 → faults.new ≡ faults.old }
+    ensures fault { result ≡ 1 → IsReasonTold F.takes F.failures faults.old faults.new }
+{
+    match loaded_dry(rt, alloc, options, faults) {
+        Ok(options) => {
+            let done = dry(rt, alloc, &options, input, output);
+            status_over(rt, alloc, faults, json_of(&options), done)
+        }
+        Err(fault) => fail(rt, alloc, faults, fault),
+    }
+}
+
+/// The text of the configuration, and the empty one where there is none.
+fn json_of(options: &DryOptions) -> &str {
+    match &options.config {
+        Some(json) => json.as_str(),
+        None => "",
+    }
+}
+
+/// Plays a schedule, and returns the status.
+pub fn run_replay<R: IoRuntime, I: Inlet, O: Outlet, F: Outlet>(
+    rt: &R,
+    alloc: Global,
+    input: &mut I,
+    output: &mut O,
+    faults: &mut F,
+) -> u8
+    ensures status { result ≤ 1 }
+    ensures done { result ≡ 0 → faults.new ≡ faults.old }
+    ensures fault { result ≡ 1 → IsReasonTold F.takes F.failures faults.old faults.new }
+{
+    let done = replay(rt, alloc, input, output);
+    status_of(rt, alloc, faults, done)
+}
+
+/// Checks a configuration, and returns the status.
+pub fn run_check<R: IoRuntime + Files, O: Outlet, F: Outlet>(
+    rt: &R,
+    alloc: Global,
+    options: CheckOptions,
+    output: &mut O,
+    faults: &mut F,
+) -> u8
+    ensures status { result ≤ 1 }
+    ensures done { result ≡ 0 → faults.new ≡ faults.old }
+    ensures fault { result ≡ 1 → IsReasonTold F.takes F.failures faults.old faults.new }
+{
+    match loaded_check(rt, alloc, options, faults) {
+        Ok(options) => {
+            let json = options.config.as_str();
+            let done = check(rt, alloc, json, &options.keys, output);
+            status_over(rt, alloc, faults, json, done)
+        }
+        Err(fault) => fail(rt, alloc, faults, fault),
+    }
+}
+
+/// The status of a command that wrote nothing to `faults`. Its fault is reported.
+pub fn status_of<R: IoRuntime, F: Outlet>(
+    rt: &R,
+    alloc: Global,
+    faults: &mut F,
+    done: Result<(), Fault>,
+) -> u8
+    ensures status { result ≤ 1 }
+    ensures done { result ≡ 0 → faults.new ≡ faults.old }
+    ensures fault { result ≡ 1 → IsReasonTold F.takes F.failures faults.old faults.new }
+{
+    match done {
+        Ok(()) => DONE,
+        Err(fault) => fail(rt, alloc, faults, fault),
+    }
+}
+
+/// The status of a command over this text of a configuration, which wrote nothing to `faults`. Its
+/// fault is reported, and before it why the text is no configuration.
+fn status_over<R: IoRuntime, F: Outlet>(
+    rt: &R,
+    alloc: Global,
+    faults: &mut F,
+    json: &str,
+    done: Result<(), Fault>,
+) -> u8
+    ensures status { result ≤ 1 }
+    ensures done { result ≡ 0 → faults.new ≡ faults.old }
+    ensures fault { result ≡ 1 → IsReasonTold F.takes F.failures faults.old faults.new }
+{
+    match done {
+        Err(Fault::Config(cause)) => refuse_config(rt, alloc, faults, json, cause),
+        done => status_of(rt, alloc, faults, done),
+    }
+}
+
+/// Reports why a text is no configuration, and then the fault. Returns its status.
+pub fn refuse_config<R: IoRuntime, F: Outlet>(
+    rt: &R,
+    alloc: Global,
+    faults: &mut F,
+    json: &str,
+    cause: ConfigFault,
+) -> u8
+    ensures status { result ≡ 1 }
+    ensures fault { IsReasonTold F.takes F.failures faults.old faults.new }
+{
+    write_config_reason(rt, alloc, faults, json, &cause);
+    fail(rt, alloc, faults, Fault::Config(cause))
+}
+
+/// Reports a fault and returns its status. A failure to report it is not reported.
+pub fn fail<R: IoRuntime, F: Outlet>(rt: &R, alloc: Global, faults: &mut F, fault: Fault) -> u8
+    ensures status { result ≡ 1 }
+    ensures fault { IsFaultWritten F.takes F.failures fault faults.old faults.new }
+{
+    let _ = write_fault(rt, alloc, faults, fault);
+    FAILED
+}
+
+/// Writes the line of a fault, or that memory ran out.
+fn write_fault<R: IoRuntime, F: Outlet>(
+    rt: &R,
+    alloc: Global,
+    faults: &mut F,
+    fault: Fault,
+) -> Result<(), WriteFault>
+    ensures ok { OnOk result (HasLine F.takes fault faults.old faults.new) }
+    ensures err { OnErr result (F.failures faults.old < F.failures faults.new) }
+{
+    match format!(in alloc; "{fault}\n") {
+        Ok(line) => write_text(rt, faults, line.as_bytes()),
+        Err(_) => write_text(rt, faults, b"fault: memory\n"),
+    }
+}

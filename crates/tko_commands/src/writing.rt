@@ -1,0 +1,27 @@
+//! Whole texts onto an outlet.
+ghost use Rattle.std.specs.Prelude.{◌≡◌, ◌<◌, OnErr, OnOk};
+
+use tko_io::{Outlet, write_all};
+use tko_links::IoRuntime;
+
+/// The outlet failed.
+#[derive(Clone, Copy, Debug, PartialEq, Eq)]
+pub struct WriteFault;
+
+/// Writes all of a text. A write that was interrupted is made again.
+pub fn write_text<R: IoRuntime, O: Outlet>(
+    rt: &R,
+    outlet: &mut O,
+    text: &[u8],
+) -> Result<(), WriteFault>
+    ensures ok { OnOk result (O.takes outlet.old text.now outlet.new) }
+    ensures calm { OnOk result (O.failures outlet.new ≡ O.failures outlet.old) }
+    ensures err { OnErr result (O.failures outlet.old < O.failures outlet.new) }
+{
+    let mut written = 0;
+    if write_all(rt, outlet, text, &mut written) {
+        Ok(())
+    } else {
+        Err(WriteFault)
+    }
+}
