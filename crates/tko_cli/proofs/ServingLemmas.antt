@@ -11,7 +11,7 @@ use Rattle.tko_commands.proofs.GroupedLemmas.{no_fault}
 use Rattle.tko_commands.specs.declared.fault.Fault.{Fault}
 use Rattle.tko_commands.specs.declared.fault.Fault.TheVariants as fault
 use Rattle.tko_cli.specs.Planned.{IsPlanned, IsServerOf}
-use Rattle.tko_cli.specs.Serving.{HasBegun, HasPlan, IsConfig, IsPrepared, IsRunnable, IsUnprepared, NotWritten, PreparedFails, Ready, ServeFails, TotalsFail, fault_of_server, ready_text}
+use Rattle.tko_cli.specs.Serving.{HasBegun, HasNoMetrics, HasPlan, IsConfig, IsPrepared, IsRunnable, IsUnprepared, NotWritten, PreparedFails, Ready, ServeFails, TotalsFail, fault_of_server, ready_text}
 use Rattle.tko_cli.specs.declared.planned.Plan.{Plan}
 use Rattle.tko_cli.specs.declared.serving.Prepared.{Prepared}
 use Rattle.tko_options.specs.declared.serve_options.ServeOptions.{ServeOptions}
@@ -64,6 +64,24 @@ totals_fail takes failures from middle to fault.Delays ready calm is = absurd is
 totals_fail takes failures from middle to fault.Listen ready calm is = absurd is
 totals_fail takes failures from middle to fault.Metrics ready calm is = absurd is
 totals_fail takes failures from middle to fault.Accept ready calm is = absurd is
+
+-- where there can be no metrics, nothing can run
+pub no_metrics : (options : ServeOptions) (reason : Fault) → HasPlan options → HasNoMetrics options reason
+    → IsUnprepared options reason
+no_metrics options fault.Metrics plan none = (plan, none)
+no_metrics options fault.Memory plan none = tt
+no_metrics options fault.Read plan none = absurd none
+no_metrics options fault.Write plan none = absurd none
+no_metrics options fault.LineTooLong plan none = absurd none
+no_metrics options (fault.Settings name) plan none = absurd none
+no_metrics options (fault.Config cause) plan none = absurd none
+no_metrics options fault.ConfigFile plan none = absurd none
+no_metrics options (fault.Outcomes number) plan none = absurd none
+no_metrics options (fault.Line number) plan none = absurd none
+no_metrics options fault.Check plan none = absurd none
+no_metrics options fault.Delays plan none = absurd none
+no_metrics options fault.Listen plan none = absurd none
+no_metrics options fault.Accept plan none = absurd none
 
 -- where nothing can run, nothing was written
 pub unprepared_fails : {O : Type 0} (takes : O → List ℕ → O → Type 0) (failures : O → ℕ) (options : ServeOptions)

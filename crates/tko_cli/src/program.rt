@@ -7,7 +7,10 @@ use std::alloc::Global;
 use std::fs::{File, Files};
 use std::net::TcpListener;
 use std::thread::Threads;
-use tko_commands::{DONE, Fault, fail, loaded_server, refuse_config, run_check, run_dry, run_replay, status_of, write_text};
+use tko_commands::{
+    DONE, Fault, fail, loaded_server, refuse_config, run_check, run_dry, run_replay, status_of,
+    write_text,
+};
 use tko_io::{Inlet, Outlet};
 use tko_links::IoRuntime;
 use tko_options::{Asked, Refusal, ServeOptions};

@@ -1,5 +1,5 @@
 //! The command `serve`: a server over TCP, and its totals.
-ghost use Rattle.std.specs.Prelude.{◌≡◌, IfOk, OnOk, IfErr, OnErr, bytes_eq, codes, is_some, string_bytes};
+ghost use Rattle.std.specs.Prelude.{◌≡◌, ◌<◌, IfOk, OnOk, IfErr, OnErr, bytes_eq, codes, is_some, string_bytes};
 ghost use Rattle.tko_cli.specs.Notices.{HasNotices};
 ghost use Rattle.tko_cli.specs.Serving.{HasNoMetrics, HasServed, HasTotals, IsConfig, IsPrepared, IsRunnable, IsSilentOrBegun, IsUnprepared, PreparedFails, ServeFails, TotalsFail, fault_of_server, ready_text};
 ghost use Rattle.tko_cli.specs.Totals.{totals_text};
@@ -87,13 +87,7 @@ fn run_prepared<
     R: IoRuntime<Listener = TcpListener> + Threads + Sync + Files<File = File> + Eprint,
     O: Outlet,
     F: Outlet,
->(
-    rt: &R,
-    alloc: Global,
-    prepared: Prepared,
-    output: &mut O,
-    faults: &mut F,
-) -> Result<(), Fault>
+>(rt: &R, alloc: Global, prepared: Prepared, output: &mut O, faults: &mut F) -> Result<(), Fault>
     requires { IsRunnable prepared }
     ensures ok { OnOk result (HasTotals O.takes output.old output.new) }
     ensures err { IfErr result (PreparedFails O.takes O.failures output.old output.new) }

@@ -11,11 +11,7 @@ use tko_pools::Config;
 
 /// These settings over the groups of the configuration's servers. A group has the limit of its
 /// pool, or else that of the settings, which has to be in its range even where no group has it.
-pub fn settings_over(
-    alloc: Global,
-    config: &Config,
-    options: OneGroup,
-) -> Result<Settings, Fault>
+pub fn settings_over(alloc: Global, config: &Config, options: OneGroup) -> Result<Settings, Fault>
     requires servers { options.servers ≡ length config.now.addresses }
     ensures ok { IfOk result (λ settings. settings ≡ grouped config.now options) }
     ensures within { IfOk result IsWithinRanges }

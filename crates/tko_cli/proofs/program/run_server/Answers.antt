@@ -1,4 +1,4 @@
-use Rattle.tko_commands.specs.FaultLines.{AfterReason}
+use Rattle.tko_cli.specs.Endings.{AfterReason}
 use Rattle.tko_commands.proofs.ReasonLemmas.{told_with}
 use Rattle.tko_cli.proofs.program.run_server.Goals as goal
 

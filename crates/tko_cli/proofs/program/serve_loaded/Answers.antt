@@ -1,5 +1,5 @@
-use Rattle.tko_commands.specs.FaultLines.{Noted}
-use Rattle.tko_commands.proofs.FaultLineLemmas.{fault_told}
+use Rattle.tko_cli.specs.Endings.{Noted}
+use Rattle.tko_cli.proofs.EndingLemmas.{fault_told}
 use Rattle.tko_cli.proofs.program.serve_loaded.Goals as goal
 
 pub returns-in-Ok-clause-done : goal.returns-in-Ok-clause-done
