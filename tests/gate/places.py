@@ -3,12 +3,14 @@ import re
 from dataclasses import dataclass
 
 FUNCTION = re.compile(r"( *)(?:pub(?:\(\w+\))? )?(?:const |unsafe )*fn (\w+)")
-IMPL = re.compile(r"( *)impl\b(?:<.*?>)? (?:(?:\w+::)*(\w+)\b.* for )?(?:\w+::)*(\w+)")
+# An impl block: the trait, if any, with its first argument, and the type.
+IMPL = re.compile(r"( *)impl\b(?:<.*?>)? (?:(?:\w+::)*(\w+)(?:<(?:\w+::)*(\w+).*>)? for )?(?:\w+::)*(\w+)")
 
 
 @dataclass(frozen=True)
 class Function:
-    """A function of the source: its module, the type and the trait that it is a method of, if any, and its name."""
+    """A function of the source: its module, the type and the trait that it is a method of, if any, and its name. A trait
+    has its first argument behind it, as `FromNoMemory`."""
 
     module: tuple
     type: str
@@ -60,8 +62,8 @@ def function_at(file, path, text):
     found = FUNCTION.match(rows[head])
     outer = above(rows, head, len(found[1]), IMPL)
     module = tuple(re.sub(r"^src/|(/mod|(^|/)lib|(^|/)main)?\.rt$", "", path).split("/"))
-    trait, type = IMPL.match(rows[outer]).group(2, 3) if outer is not None else ("", "")
-    return Function(tuple(it for it in module if it), type, trait or "", found[2])
+    trait, argument, type = IMPL.match(rows[outer]).group(2, 3, 4) if outer is not None else ("", "", "")
+    return Function(tuple(it for it in module if it), type, (trait or "") + (argument or ""), found[2])
 
 
 def indent_of(row):
