@@ -1,3 +1,4 @@
 pub mod BegunLemmas
+mod HalfLemmas
 pub mod ProberLemmas
 mod RoundLemmas

@@ -65,6 +65,13 @@ set-prober (Marked ∷ slots) zero prober has = absurd cc
 set-prober (Probing own ∷ slots) zero prober has = cc
 set-prober (slot ∷ slots) (suc server) prober has = ap (λ xs. slot ∷ xs) (set-prober slots server prober has)
 
+-- a prober that takes the place of another one
+pub prober-set : (slots : List ProbeSlot) (server : ℕ) (own prober : Prober) → prober_in (slice_get slots server) ≡ Some own
+    → prober_in (slice_get (slice_set slots server (Probing prober)) server) ≡ Some prober
+prober-set [] server own prober has = absurd cc
+prober-set (slot ∷ slots) zero own prober has = refl
+prober-set (slot ∷ slots) (suc server) own prober has = prober-set slots server own prober has
+
 length-noted_one : (it : Attempt) (probers : ProbersState) → length (noted_one it probers).slots ≡ length probers.slots
 length-noted_one (attempt.Skipped server mark) probers = refl
 length-noted_one (attempt.Sent server came answer) probers =

@@ -1,12 +1,12 @@
 -- Laws of rounds: what each visit is, and visits one after another.
-use Rattle.std.proofs.Common.{◌≡◌, ◌↔◌, ℕ, zero, suc, ◌+◌, Bool, true, false, ◌||◌, List, [], ◌∷◌, ◌++◌, Option, Some, None, Result, Ok, length, cond, set-set, refl, sym, ap, subst, ◌∙◌, add-one, zero-add, arith}
+use Rattle.std.proofs.Common.{◌≡◌, ◌↔◌, ℕ, zero, suc, ◌+◌, Bool, true, false, ◌||◌, List, [], ◌∷◌, ◌++◌, Option, Some, Result, Ok, length, cond, inl, inr, refl, sym, ap, subst, ◌∙◌, add-one, zero-add, arith}
 use Rattle.std.specs.Prelude.{is_err}
 use Rattle.std.proofs.lemmas.List.{length-map, map-append, map-id}
 use Rattle.std.proofs.lemmas.List.Folds.{list_any-append}
 use Rattle.std.proofs.lemmas.List.FromFn.{map-range_with_len_more}
 use Rattle.std.proofs.lemmas.List.Sums.{sum_by-cons}
 use Rattle.tko_model.specs.declared.mark.Reply.{Reply}
-use Rattle.tko_model.specs.Records.{Lead, NoDuty}
+use Rattle.tko_model.specs.Records.{Lead}
 use Rattle.tko_model.proofs.RecordLemmas.{gains_none, gains_push}
 use Rattle.tko_links.specs.declared.links.NoMemory.{NoMemory}
 use Rattle.tko_links.specs.declared.links.Outcome.{Outcome}
@@ -14,16 +14,16 @@ use Rattle.tko_links.specs.declared.links.Outcome.TheVariants as outcome
 use Rattle.tko_links.specs.Links.{WasProbed, is_counted, most_sends, part_of}
 use Rattle.tko_pools.specs.Configs.{numbers_below}
 use Rattle.tko_prober.specs.declared.prober.Prober.{Prober}
-use Rattle.tko_prober.specs.declared.prober.ProbeTurn.TheVariants.{Rest, Send}
-use Rattle.tko_prober.specs.Probes.{IsDue, asked_after, sent}
-use Rattle.tko_route.specs.Trail.{IsRecorded}
+use Rattle.tko_prober.specs.Probes.{sent}
 use Rattle.tko_backend.specs.declared.backend.Backend.{Backend}
 use Rattle.tko_backend.specs.declared.probers.ProbeSlot.{ProbeSlot}
-use Rattle.tko_backend.specs.declared.probers.ProbeSlot.TheVariants.{Quiet, Probing}
+use Rattle.tko_backend.specs.declared.probers.ProbeSlot.TheVariants.{Probing}
 use Rattle.tko_backend.specs.Ghosts.{BackendGhosts}
-use Rattle.tko_backend.specs.Probers.{AreQuiet, ProbersState, begun_at, begun_slot, op_asked, probed_of, prober_of, slot_after, with_slot}
+use Rattle.tko_backend.specs.Halves.{IsOut, IsPassed, IsResult, IsSent}
+use Rattle.tko_backend.specs.Probers.{AreQuiet, ProbersState, begun_at, begun_slot, probed_of, prober_of, slot_after, with_slot}
 use Rattle.tko_backend.specs.Round.{Absent, AreVisited, IsRound, IsVisit, IsVisited, Probed, Rested, Stopped, Visit, is_probe, probes_in, ran_out, visited}
-use Rattle.tko_backend.proofs.ProberLemmas.{begun-quiet, prober-quiet, set-prober}
+use Rattle.tko_backend.proofs.HalfLemmas.{set_again}
+use Rattle.tko_backend.proofs.ProberLemmas.{begun-quiet, prober-quiet, prober-set}
 
 numbers_below-more : (count : ℕ) → numbers_below (count + 1) ≡ numbers_below count ++ count ∷ []
 numbers_below-more count =
@@ -34,95 +34,67 @@ or-false : (b : Bool) → (b || false) ≡ b
 or-false true = refl
 or-false false = refl
 
--- a slot that was emptied first
-set_emptied : (probers : ProbersState) (server : ℕ) (slot : ProbeSlot)
-    → with_slot (with_slot probers server Quiet) server slot ≡ with_slot probers server slot
-set_emptied probers server slot =
-    ap (λ (slots : List ProbeSlot). record probers { slots = slots }) (set-set probers.slots server Quiet slot)
-
-pub rest_is_send : Rest ≡ Send → ⊥
-rest_is_send same = cc
-
 module _ {H L C : Type 0} {ghosts : BackendGhosts H L C} where
-  pub visited_absent : (moment : ℕ) (old : Backend H L C) (server : ℕ) (probers : ProbersState)
-      → prober_of old.probers server ≡ None → probers ≡ old.probers
-      → IsVisited ghosts moment old server false (record old { probers = probers })
-  visited_absent moment old server probers none same = record {
-    visit = Absent server;
-    at = refl;
-    is = (none, ap (λ (p : ProbersState). record old { probers = p }) same);
-    memory = refl;
-  }
+  -- no probe was sent
+  pub visited_passed : (moment : ℕ) (old : Backend H L C) (server : ℕ) (new : Backend H L C)
+      → IsPassed ghosts.steps ghosts.grants moment old server new
+      → IsVisited ghosts moment old server false new
+  visited_passed moment old server new (inl (none, same)) =
+      record { visit = Absent server; at = refl; is = (none, same); memory = refl }
+  visited_passed moment old server new (inr (inl stopped)) =
+      record { visit = Stopped server; at = refl; is = stopped; memory = refl }
+  visited_passed moment old server new (inr (inr rested)) =
+      record { visit = Rested server; at = refl; is = rested; memory = refl }
 
-  pub visited_stopped : (moment : ℕ) (old : Backend H L C) (server : ℕ) (prober : Prober) (health : H) (probers : ProbersState)
-      → prober_of old.probers server ≡ Some prober → ghosts.steps old.health (NoDuty server) health
-      → probers ≡ with_slot old.probers server Quiet
-      → IsVisited ghosts moment old server false (record old { health = health; probers = probers })
-  visited_stopped moment old server prober health probers has refused slot = record {
-    visit = Stopped server;
-    at = refl;
-    is = record {
-      prober = prober;
-      has = has;
-      refused = refused;
-      others = ap (λ (p : ProbersState). record old { health = health; probers = p }) slot;
-    };
-    memory = refl;
-  }
-
-  pub visited_rested : (moment : ℕ) (old : Backend H L C) (server : ℕ) (prober : Prober) (health : H) (probers : ProbersState)
-      → prober_of old.probers server ≡ Some prober → ¬ IsDue prober.stage moment → health ≡ old.health
-      → probers ≡ with_slot (with_slot old.probers server Quiet) server (Probing prober)
-      → IsVisited ghosts moment old server false (record old { health = health; probers = probers })
-  visited_rested moment old server prober health probers has early same slot =
-      let back : probers ≡ old.probers =
-      slot ∙ set_emptied old.probers server (Probing prober)
-      ∙ ap (λ (slots : List ProbeSlot). record old.probers { slots = slots }) (set-prober old.probers.slots server prober has) in
-      record {
-        visit = Rested server;
-        at = refl;
-        is = record {
-          prober = prober;
-          has = has;
-          early = early;
-          same = rw (same, back) refl;
-        };
-        memory = refl;
-      }
-
-  pub visited_probed : (moment : ℕ) (old : Backend H L C) (server : ℕ) (prober : Prober)
-      (came : Result Outcome NoMemory) (later : ℕ) (reply : Option Reply)
-      (short : Bool) (health : H) (links : L) (clock : C) (probers : ProbersState)
-      → prober_of old.probers server ≡ Some prober → IsDue prober.stage moment → ghosts.grants old.health server
-      → WasProbed ghosts.exchanges old.links server came links
-      → ((came ≡ Ok outcome.Spent) ↔ (ghosts.probed old.links server ≡ most_sends))
-      → ((at : ℕ) → ghosts.probed links at ≡ ghosts.probed old.links at + part_of (is_counted came) server at)
-      → ghosts.reads old.clock later clock
-      → IsRecorded ghosts.steps old.health (record { server = server; op = op_asked (asked_after (probed_of came)); reply = reply }) health
-      → probers ≡ with_slot (with_slot old.probers server Quiet) server (slot_after (sent prober) later (probed_of came))
+  -- a probe was sent, and its result was taken once the links had it
+  pub visited_sent : (moment : ℕ) (old mid : Backend H L C) (server : ℕ)
+      (came : Result Outcome NoMemory) (later : ℕ) (reply : Option Reply) (short : Bool)
+      (links : L) (clock : C) (new : Backend H L C)
+      → IsSent ghosts.grants moment old server mid
+      → WasProbed ghosts.exchanges mid.links server came links
+      → ((came ≡ Ok outcome.Spent) ↔ (ghosts.probed mid.links server ≡ most_sends))
+      → ((at : ℕ) → ghosts.probed links at ≡ ghosts.probed mid.links at + part_of (is_counted came) server at)
+      → ghosts.reads mid.clock later clock
+      → ((prober : Prober) → IsOut mid.probers server prober
+      → IsResult ghosts.steps later (record mid { links = links; clock = clock }) server prober (probed_of came) reply new)
       → short ≡ is_err came
-      → IsVisited ghosts moment old server short
-      (record old { health = health; links = links; probers = probers; clock = clock })
-  visited_probed moment old server prober came later reply short health links clock probers has due right probe spent counted read recorded slot ran =
-      let settled = slot ∙ set_emptied old.probers server (slot_after (sent prober) later (probed_of came)) in
-      record {
+      → IsVisited ghosts moment old server short new
+  visited_sent moment old mid server came later reply short links clock new is probe spent counted read result ran =
+      let out : Prober = sent is.prober in
+      let slot : ProbeSlot = slot_after out later (probed_of came) in
+      let probers : mid.probers ≡ with_slot old.probers server (Probing out) =
+      ap (λ (b : Backend H L C). b.probers) is.others in
+      let has : prober_of mid.probers server ≡ Some out =
+      ap (λ (p : ProbersState). prober_of p server) probers ∙ prober-set old.probers.slots server is.prober out is.has in
+      let taken = result out (record { has = has; out = refl }) in
+      let is_links : mid.links ≡ old.links = ap (λ (b : Backend H L C). b.links) is.others in
+      let is_clock : mid.clock ≡ old.clock = ap (λ (b : Backend H L C). b.clock) is.others in
+      let is_health : mid.health ≡ old.health = ap (λ (b : Backend H L C). b.health) is.others in
+      let slots : with_slot mid.probers server slot ≡ with_slot old.probers server slot =
+      ap (λ (p : ProbersState). with_slot p server slot) probers ∙ set_again old.probers server (Probing out) slot in
+      let to : Backend H L C =
+      record { health = new.health; links = links; probers = with_slot old.probers server slot; clock = clock } in
+      let is_new : new ≡ to =
+      taken.others
+      ∙ ap (λ (p : ProbersState). record { health = new.health; links = links; probers = p; clock = clock }) slots in
+      subst (λ (b : Backend H L C). IsVisited ghosts moment old server short b) (sym is_new)
+      (record {
         visit = Probed server came later reply;
         at = refl;
         is = record {
-          prober = prober;
-          has = has;
-          due = due;
-          right = right;
-          probe = probe;
-          spent = spent;
-          counted = counted;
-          read = read;
-          recorded = recorded;
-          others =
-              ap (λ (p : ProbersState). record old { health = health; links = links; probers = p; clock = clock }) settled;
+          prober = is.prober;
+          has = is.has;
+          due = is.due;
+          right = is.right;
+          probe = rw is_links at probe;
+          spent = rw is_links at spent;
+          counted = rw is_links at counted;
+          read = rw is_clock at read;
+          recorded = rw is_health at taken.recorded;
+          others = refl;
         };
         memory = ran;
-      }
+      })
 
   pub visited_none : (moment : ℕ) (at : Backend H L C) → AreVisited ghosts moment at 0 false at
   visited_none moment at = record { visits = []; each = gains_none at; servers = refl; memory = refl }
@@ -208,7 +180,7 @@ module _ {H L C : Type 0} {ghosts : BackendGhosts H L C} where
   visited_quiet moment at quiet zero = visited_none moment at
   visited_quiet moment at quiet (suc count) =
       let none = prober-quiet at.probers.slots count quiet in
-      let all = visited_more (visited_quiet moment at quiet count) (visited_absent moment at count at.probers none refl) in
+      let all = visited_more (visited_quiet moment at quiet count) (visited_passed moment at count at (inl (none, refl))) in
       subst (λ n. AreVisited ghosts moment at n false at) (add-one count) all
 
   -- where no server is probed or going to be, a round reads its moment and changes nothing else

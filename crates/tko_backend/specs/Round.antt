@@ -3,7 +3,7 @@
 use Rattle.std.specs.Prelude.{◌≡◌, ◌↔◌, ℕ, ◌+◌, Bool, false, ◌&&◌, ◌==◌, List, length, map, count_by, Option, Some, None, Result, Ok, is_err}
 use Rattle.std.specs.List.{list_any}
 use Rattle.tko_model.specs.declared.mark.Reply.{Reply}
-use Rattle.tko_model.specs.Records.{Gains, NoDuty}
+use Rattle.tko_model.specs.Records.{Gains}
 use Rattle.tko_links.specs.declared.links.NoMemory.{NoMemory}
 use Rattle.tko_links.specs.declared.links.Outcome.{Outcome}
 use Rattle.tko_links.specs.declared.links.Outcome.TheVariants as outcome
@@ -13,8 +13,8 @@ use Rattle.tko_prober.specs.declared.prober.Prober.{Prober}
 use Rattle.tko_prober.specs.Probes.{IsDue, asked_after, sent}
 use Rattle.tko_route.specs.Trail.{IsRecorded}
 use Rattle.tko_backend.specs.declared.backend.Backend.{Backend}
-use Rattle.tko_backend.specs.declared.probers.ProbeSlot.TheVariants.{Quiet}
 use Rattle.tko_backend.specs.Ghosts.{BackendGhosts}
+use Rattle.tko_backend.specs.Halves.{IsRested, IsStopped}
 use Rattle.tko_backend.specs.Probers.{begun_at, op_asked, probed_of, prober_of, slot_after, with_slot}
 
 -- what a round did at a server: it has no prober; its prober was stopped; its prober rests; or it
@@ -52,24 +52,6 @@ ran_out (Rested server) = false
 ran_out (Probed server came moment reply) = is_err came
 
 module _ {H L C : Type 0} (ghosts : BackendGhosts H L C) where
-  -- the server is not this thread's to probe: its prober is stopped
-  pub record IsStopped (old : Backend H L C) (server : ℕ) (new : Backend H L C) : Type 0 where
-    pub prober : Prober
-    pub has : prober_of old.probers server ≡ Some prober
-    pub refused : ghosts.steps old.health (NoDuty server) new.health
-    pub others : new ≡ record old {
-      health = new.health;
-      probers = with_slot old.probers server Quiet;
-    }
-
-  -- the prober is not due at the moment of the round
-  pub record IsRested (moment : ℕ) (old : Backend H L C) (server : ℕ) (new : Backend H L C)
-      : Type 0 where
-    pub prober : Prober
-    pub has : prober_of old.probers server ≡ Some prober
-    pub early : ¬ IsDue prober.stage moment
-    pub same : new ≡ old
-
   -- the prober was due at the round's moment, the health granted the right to probe its server,
   -- and it was probed once: the links have the probe, one more moment was read, and what the prober
   -- asks for was recorded
@@ -98,8 +80,8 @@ module _ {H L C : Type 0} (ghosts : BackendGhosts H L C) where
   -- one visit of a round at this moment
   abbrev pub IsVisit : ℕ → Backend H L C → Visit → Backend H L C → Type 0
   IsVisit moment old (Absent server) new = (prober_of old.probers server ≡ None) × (new ≡ old)
-  IsVisit moment old (Stopped server) new = IsStopped old server new
-  IsVisit moment old (Rested server) new = IsRested moment old server new
+  IsVisit moment old (Stopped server) new = IsStopped ghosts.steps old server new
+  IsVisit moment old (Rested server) new = IsRested ghosts.grants moment old server new
   IsVisit moment old (Probed server came later reply) new =
       IsProbed moment old server came later reply new
 

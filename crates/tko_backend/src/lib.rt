@@ -2,7 +2,8 @@
 //! that its failures marked.
 //!
 //! - `Backend`: health, links, probers and clock of a worker; `Backend::round` sends the probes
-//!   that are due.
+//!   that are due and waits for their results. `due` and `came` are the two halves of a probe, for
+//!   a worker that does not wait.
 //! - `Probers`: which servers the worker's failures marked, and when each is probed; a `ProbeSlot`
 //!   is what a server is to them.
 //! - `Clock`: where moments come from. `MonotonicClock` reads the system's, `FrozenClock` gives 0,
@@ -11,6 +12,7 @@
 
 mod backend;
 mod clock;
+mod halves;
 mod monotonic;
 mod probers;
 mod rounds;

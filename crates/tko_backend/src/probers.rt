@@ -101,14 +101,14 @@ impl Probers {
     }
 
     /// How many servers there are.
-    pub(crate) fn servers(&self) -> usize
+    pub fn servers(&self) -> usize
         ensures { result ≡ length self.now.slots }
     {
         self.slots.len()
     }
 
     /// Begins a prober at this moment for each server that was marked.
-    pub(crate) fn begin(&mut self, moment: u64)
+    pub fn begin(&mut self, moment: u64)
         ensures { self.new ≡ begun_at moment self.old }
     {
         begin_all(&mut self.slots, self.delays, moment);

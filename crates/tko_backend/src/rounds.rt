@@ -1,20 +1,16 @@
 //! A round: each marked server gets its prober, and each prober is stopped, rests or probes once.
 ghost use Rattle.std.specs.Prelude.{◌≡◌, ◌+◌, ◌<◌, ◌↔◌, ℕ, Ok, is_err, length};
 ghost use Rattle.tko_links.specs.Links.{WasProbed, is_counted, most_sends, part_of};
-ghost use Rattle.tko_prober.specs.Probes.{asked_after};
-ghost use Rattle.tko_route.specs.Trail.{IsRecorded};
 ghost use Rattle.tko_backend.specs.Ghosts.{backend_ghosts};
-ghost use Rattle.tko_backend.specs.Probers.{op_asked, probed_of, slot_after};
+ghost use Rattle.tko_backend.specs.Probers.{probed_of};
 ghost use Rattle.tko_backend.specs.Round.{AreVisited, IsRound, IsVisited};
 ghost use Rattle.tko_backend.specs.Servers.{HaveServers};
 
-use crate::probers::ProbeSlot;
 use crate::{Backend, Clock};
-use std::sync::Wait;
 use tko_bytes::NoMemory;
 use tko_links::{IoRuntime, Links, Outcome};
-use tko_model::{Duty, Reply};
-use tko_prober::{AfterProbe, ProbeTurn, Probed, Prober, Stage};
+use tko_model::Duty;
+use tko_prober::Probed;
 use tko_route::Health;
 
 impl<H: Health, L: Links, C: Clock> Backend<H, L, C> {
@@ -67,24 +63,12 @@ impl<H: Health, L: Links, C: Clock> Backend<H, L, C> {
         ensures servers { HaveServers H.servers L.servers self.new }
         ensures same { H.servers self.new.health ≡ H.servers self.old.health }
     {
-        let Some(mut prober) = self.probers.take(server) else {
+        let Some(duty) = self.due(rt, server, moment) else {
             return false;
         };
-        let Some(duty) = self.health.duty(rt, server) else {
-            return false;
-        };
-        match prober.turn(moment) {
-            ProbeTurn::Send => {}
-            ProbeTurn::Rest => {
-                self.probers.put(server, ProbeSlot::Probing(prober));
-                return false;
-            }
-        }
         let came = send_probe(rt, &self.health, &mut self.links, duty);
         let later = self.clock.next(rt);
-        let (asked, slot) = take_result(prober, later, probed_of(&came));
-        record_asked(rt, &mut self.health, server, asked);
-        self.probers.put(server, slot);
+        self.came(rt, server, later, probed_of(&came));
         came.is_err()
     }
 }
@@ -108,21 +92,6 @@ fn send_probe<R: IoRuntime, H: Health, L: Links>(
     links.probe(rt, duty)
 }
 
-/// Gives its result to the probe that is out. Returns what the prober asks for, and the slot of its
-/// server from then on.
-fn take_result(mut prober: Prober, moment: u64, probed: Probed) -> (AfterProbe, ProbeSlot)
-    requires { prober.stage ≡ Stage.Out }
-    ensures asked { result.0 ≡ asked_after probed }
-    ensures slot { result.1 ≡ slot_after prober moment probed }
-{
-    let asked = prober.result(moment, probed);
-    let slot = match asked {
-        AfterProbe::Recover => ProbeSlot::Quiet,
-        AfterProbe::Harden | AfterProbe::Again => ProbeSlot::Probing(prober),
-    };
-    (asked, slot)
-}
-
 /// What came of a probe, to its prober.
 fn probed_of(came: &Result<Outcome, tko_links::NoMemory>) -> Probed
     ensures { result ≡ probed_of came.now }
@@ -132,24 +101,5 @@ fn probed_of(came: &Result<Outcome, tko_links::NoMemory>) -> Probed
         Ok(Outcome::Refused) => Probed::Refused,
         Ok(Outcome::Timeout | Outcome::Broken | Outcome::Spent) => Probed::Failed,
         Err(_) => Probed::Failed,
-    }
-}
-
-/// Records what a prober asks for.
-fn record_asked<R: Wait, H: Health>(
-    rt: &R,
-    health: &mut H,
-    server: usize,
-    asked: AfterProbe,
-) -> Option<Reply>
-    requires { server < H.servers health.old }
-    ensures recorded { IsRecorded H.steps health.old
-        (record { server = server; op = op_asked asked; reply = result }) health.new }
-    ensures servers { H.servers health.new ≡ H.servers health.old }
-{
-    match asked {
-        AfterProbe::Recover => Some(health.success(rt, server)),
-        AfterProbe::Harden => Some(health.hard_failure(rt, server)),
-        AfterProbe::Again => None,
     }
 }

@@ -35,3 +35,11 @@ fn a_sum_above_the_greatest_is_refused(rt: HostRuntime) -> Result<(), Fail> {
     assert_eq!(rt; shares[1].counts().of(kind), 1);
     Ok(())
 }
+
+#[test]
+fn ledger_of_1024_shares(rt: HostRuntime) -> Result<(), Fail> {
+    let (book, shares) = Book::open(rt.alloc(), 7, 1_024)?;
+    assert_eq!(rt; shares.len(), 1_024);
+    assert!(rt; gather(book, shares).is_ok());
+    Ok(())
+}

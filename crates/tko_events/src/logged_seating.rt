@@ -1,5 +1,6 @@
 //! Seats whose workers tell the log how marks change.
 ghost use Rattle.std.specs.Prelude.{◌≡◌};
+ghost use Rattle.tko_health.specs.Seating.{Releases};
 
 use crate::logged_health::LoggedHealth;
 use crate::worker_log::WorkerLog;
@@ -65,6 +66,10 @@ impl<S: Seating> Seating for LoggedSeating<S> {
 
     ghost own = { λ s idle. S.own s idle };
 
+    ghost begins = { λ s idle worker. S.begins s idle worker };
+
+    ghost gives_back = { λ s worker idle. S.gives_back s worker idle };
+
     fn seat(&self, idle: LoggedIdle<S::Idle>) -> LoggedHealth<S::Worker> {
         let LoggedIdle { inner, log } = idle;
         let inner = self.inner.seat(inner);
@@ -83,7 +88,9 @@ impl<S: Seating> Seating for LoggedSeating<S> {
 }
 
 /// Releases each server.
-fn release_all<R: Wait, H: Health>(rt: &R, health: &mut H) {
+fn release_all<R: Wait, H: Health>(rt: &R, health: &mut H)
+    ensures { Releases H.steps health.old health.new }
+{
     for server in 0..health.servers() {
         health.release(rt, server);
     }

@@ -1,4 +1,4 @@
 mod HealthLemmas
 mod LockFreeLemmas
 mod LockedLemmas
-mod SeatingLemmas
+pub mod SeatingLemmas

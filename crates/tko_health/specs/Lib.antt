@@ -1,3 +1,4 @@
 pub mod Health
 pub mod LockFree
 pub mod Locked
+pub mod Seating

@@ -72,3 +72,9 @@ pub record IsDuty (settings : Settings) (seat : SeatState) (server : ℕ) (duty 
   pub tracker : Tracker
   pub found : IsFound settings tracker
   pub exact : duty ≡ duty_of server (server_at tracker.servers server).mark seat.thread
+
+-- an idle seat of this number, and a worker's seat that is taken or given back so: the number is
+-- the same, and no mark is the thread's own
+pub record IsSeatOf (number : ℕ) (seat : SeatState) : Type 0 where
+  pub same : seat.thread ≡ number
+  pub none : OwnsNone seat

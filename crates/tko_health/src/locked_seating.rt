@@ -2,6 +2,8 @@
 ghost use Rattle.std.specs.List.{range_with_len};
 ghost use Rattle.std.specs.Prelude.{◌≡◌, ◌<◌, ◌↔◌, All, IfOk, Some};
 ghost use Rattle.tko_model.specs.Ranges.{first_fault};
+ghost use Rattle.tko_health.specs.Locked.{IsSeatOf, OwnsNone};
+ghost use Rattle.tko_health.specs.Seating.{Releases};
 
 use crate::health::Health;
 use crate::locked_health::LockedHealth;
@@ -117,6 +119,10 @@ impl<S: TrackerSettings> Seating for LockedSeating<S> {
 
     ghost own = { λ s idle. idle < S.settings.threads };
 
+    ghost begins = { λ s idle worker. IsSeatOf idle worker };
+
+    ghost gives_back = { λ s worker idle. IsSeatOf idle worker };
+
     fn seat(&self, idle: LockedIdle<S>) -> LockedHealth<S> {
         idle.health
     }
@@ -124,10 +130,19 @@ impl<S: TrackerSettings> Seating for LockedSeating<S> {
     /// Releases each server, so that no mark is the thread's own.
     fn leave<R: Wait>(&self, rt: &R, worker: LockedHealth<S>) -> LockedIdle<S> {
         let mut health = worker;
-        for server in 0..health.servers() {
-            health.release(rt, server);
-        }
+        release_all(rt, &mut health);
         let _thread = health.thread();
         LockedIdle { health }
+    }
+}
+
+/// Releases each server.
+fn release_all<R: Wait, S: TrackerSettings>(rt: &R, health: &mut LockedHealth<S>)
+    ensures releases { Releases ⟦<LockedHealth<S> as Health>⟧.steps health.old health.new }
+    ensures none { OwnsNone health.new }
+{
+    let _thread = health.thread();
+    for server in 0..health.servers() {
+        health.release(rt, server);
     }
 }

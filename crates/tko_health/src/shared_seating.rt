@@ -1,7 +1,10 @@
 //! Seats at one tracker without a lock.
 ghost use Rattle.std.specs.Prelude.{◌≡◌};
-ghost use Rattle.tko_tracker.specs.Seated.{IsOf, OwnsNothing, Retired};
+ghost use Rattle.tko_tracker.specs.Seated.{IsOf, Retired};
+ghost use Rattle.tko_health.specs.LockFree.{IsSeated};
+ghost use Rattle.tko_health.specs.Seating.{Leaves};
 
+use crate::health::Health;
 use crate::lent::Lent;
 use crate::seating::Seating;
 use crate::shared_health::SharedHealth;
@@ -36,11 +39,14 @@ impl<'t, N: Named> Seating for SharedSeating<'t, N> {
 
     ghost own = { λ s idle. IsOf N.tracker idle };
 
+    ghost begins = { λ s idle worker. IsSeated idle worker };
+
+    ghost gives_back = { λ s worker idle. Retired N.tracker worker idle };
+
     /// Takes no step: the thread owns no server yet.
     fn seat(&self, idle: IdlePass) -> SharedHealth<'t, N>
         requires { IsOf N.tracker idle }
-        ensures same { result ≡ idle }
-        ensures none { OwnsNothing result.pass }
+        ensures begins { IsSeated idle result }
     {
         let _number = idle.number();
         SharedHealth::new(self.lent.again(), idle)
@@ -50,6 +56,8 @@ impl<'t, N: Named> Seating for SharedSeating<'t, N> {
     fn leave<R: Wait>(&self, _rt: &R, worker: SharedHealth<'t, N>) -> IdlePass
         ensures own { IsOf N.tracker result }
         ensures retired { Retired N.tracker worker.entry result }
+        ensures leaves { Leaves ⟦<SharedHealth<'t, N> as Health>⟧.steps
+            (λ last idle. Retired N.tracker last idle) worker.entry result }
     {
         worker.retire()
     }

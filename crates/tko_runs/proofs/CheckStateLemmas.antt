@@ -117,7 +117,7 @@ enters_enrolled old event run thread kind.Enrol at found left answer is enrols c
     rw (now, is)
     (record {
       settings = refl;
-      follows = rw (can.1.at_enrolment, can.1.finds, can.1.leaves) (record { own = tt; finds = refl; can = (refl, refl) });
+      follows = rw (can.1.at_enrolment, can.1.finds, can.1.leaves) (record { finds = refl; can = (refl, refl) });
       run = refl;
       stands = λ past stands. record {
         settings = stands.settings;

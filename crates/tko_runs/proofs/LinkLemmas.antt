@@ -9,7 +9,7 @@ use Rattle.tko_runs.specs.declared.run.event.Event.{Event}
 use Rattle.tko_runs.specs.declared.run.event.Event.TheVariants as event
 use Rattle.tko_runs.specs.declared.run.state.ThreadEntry.{ThreadEntry}
 use Rattle.tko_runs.specs.declared.run.state.ThreadEntry.TheVariants as entry
-use Rattle.tko_runs.specs.States.{AllCome, CanCome, Claimed, HasCall, IsIdle, RunState, answered, claimed_after, claimed_after_all, entry_at, moment_of, opened_claim, opened_state, server_of}
+use Rattle.tko_runs.specs.States.{AllCome, CanCome, Claimed, HasCall, IsIdle, RunState, answered, claimed_after, claimed_after_all, entry_at, moment_of, opened_claim, opened_state}
 use Rattle.tko_runs.specs.Orders.{AllFollow, Follows}
 use Rattle.tko_runs.specs.Runs.{event_of, events_of}
 use Rattle.tko_steps.specs.declared.step.Kind.TheVariants as kind
@@ -18,7 +18,6 @@ use Rattle.tko_steps.specs.declared.step.Place.TheVariants as place
 use Rattle.tko_steps.specs.declared.step.Word.{Word}
 use Rattle.tko_steps.specs.declared.step.Word.TheVariants as word
 use Rattle.tko_steps.specs.declared.table.Action.{Action}
-use Rattle.tko_steps.specs.declared.table.Action.TheVariants.{LookAtServer, LookAtSlots, Exchange, Reserve, Settle, Loosen, Give}
 use Rattle.tko_steps.specs.declared.table.Decision.{Decision}
 use Rattle.tko_steps.specs.declared.table.Decision.TheVariants.{Goes, Answers}
 use Rattle.tko_steps.specs.declared.phase.Call.{Call}
@@ -35,7 +34,7 @@ use Rattle.tko_model.specs.Tracker.{server_at}
 use Rattle.tko_steps.proofs.EveryCallLemmas.{HoldsBoth, along}
 use Rattle.tko_steps.proofs.LegalLemmas.{Knows}
 use Rattle.tko_steps.proofs.WiringLemmas.{begun, stepped_from}
-use Rattle.tko_runs.specs.Words.{CanLeave, IsOwnGroup, room_at}
+use Rattle.tko_runs.specs.Words.{CanLeave, room_at}
 
 -- Events, one more at the end.
 
@@ -139,7 +138,7 @@ Linked-enrolled s w thread linked inside stands =
       (inside-at w.core thread inside, entry-at w.core thread NotEnrolled stands),
       record { at_enrolment = refl; finds = refl; leaves = refl; silent = refl },
     )
-    (record { own = tt; finds = refl; can = (refl, refl) })
+    (record { finds = refl; can = (refl, refl) })
     (rw map-set refl)
 
 -- an answer ends the call of a thread, as the decision does
@@ -147,16 +146,6 @@ answered-decided : (call : Call) (decision : Decision)
     → answered (answer_of decision) (entry.InCall call.number call.server) ≡ entry_of (state_after call decision)
 answered-decided call (Goes lost phase) = refl
 answered-decided call (Answers answer) = refl
-
--- a call steps on its server's word and on the soft word of its server's group
-own_group : (s : Settings) (server : ℕ) (act : Action) → IsOwnGroup s server (place_of s server act)
-own_group s server LookAtServer = tt
-own_group s server LookAtSlots = refl
-own_group s server (Exchange found mark) = tt
-own_group s server (Reserve slots) = refl
-own_group s server Settle = refl
-own_group s server Loosen = refl
-own_group s server Give = refl
 
 module _ (s : Settings) (w : World) (thread : ℕ) (call : Call) (phase : Phase) where
   abbrev act : Action
@@ -187,14 +176,10 @@ module _ (s : Settings) (w : World) (thread : ℕ) (call : Call) (phase : Phase)
       → w.core.settings ≡ s → Acts w.core.settings w.core.shared call.server act → Linked s (stepped_from w thread (InCall call phase))
   Linked-act linked inside stands under acts =
       let P : Settings → Type 0 = λ it. CanLeave it (room_at it w.core.shared.slots at_place) (kind_of act) found_word left_word in
-      let here = entry-at w.core thread (InCall call phase) stands in
-      let O : Settings → Type 0 = λ it. IsOwnGroup it (server_of (entry_at (state_of w.core) thread)) at_place in
-      let Q : ThreadEntry → Type 0 = λ it. IsOwnGroup w.core.settings (server_of it) at_place in
-      let own = subst Q (sym here) (own_group w.core.settings call.server act) in
       let has = subst HasCall (sym (entry-at w.core thread (InCall call phase) stands)) tt in
       Linked-event s w (stepped_from w thread (InCall call phase)) step_event linked
       (rw acts.steps ((inside-at w.core thread inside, has), acts.place))
-      (record { own = subst O under own; finds = refl; can = subst P under acts.can })
+      (record { finds = refl; can = subst P under acts.can })
       (claimed-act acts stands)
 
 -- the step of the call, from what holds in each run

@@ -168,7 +168,7 @@ pub record HasFollowed
     (found left : Word)
     (answer : Option Reply)
     (new : CheckState) : Type 0 where
-  pub follows : FollowsAt old.settings old.run thread kind at found left
+  pub follows : FollowsAt old.settings old.run kind at found left
   pub effect : Effect
   pub numbered : effect.at ≡ old.steps + 1
   pub grows : HasStepped old.calls thread effect answer new.calls
@@ -183,11 +183,11 @@ pub record HasFollowed
   pub steps : new.steps ≡ old.steps + 1
 
 -- why it refused the step
-abbrev pub IsStrayFault : CheckState → ℕ → Kind → Place → Word → Word → RunFault → Type 0
-IsStrayFault old thread kind at found left (fault.Step number) =
-    (number ≡ old.steps + 1) × (FollowsAt old.settings old.run thread kind at found left → ⊥)
-IsStrayFault old thread kind at found left (fault.Call number) = ⊥
-IsStrayFault old thread kind at found left fault.Memory = Unit {0}
+abbrev pub IsStrayFault : CheckState → Kind → Place → Word → Word → RunFault → Type 0
+IsStrayFault old kind at found left (fault.Step number) =
+    (number ≡ old.steps + 1) × (FollowsAt old.settings old.run kind at found left → ⊥)
+IsStrayFault old kind at found left (fault.Call number) = ⊥
+IsStrayFault old kind at found left fault.Memory = Unit {0}
 
 -- the state took the event, which follows
 pub record HasEntered (old : CheckState) (event : Event) (new : CheckState) : Type 0 where

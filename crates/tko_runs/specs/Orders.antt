@@ -9,8 +9,8 @@ use Rattle.tko_runs.specs.declared.checking.order.Point.{Point}
 use Rattle.tko_runs.specs.declared.checking.order.Point.TheVariants as point
 use Rattle.tko_runs.specs.declared.checking.RunFault.{RunFault}
 use Rattle.tko_runs.specs.declared.checking.RunFault.TheVariants as fault
-use Rattle.tko_runs.specs.States.{RunState, calls_in, claimed, entry_at, opened_state, server_of, state_after}
-use Rattle.tko_runs.specs.Words.{CanLeave, IsOwnGroup, room_at}
+use Rattle.tko_runs.specs.States.{RunState, calls_in, claimed, opened_state, state_after}
+use Rattle.tko_runs.specs.Words.{CanLeave, room_at}
 use Rattle.tko_runs.specs.Runs.{RunData}
 use Rattle.tko_steps.specs.declared.step.Kind.{Kind}
 use Rattle.tko_steps.specs.declared.step.Place.{Place}
@@ -21,23 +21,20 @@ use Rattle.tko_steps.specs.Runs.{Call, OwnStep, steps_in}
 
 -- Steps, by the words that they find and leave.
 
--- a step of a thread is on a word that its call may step on, finds that word, and leaves what its
--- kind can leave
+-- a step finds the word at its place, and leaves what its kind can leave, whoever takes it
 pub record FollowsAt
     (s : Settings)
     (state : RunState)
-    (thread : ℕ)
     (kind : Kind)
     (at : Place)
     (found left : Word) : Type 0 where
-  pub own : IsOwnGroup s (server_of (entry_at state thread)) at
   pub finds : found ≡ word_at state.words at
   pub can : CanLeave s (room_at s state.words.slots at) kind found left
 
 abbrev pub Follows : Settings → RunState → Event → Type 0
 Follows s state (Begin thread op server) = Unit {0}
 Follows s state (Step thread kind at found left answer) =
-    FollowsAt s state thread kind at found left
+    FollowsAt s state kind at found left
 
 -- so does each
 abbrev pub AllFollow : Settings → RunState → List Event → Type 0

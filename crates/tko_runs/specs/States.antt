@@ -43,12 +43,6 @@ number_of NotEnrolled = 0
 number_of (Idle number) = number
 number_of (InCall number server) = number
 
--- the server of a thread's call; without a call, 0
-abbrev pub server_of : ThreadEntry → ℕ
-server_of NotEnrolled = 0
-server_of (Idle number) = 0
-server_of (InCall number server) = server
-
 -- an idle thread begins a call on a server
 abbrev pub in_call : ThreadEntry → ℕ → ThreadEntry
 in_call NotEnrolled server = NotEnrolled

@@ -89,13 +89,6 @@ group_at s (place.Server server) = group_of s server
 group_at s (place.Soft group) = group
 group_at s place.Enrolment = 0
 
--- a call on this server may step on the word of a place: a soft word has to be that of the server's
--- group
-abbrev pub IsOwnGroup : Settings → ℕ → Place → Type 0
-IsOwnGroup s server (place.Server other) = Unit {0}
-IsOwnGroup s server (place.Soft group) = group ≡ group_of s server
-IsOwnGroup s server place.Enrolment = Unit {0}
-
 -- how many slots of a group are held, and how many marks and slots it may have
 pub record Room : Type 0 where
   pub held : ℕ

@@ -1,6 +1,6 @@
 -- The rule is kept by an enrolment, and a seat that has all passes knows which number it draws.
-use Rattle.std.proofs.Common.{◌≡◌, ℕ, zero, suc, ◌+◌, ◌%◌, ◌^◌, ◌<◌, ◌≤◌, false, List, [], ◌∷◌, ◌++◌, length, get_or, set, All, Some, count_by, refl, sym, ap, ◌∙◌, subst, inl, inr, arith}
-use Rattle.std.proofs.lemmas.Bool.{cases_Bool, cond-false, cond-true, ne_eqb}
+use Rattle.std.proofs.Common.{◌≡◌, ℕ, zero, suc, ◌+◌, ◌%◌, ◌^◌, ◌<◌, ◌≤◌, false, List, [], ◌∷◌, ◌++◌, length, get_or, set, All, Some, None, true, count_by, refl, sym, ap, ◌∙◌, subst, inl, inr, arith}
+use Rattle.std.proofs.lemmas.Bool.{cases_Bool, cond-false, cond-true, lt-ltb, ne_eqb}
 use Rattle.std.proofs.lemmas.List.{get_or-map, length-append, length-map, map-set}
 use Rattle.std.proofs.lemmas.List.Elements.{All-cons, All-head, All-nil, All-set, All-tail, All-weaker}
 use Rattle.std.proofs.lemmas.List.Sums.{sum_by-cons}
@@ -16,7 +16,11 @@ use Rattle.tko_model.specs.Tracker.{server_at}
 use Rattle.tko_word.specs.Words.{IsWord}
 use Rattle.tko_steps.specs.declared.phase.ThreadState.{ThreadState}
 use Rattle.tko_steps.specs.declared.phase.ThreadState.TheVariants.{NotEnrolled, Idle, InCall}
-use Rattle.tko_steps.specs.Core.{CoreState, Shared, after_enrol, is_enrolled, number_of, owner_of, thread_at}
+use Rattle.tko_steps.specs.declared.step.Kind.TheVariants.{Enrol}
+use Rattle.tko_steps.specs.declared.step.Place.TheVariants as place
+use Rattle.tko_steps.specs.declared.step.Word.TheVariants as held
+use Rattle.tko_steps.specs.Core.{CoreState, Shared, abstract_of, after_enrol, after_step, after_step_from, is_enrolled, number_of, owner_of, reported_by_enrol, reported_by_step, reported_from, thread_at}
+use Rattle.tko_steps.specs.Runs.{Step, StepTaken, Took as TookStep, happens, with_reported}
 use Rattle.tko_steps.specs.Invariant.{IsCore}
 use Rattle.tko_steps.proofs.BeginLemmas.{IsCore-after_enrol}
 use Rattle.tko_steps.proofs.RoomLemmas.{enrolled-le}
@@ -27,7 +31,7 @@ use Rattle.tko_table.specs.declared.pass.Pass.{Pass}
 use Rattle.tko_table.specs.History.{Begins, Replays, changes_in}
 use Rattle.tko_table.specs.Passes.{StandsIn, OwnsItsMarks, HasItsChanges, count_enrolled, enrol_first, enrolled_pass, is_marked_by}
 use Rattle.tko_table.specs.Rule.{IsKept, IsPlanned, core_in, enrolment_place, joined, shared_in, states_of}
-use Rattle.tko_table.specs.Steps.{Enrolled}
+use Rattle.tko_table.specs.Steps.{Enrolled, EnrolsIn}
 use Rattle.tko_table.proofs.AllowsLemmas.{Rule, Seat}
 use Rattle.tko_table.proofs.ChangeLemmas.{none-made}
 use Rattle.tko_table.proofs.HistoryLemmas.{Begins-all}
@@ -149,6 +153,29 @@ undrawn enrolled (Up count) drawn = refl
 undrawn enrolled (Soft owner) drawn = ne_eqb owner enrolled (λ e. let low = drawn owner refl in omega arith)
 undrawn enrolled (Hard owner) drawn = ne_eqb owner enrolled (λ e. let low = drawn owner refl in omega arith)
 
+-- the step by which a thread is enrolled
+abbrev enrolment : CoreState → ℕ → StepTaken
+enrolment core thread =
+    record {
+      thread = thread;
+      kind = Enrol;
+      place = place.Enrolment;
+      found = held.Enrolled core.shared.enrolled;
+      left = held.Enrolled (core.shared.enrolled + 1);
+      won = true;
+      answer = None;
+      before = abstract_of core;
+      after = abstract_of (after_enrol core thread);
+    }
+
+enrolment-turn : (core : CoreState) (thread : ℕ) → thread < length core.threads → thread_at core thread ≡ NotEnrolled
+    → (happens (record { core = core; past = [] }) (Step thread)).past ≡ TookStep (enrolment core thread) ∷ []
+enrolment-turn core thread inside waits =
+    let less = lt-ltb thread (length core.threads) inside in
+    let new : after_step core thread ≡ after_enrol core thread = cond-true _ _ _ less ∙ ap (after_step_from core thread) waits in
+    let reported : reported_by_step core thread ≡ reported_by_enrol core = cond-true _ _ _ less ∙ ap (reported_from core) waits in
+    λ i. with_reported [] thread (abstract_of core) (abstract_of (new i)) (reported i)
+
 module _ (s : Settings) (words : List ℕ) (views : List (List Pass)) (id : ℕ) (before rest : List Pass) (pass : Pass)
     (kept : IsKept s words views) (there : get_elem? views id ≡ some (before ++ pass ∷ rest)) (waits : pass.state ≡ NotEnrolled) where
   one : IsOneOf (joined views) pass (λ new. joined (set views id (before ++ new ∷ rest)))
@@ -166,6 +193,25 @@ module _ (s : Settings) (words : List ℕ) (views : List (List Pass)) (id : ℕ)
       let stands_in : thread_at (core_in s words passes) one.place ≡ NotEnrolled =
       get_or-map (λ (at : Pass). at.state) passes one.place pass NotEnrolled one.inside ∙ ap (λ (at : Pass). at.state) (one.at pass) ∙ waits in
       omega (arith, enrolled-lt (states_of passes) one.place inside stands_in, core.enrolled, core.threads, core.settings.threads.1)
+
+  -- the step is the core's enrolment of its thread
+  pub core-enrols : EnrolsIn (core_in s words (joined views)) (shared_in s words).enrolled
+  core-enrols =
+      let passes = joined views in
+      let core : CoreState = core_in s words passes in
+      let stands_in : thread_at core one.place ≡ NotEnrolled =
+      get_or-map (λ (at : Pass). at.state) passes one.place pass NotEnrolled one.inside ∙ ap (λ (at : Pass). at.state) (one.at pass) ∙ waits in
+      let inside : one.place < length (states_of passes) = omega (arith, one.inside, length-map passes (λ (at : Pass). at.state)) in
+      record {
+        is = kept.core.core;
+        thread = one.place;
+        inside = inside;
+        waits = stands_in;
+        step = enrolment core one.place;
+        turn = enrolment-turn core one.place inside stands_in;
+        found = refl;
+        left = refl;
+      }
 
   pub enrol-kept : (new_word : ℕ) → new_word ≡ (shared_in s words).enrolled + 1
       → IsKept s (set words enrolment_place new_word) (set views id (before ++ enrolled_pass pass (shared_in s words).enrolled kept.history ∷ rest))
@@ -261,6 +307,12 @@ allows-enrol s slots id me some_wait state kept homes at fits =
           few = fewer s state.words state.views id first.earlier first.later first.pass kept there first.waits;
           begins = seen-view (λ (at : Pass). Begins at.seen kept.history) state.views id me.0 at kept.told.seen;
           drew = sym (first.enrols number kept.history);
+          core = core_in s state.words (joined state.views);
+          enrols = core-enrols s state.words state.views id first.earlier first.later first.pass kept there first.waits;
+          settings = seen-view (λ (at : Pass). at.settings ≡ s) state.views id me.0 at kept.core.settings;
+          replays = kept.told.replays;
+          made = seen-view (HasItsChanges kept.history) state.views id me.0 at kept.told.mine;
+          drawn = kept.told.drawn;
           all = λ pass rest is long.
               drawn-alone s state.words state.views id me.0 kept at (long ∙ ap (λ (it : Settings). it.threads) (same_settings pass rest is));
         },

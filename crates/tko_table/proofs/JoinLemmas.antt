@@ -212,3 +212,10 @@ joins s id other view more state kept at apart at_other =
     let seen = seen-view (λ (pass : Pass). Begins pass.seen kept_one.history) views_one id both at_one kept_one.told.seen in
     subst (IsKept s state.words) (set_apart views id other both [] (raised both) apart)
     (kept-raised s state.words views_one id both (longest_seen both) kept_one at_one (longest-begins kept_one.history both seen) (longest-le both))
+
+-- two seats are joined, and each pass has seen what it had seen
+pub gathers : (s : Settings) (id other : ℕ) (view more : List Pass) → Joins (Rule s) id view other more (view ++ more) []
+gathers s id other view more state kept at apart at_other =
+    let views = state.views in
+    let there : get_elem? views other ≡ some more = sym (set_else views id other (view ++ more) apart) ∙ at_other in
+    kept-permuted s state.words views (set (set views id (view ++ more)) other []) (moved views id other view more at there apart) kept

@@ -7,11 +7,13 @@ use Rattle.tko_steps.specs.declared.phase.ThreadState.TheVariants.{NotEnrolled, 
 use Rattle.tko_table.specs.declared.pass.Pass.{Pass}
 use Rattle.tko_table.specs.Steps.{view_of}
 
--- the pass of the thread of this place, where `drawn` threads are enrolled; it owns no server
+-- the pass of the thread of this place, where `drawn` threads are enrolled; it owns no server, made
+-- no call, and has seen an empty history
 pub record IsPassAt (s : Settings) (drawn place : ℕ) (pass : Pass) : Type 0 where
   pub settings : pass.settings ≡ s
   pub owned : pass.owned ≡ []
   pub mine : pass.mine ≡ []
+  pub seen : pass.seen ≡ []
   pub state : pass.state ≡ (if nat_lt place drawn then Idle place else NotEnrolled)
 
 abbrev pub ArePassesFrom : Settings → ℕ → ℕ → List Pass → Type 0
@@ -24,7 +26,8 @@ pub record HasPassesFrom (s : Settings) (drawn place : ℕ) (view : List Pass) :
   pub count : place + length view ≡ s.threads
   pub each : ArePassesFrom s drawn place view
 
--- a seat of this table with the pass of the thread that drew this number, and no slot
+-- a seat of this table with the pass of the thread that drew this number, which made no call and has
+-- seen an empty history, and no slot
 pub record IsSeatAt
     (s : Settings) (table : TableId) (number : ℕ) (seat : Seat (Unit {0}) (List Pass)) : Type 0
   where
@@ -35,6 +38,7 @@ pub record IsSeatAt
     pub settings : pass.settings ≡ s
     pub owned : pass.owned ≡ []
     pub mine : pass.mine ≡ []
+    pub seen : pass.seen ≡ []
     pub state : pass.state ≡ Idle number
 
 -- the seat at each place has the pass of that number

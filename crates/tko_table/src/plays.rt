@@ -126,3 +126,14 @@ impl Join<View> for BothPasses {
 
     ghost spent = { [] };
 }
+
+/// The passes of two seats in one, as they were.
+pub(crate) struct BothAsSeen;
+
+impl Join<View> for BothAsSeen {
+    ghost use Rattle.std.specs.Prelude.{◌++◌, []};
+
+    ghost both = { λ view other. view ++ other };
+
+    ghost spent = { [] };
+}

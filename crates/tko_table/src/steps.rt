@@ -13,8 +13,8 @@ ghost use Rattle.tko_table.specs.Rule.{health_place};
 ghost use Rattle.tko_table.specs.Steps.{CanLook, Enrols, IsAt, IsLook, IsSameSeat, IsShift, IsSound, IsWritable, Looked, Took, is_look_at_slots, is_settle, view_of};
 
 use crate::plays::{
-    self, BothPasses, ChangesSlots, Exchanges, FailsHard, FailsSoftly, FirstPass, Looks,
-    LooksAtSlots, LooksUp, Operation, Releases, Succeeds,
+    self, BothAsSeen, BothPasses, ChangesSlots, Exchanges, FailsHard, FailsSoftly, FirstPass,
+    Looks, LooksAtSlots, LooksUp, Operation, Releases, Succeeds,
 };
 use crate::values::{
     ENROLMENT, is_won, one_slot, one_thread, place_of, slot_over_mark, soft_place_of, word_after,
@@ -293,6 +293,18 @@ impl Words {
         ensures both { view_of seat.new ≡ raised (view_of seat.old ++ view_of other) }
     {
         self.table.shared.join_seat::<BothPasses>(seat, other);
+    }
+
+    /// Gives the seat the passes of another, each of which has seen what it had seen. It loads one
+    /// word.
+    pub fn gather(&self, seat: &mut Seat, other: Seat)
+        requires seat { seat.old.table_id ≡ self.now.table.shared.table_id }
+        requires other { other.table_id ≡ self.now.table.shared.table_id }
+        requires slots { other.me.1 ≡ [] }
+        ensures seat { IsSameSeat seat.old seat.new }
+        ensures both { view_of seat.new ≡ view_of seat.old ++ view_of other }
+    {
+        self.table.shared.join_seat::<BothAsSeen>(seat, other);
     }
 }
 

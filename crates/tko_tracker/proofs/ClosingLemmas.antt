@@ -1,5 +1,5 @@
 -- Seats that meet and seats that are joined, and what a closed tracker leaves.
-use Rattle.std.proofs.Common.{◌≡◌, ℕ, suc, List, [], ◌∷◌, ◌++◌, map, length, All, refl, sym, ap, ◌∙◌, subst}
+use Rattle.std.proofs.Common.{◌≡◌, ℕ, suc, List, [], ◌∷◌, ◌++◌, map, length, All, refl, sym, ap, ◌∙◌, ◌<◌, arith, subst}
 use Rattle.std.proofs.lemmas.List.{append-nil, append_assoc, length-map}
 use Rattle.std.proofs.lemmas.List.Elements.{All-append, All-cons, All-head, All-nil, All-tail}
 use Rattle.atomic_table.specs.declared.shared.Seat.{Seat}
@@ -8,59 +8,28 @@ use Rattle.tko_steps.specs.Core.{number_of}
 use Rattle.tko_table.specs.declared.pass.Change.{Change}
 use Rattle.tko_table.specs.declared.pass.Pass.{Pass}
 use Rattle.tko_table.specs.Closing.{IsDone, IsLeft, Left}
-use Rattle.tko_table.specs.History.{changes_in}
-use Rattle.tko_table.specs.Passes.{StandsIn, HasItsChanges, longest_seen, pending, raised, with_seen}
+use Rattle.tko_table.specs.History.{Begins, Replays, changes_in}
+use Rattle.tko_table.specs.Passes.{StandsIn, HasItsChanges, pending}
 use Rattle.tko_table.specs.Steps.{view_of}
 use Rattle.tko_tracker.specs.Closing.{AreJoined, AreSame, IsFinal, IsSame, HasItsCalls}
-use Rattle.tko_tracker.specs.Seated.{HasIdlePass, IsOf, Seated, TrackerId, first_pass, seated}
+use Rattle.tko_model.specs.Tracker.{opened}
+use Rattle.tko_table.proofs.OpeningLemmas.{nothing-made}
+use Rattle.tko_tracker.specs.Seated.{ArePasses, HasIdlePass, IsOf, Seated, TrackerId, first_pass, seated}
 
 -- ---- passes that stay the same
 
 same-refl : (pass : Pass) → IsSame pass pass
-same-refl pass = record { state = refl; mine = refl; settings = refl }
-
-same-trans : (one two three : Pass) → IsSame one two → IsSame two three → IsSame one three
-same-trans one two three first second =
-    record { state = second.state ∙ first.state; mine = second.mine ∙ first.mine; settings = second.settings ∙ first.settings }
+same-refl pass = record { state = refl; mine = refl; seen = refl; settings = refl }
 
 are-refl : (passes : List Pass) → AreSame passes passes
 are-refl [] = tt
 are-refl (pass ∷ passes) = (same-refl pass, are-refl passes)
-
-are-trans : (one two three : List Pass) → AreSame one two → AreSame two three → AreSame one three
-are-trans [] [] three first second = second
-are-trans [] (two ∷ twos) three first second = absurd first
-are-trans (one ∷ ones) [] three first second = absurd first
-are-trans (one ∷ ones) (two ∷ twos) [] first second = absurd second
-are-trans (one ∷ ones) (two ∷ twos) (three ∷ threes) first second =
-    (same-trans one two three first.0 second.0, are-trans ones twos threes first.1 second.1)
-
-are-append : (one two more : List Pass) → AreSame one two → AreSame (one ++ more) (two ++ more)
-are-append [] [] more are = are-refl more
-are-append [] (two ∷ twos) more are = absurd are
-are-append (one ∷ ones) [] more are = absurd are
-are-append (one ∷ ones) (two ∷ twos) more are = (are.0, are-append ones twos more are.1)
-
-are-seen : (history : List Change) (passes : List Pass) → AreSame passes (map (with_seen history) passes)
-are-seen history [] = tt
-are-seen history (pass ∷ passes) = (record { state = refl; mine = refl; settings = refl }, are-seen history passes)
-
-are-raised : (passes : List Pass) → AreSame passes (raised passes)
-are-raised passes = are-seen (longest_seen passes) passes
 
 pub are-length : (one two : List Pass) → AreSame one two → length one ≡ length two
 are-length [] [] are = refl
 are-length [] (two ∷ twos) are = absurd are
 are-length (one ∷ ones) [] are = absurd are
 are-length (one ∷ ones) (two ∷ twos) are = ap suc (are-length ones twos are.1)
-
-done-seen : (history : List Change) (passes : List Pass) → All IsDone passes → All IsDone (map (with_seen history) passes)
-done-seen history [] all = All-nil IsDone
-done-seen history (pass ∷ passes) all =
-    let done = All-head IsDone pass passes all in
-    All-cons IsDone (with_seen history pass) (map (with_seen history) passes)
-    (record { number = done.number; idle = done.idle; none = done.none })
-    (done-seen history passes (All-tail IsDone pass passes all))
 
 -- ---- seats that are joined one after another
 
@@ -92,7 +61,7 @@ gathered-first passes left number seat value has is all =
     }
 
 pub gathered-next : (passes left rest : List Seated) (view new : List Pass) (number : ℕ) (seat : Seat (Unit {0}) (List Pass)) (value : Seated)
-    → IsGathered passes view left → HasIdlePass number seat → seated seat ≡ value → left ≡ value ∷ rest → new ≡ raised (view ++ view_of seat)
+    → IsGathered passes view left → HasIdlePass number seat → seated seat ≡ value → left ≡ value ∷ rest → new ≡ view ++ view_of seat
     → IsGathered passes new rest
 gathered-next passes left rest view new number seat value gathered has is next made =
     let first = done-first number seat value has is in
@@ -100,13 +69,9 @@ gathered-next passes left rest view new number seat value gathered has is next m
     let as_left : view ++ map pass_of left ≡ both ++ map pass_of rest =
     ap (λ it. view ++ map pass_of it) next ∙ sym (append_assoc view (value.pass ∷ []) (map pass_of rest))
     ∙ ap (λ it. (view ++ it) ++ map pass_of rest) (sym first.0) in
-    let were : AreSame (map pass_of passes) (both ++ map pass_of rest) = subst (AreSame (map pass_of passes)) as_left gathered.same in
-    let now : AreSame (map pass_of passes) (raised both ++ map pass_of rest) =
-    are-trans (map pass_of passes) (both ++ map pass_of rest) (raised both ++ map pass_of rest) were
-    (are-append both (raised both) (map pass_of rest) (are-raised both)) in
     record {
-      same = subst (λ it. AreSame (map pass_of passes) (it ++ map pass_of rest)) (sym made) now;
-      done = subst (All IsDone) (sym made) (done-seen (longest_seen both) both (All-append IsDone view (view_of seat) gathered.done first.1));
+      same = subst (λ it. AreSame (map pass_of passes) (it ++ map pass_of rest)) (sym made) (subst (AreSame (map pass_of passes)) as_left gathered.same);
+      done = subst (All IsDone) (sym made) (All-append IsDone view (view_of seat) gathered.done first.1);
     }
 
 -- the first seat, of a pass of this tracker
@@ -121,7 +86,7 @@ gathered-start tracker passes left number seat value has is all of =
     )
 
 pub gathered-step : (tracker : TrackerId) (passes left rest : List Seated) (view new : List Pass) (number : ℕ) (seat : Seat (Unit {0}) (List Pass)) (value : Seated)
-    → IsGathered passes view left → HasIdlePass number seat → seated seat ≡ value → left ≡ value ∷ rest → new ≡ raised (view ++ view_of seat)
+    → IsGathered passes view left → HasIdlePass number seat → seated seat ≡ value → left ≡ value ∷ rest → new ≡ view ++ view_of seat
     → All (IsOf tracker) left → IsGathered passes new rest × All (IsOf tracker) rest
 gathered-step tracker passes left rest view new number seat value gathered has is next made of = (
   gathered-next passes left rest view new number seat value gathered has is next made,
@@ -151,6 +116,16 @@ tell-all history (pass ∷ passes) (new ∷ view) same told =
     All-cons (HasItsCalls history) pass passes (told-of history pass new same.0 (All-head (HasItsChanges history) new view told))
     (tell-all history passes view same.1 (All-tail (HasItsChanges history) new view told))
 
+seen-all : (history : List Change) (passes : List Seated) (view : List Pass) → AreSame (map pass_of passes) view
+    → All (λ (pass : Pass). Begins pass.seen history) view → All (λ (it : Seated). Begins it.pass.seen history) passes
+seen-all history [] view same seen = All-nil (λ (it : Seated). Begins it.pass.seen history)
+seen-all history (pass ∷ passes) [] same seen = absurd same
+seen-all history (pass ∷ passes) (new ∷ view) same seen =
+    let Sees : Pass → Type 0 = λ (it : Pass). Begins it.seen history in
+    All-cons (λ (it : Seated). Begins it.pass.seen history) pass passes
+    (subst (λ it. Begins it history) same.0.seen (All-head Sees new view seen))
+    (seen-all history passes view same.1 (All-tail Sees new view seen))
+
 pub final-is : (tracker : TrackerId) (passes : List Seated) (view : List Pass) (left : Left) → AreJoined passes view
     → left.settings ≡ tracker.settings → IsLeft tracker.settings view left.shared → IsFinal tracker passes left
 final-is tracker passes view left joined settings is =
@@ -158,6 +133,7 @@ final-is tracker passes view left joined settings is =
       settings = settings;
       history = is.history;
       replays = is.replays;
+      seen = seen-all is.history passes view joined.same is.seen;
       mine = tell-all is.history passes view joined.same is.mine;
       drawn = is.drawn;
       unmarked = is.unmarked;
@@ -166,3 +142,14 @@ final-is tracker passes view left joined settings is =
 
 pub joined-length : (passes : List Seated) (view : List Pass) → AreJoined passes view → length view ≡ length passes
 joined-length passes view joined = sym (are-length (map pass_of passes) view joined.same) ∙ length-map passes pass_of
+
+-- where no thread made a call, nothing was changed
+pub up-at-once : (tracker : TrackerId) (passes : List Seated) (left : Left) → ArePasses tracker passes → length passes ≡ tracker.settings.threads
+    → IsFinal tracker passes left → left.shared.servers ≡ (opened tracker.settings).servers
+up-at-once tracker passes left are all final =
+    let other : Seated = record { pass = first_pass []; table = tracker.table } in
+    let none = λ (number : ℕ) (low : number < tracker.settings.threads).
+    let inside : number < length passes = omega (arith, low, all) in
+    final.mine number other inside number (are.each number other inside).1 ∙ ap (changes_in number) (are.fresh number other inside).mine in
+    let nothing : final.history ≡ [] = nothing-made tracker.settings.threads final.history none final.drawn in
+    (subst (λ it. Replays tracker.settings it left.shared.servers) nothing final.replays).leads

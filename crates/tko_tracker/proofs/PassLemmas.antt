@@ -10,7 +10,7 @@ use Rattle.tko_table.specs.declared.pass.Pass.{Pass}
 use Rattle.tko_table.specs.Opening.{AreSeats, IsSeatAt}
 use Rattle.tko_table.specs.Passes.{owns}
 use Rattle.tko_table.specs.Steps.{view_of}
-use Rattle.tko_tracker.specs.Seated.{ArePasses, HasIdlePass, HasOwnedPass, IsOf, Seated, TrackerId, first_pass, seated}
+use Rattle.tko_tracker.specs.Seated.{ArePasses, IsFresh, HasIdlePass, HasOwnedPass, IsOf, Seated, TrackerId, first_pass, seated}
 use Rattle.tko_tracker.proofs.OwnedLemmas.{is_set-past}
 
 -- a server past the last has no bit, and no pass owns it
@@ -70,8 +70,37 @@ idle-of s table number seat is =
       ap (λ (pass : Pass). pass.state) first ∙ is.state,
     )
 
+-- nothing happened yet
+pub seat_fresh : (s : Settings) (table : TableId) (number : ℕ) (seat : Seat (Unit {0}) (List Pass)) → IsSeatAt s table number seat
+    → IsFresh (seated seat).pass
+seat_fresh s table number seat is =
+    let first : first_pass (view_of seat) ≡ is.pass = ap first_pass is.alone in
+    record {
+      owned = ap (λ (pass : Pass). pass.owned) first ∙ is.owned;
+      mine = ap (λ (pass : Pass). pass.mine) first ∙ is.mine;
+      seen = ap (λ (pass : Pass). pass.seen) first ∙ is.seen;
+    }
+
 pub passes-none : (tracker : TrackerId) → ArePasses tracker []
-passes-none tracker = record { each = λ place other inside. absurd (omega (arith, inside)) }
+passes-none tracker =
+    record { each = λ place other inside. absurd (omega (arith, inside)); fresh = λ place other inside. absurd (omega (arith, inside)) }
+
+-- a fact of each place, with one more at the end
+each-push : (P : ℕ → Seated → Type 0) (passes : List Seated) (one : Seated)
+    → ((place : ℕ) (other : Seated) → place < length passes → P place (get_or passes place other)) → P (length passes) one
+    → (place : ℕ) (other : Seated) → place < length (passes ++ one ∷ []) → P place (get_or (passes ++ one ∷ []) place other)
+each-push P passes one each last place other inside =
+    let long = length-append passes (one ∷ []) in
+    ⊎_elim
+    (λ (less : place < length passes).
+    subst (P place) (sym (get_or_append_left passes (one ∷ []) other place less)) (each place other less))
+    (λ (le : length passes ≤ place).
+    let here : length passes + 0 ≡ place = omega arith in
+    let at : get_or (passes ++ one ∷ []) place other ≡ one =
+    subst (λ it. get_or (passes ++ one ∷ []) it other ≡ one) here (get_or-append-add passes (one ∷ []) 0 other) in
+    let same : length passes ≡ place = omega arith in
+    subst (P place) (sym at) (subst (λ it. P it one) same last))
+    (cases_lt place (length passes))
 
 -- one more pass, of the next number
 pub passes-push : (s : Settings) (table : TableId) (passes made : List Seated) (seat : Seat (Unit {0}) (List Pass))
@@ -79,21 +108,11 @@ pub passes-push : (s : Settings) (table : TableId) (passes made : List Seated) (
     → ArePasses (record { settings = s; table = table }) made
 passes-push s table passes made seat are is pushed =
     let tracker : TrackerId = record { settings = s; table = table } in
-    let P : ℕ → Seated → Type 0 = λ place it. IsOf tracker it × (it.pass.state ≡ Idle place) in
     subst (ArePasses tracker) (sym pushed)
     (record {
-      each = λ place other inside.
-          let long = length-append passes (seated seat ∷ []) in
-          ⊎_elim
-          (λ (less : place < length passes).
-          subst (P place) (sym (get_or_append_left passes (seated seat ∷ []) other place less)) (are.each place other less))
-          (λ (le : length passes ≤ place).
-          let here : length passes + 0 ≡ place = omega arith in
-          let at : get_or (passes ++ seated seat ∷ []) place other ≡ seated seat =
-          subst (λ it. get_or (passes ++ seated seat ∷ []) it other ≡ seated seat) here (get_or-append-add passes (seated seat ∷ []) 0 other) in
-          let same : length passes ≡ place = omega arith in
-          subst (P place) (sym at) (subst (λ it. P it (seated seat)) same (idle-of s table (length passes) seat is)))
-          (cases_lt place (length passes));
+      each = each-push (λ place it. IsOf tracker it × (it.pass.state ≡ Idle place)) passes (seated seat) are.each
+          (idle-of s table (length passes) seat is);
+      fresh = each-push (λ place it. IsFresh it.pass) passes (seated seat) are.fresh (seat_fresh s table (length passes) seat is);
     })
 
 -- the next seat is taken from those that are left, and becomes a pass
@@ -112,12 +131,13 @@ pass-made s table passes made seat seats rest are from count next pushed =
       omega (arith, long, fewer, count),
     )
 
--- the next seat makes an idle pass
-pub pass-idle : (s : Settings) (table : TableId) (passes number : ℕ) (seat : Seat (Unit {0}) (List Pass))
+-- the next seat is that of the next number
+pub seat-next : (s : Settings) (table : TableId) (passes number : ℕ) (seat : Seat (Unit {0}) (List Pass))
     (seats rest : List (Seat (Unit {0}) (List Pass))) → AreSeatsFrom s table passes seats → passes + length seats ≡ s.threads
-    → seats ≡ seat ∷ rest → number ≡ passes → HasIdlePass number seat
-pass-idle s table passes number seat seats rest from count next same =
+    → seats ≡ seat ∷ rest → number ≡ passes → IsSeatAt s table number seat × (number < s.threads)
+seat-next s table passes number seat seats rest from count next same =
     let left = subst (AreSeatsFrom s table passes) next from in
-    let fewer : length seats ≡ length (seat ∷ rest) = ap length next in
-    subst (λ it. HasIdlePass it seat) (sym same)
-    (idle-seat s table passes seat (seats-head s table passes seat rest left) (omega (arith, fewer, count)))
+    let fewer : length seats ≡ length (seat ∷ rest) = ap length next in (
+      subst (λ it. IsSeatAt s table it seat) (sym same) (seats-head s table passes seat rest left),
+      omega (arith, fewer, count, same),
+    )

@@ -7,12 +7,12 @@ use Rattle.tko_steps.specs.Steps.{is_marked_state}
 use Rattle.tko_table.specs.declared.pass.Change.{Change}
 use Rattle.tko_table.specs.declared.pass.Pass.{Pass}
 use Rattle.tko_table.specs.Closing.{IsDone, Left}
-use Rattle.tko_table.specs.History.{Replays, changes_in, made_by}
+use Rattle.tko_table.specs.History.{Begins, Replays, changes_in, made_by}
 use Rattle.tko_table.specs.Passes.{longest_seen, with_seen}
 use Rattle.tko_tracker.specs.Seated.{Seated, TrackerId}
 use Rattle.tko_model.specs.Groups.{groups}
 
--- the pass once these two met: it has then seen the more of what they had seen
+-- the pass once these two met: it has then seen the longer of the histories that they had seen
 abbrev pub met : Seated → Seated → Seated → Seated
 met one other pass =
     record {
@@ -35,13 +35,14 @@ HasItsCalls history it =
     (number : ℕ) →
     it.pass.state ≡ Idle number → made_by number history ≡ changes_in number it.pass.mine
 
--- what a tracker is at its end: its servers are the replay of one history, in which each pass'
--- changes stand once and in order, and no others; no server is marked, and no slot of any
--- group is taken
+-- what a tracker is at its end: its servers are the replay of one history, which begins with what
+-- each pass has seen, and in which each pass' changes stand once and in order, and no others; no
+-- server is marked, and no slot of any group is taken
 pub record IsFinal (tracker : TrackerId) (passes : List Seated) (left : Left) : Type 0 where
   pub settings : left.settings ≡ tracker.settings
   pub history : List Change
   pub replays : Replays tracker.settings history left.shared.servers
+  pub seen : All (λ (it : Seated). Begins it.pass.seen history) passes
   pub mine : All (HasItsCalls history) passes
   pub drawn : All (λ change. change.number < tracker.settings.threads) history
   pub unmarked :
@@ -51,10 +52,11 @@ pub record IsFinal (tracker : TrackerId) (passes : List Seated) (left : Left) : 
 
 -- Seats that are joined.
 
--- a pass of a joined seat is this one, though it may have seen more
+-- a pass of a joined seat is this one
 pub record IsSame (old new : Pass) : Type 0 where
   pub state : new.state ≡ old.state
   pub mine : new.mine ≡ old.mine
+  pub seen : new.seen ≡ old.seen
   pub settings : new.settings ≡ old.settings
 
 abbrev pub AreSame : List Pass → List Pass → Type 0

@@ -89,12 +89,22 @@ pub record IsOf (tracker : TrackerId) (seated : Seated) : Type 0 where
   pub table : seated.table ≡ tracker.table
   pub settings : seated.pass.settings ≡ tracker.settings
 
--- the pass at each place is this tracker's, and has the number of its place
+-- nothing has happened that the thread of this pass knows of: it owns no server and made no call,
+-- and the history that it has seen is empty
+pub record IsFresh (pass : Pass) : Type 0 where
+  pub owned : pass.owned ≡ []
+  pub mine : pass.mine ≡ []
+  pub seen : pass.seen ≡ []
+
+-- the pass at each place is this tracker's, and has the number of its place; no thread has made a
+-- call yet
 pub record ArePasses (tracker : TrackerId) (passes : List Seated) : Type 0 where
   pub each : (place : ℕ) (other : Seated) →
       place < length passes →
       IsOf tracker (slice_index_or passes place other)
       × ((slice_index_or passes place other).pass.state ≡ Idle place)
+  pub fresh : (place : ℕ) (other : Seated) →
+      place < length passes → IsFresh (slice_index_or passes place other).pass
 
 -- a pass of this tracker made a call with this answer, within the bound of its steps, and is idle
 -- again

@@ -15,7 +15,7 @@ use tko_table::{ClosedWords, Seat, Words};
 
 impl Tracker {
     /// Joins the seats of two passes and splits them again, by one load each. Each has then seen
-    /// what either had seen.
+    /// the longer of the histories that they had seen.
     pub fn meet(&self, one: Pass, other: Pass) -> (Pass, Pass)
         requires one { IsOf self.now one }
         requires other { IsOf self.now other }
@@ -155,7 +155,7 @@ fn joined(words: &Words, passes: Vec<IdlePass>) -> Seat
     };
     let mut seat = first.seat;
     for pass in rest {
-        words.join(&mut seat, pass.seat);
+        words.gather(&mut seat, pass.seat);
     }
     seat
 }

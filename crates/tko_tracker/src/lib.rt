@@ -13,6 +13,7 @@
 
 mod calls;
 mod closing;
+mod laws;
 mod named;
 mod owned;
 mod pass;
@@ -21,6 +22,7 @@ mod step;
 mod tracker;
 
 pub use closing::{Final, close};
+pub use laws::opened_tracker_is_up;
 pub use named::Named;
 pub use pass::{IdlePass, Pass, wake};
 pub use tracker::{Tracker, open};

@@ -1,8 +1,8 @@
 //! The tracker, and how it opens.
 ghost use Rattle.std.specs.Prelude.{◌≡◌, ◌↔◌, ◌<◌, Some, IfOk, length};
 ghost use Rattle.tko_model.specs.Ranges.{first_fault};
-ghost use Rattle.tko_table.specs.Opening.{AreSeats};
-ghost use Rattle.tko_tracker.specs.Seated.{ArePasses, tracker_of};
+ghost use Rattle.tko_table.specs.Opening.{AreSeats, IsSeatAt};
+ghost use Rattle.tko_tracker.specs.Seated.{ArePasses, IsFresh, seated, tracker_of};
 
 use crate::IdlePass;
 use std::alloc::{AllocError, Global};
@@ -51,8 +51,19 @@ fn idle_passes(alloc: Global, words: &Words, seats: Vec<Seat>) -> Result<Vec<Idl
     let mut passes = Vec::with_capacity(alloc, seats.len())?;
     let mut number = 0;
     for seat in seats {
-        passes.push(IdlePass { number, seat })?;
+        passes.push(idle_pass(words, number, seat))?;
         number += 1;
     }
     Ok(passes)
+}
+
+/// The pass of the thread of this number, which has made no call.
+fn idle_pass(words: &Words, number: u32, seat: Seat) -> IdlePass
+    requires seat { IsSeatAt words.now.settings words.now.table.shared.table_id number seat }
+    requires within { number < words.now.settings.threads }
+    ensures same { result ≡ seated seat }
+    ensures fresh { IsFresh result.pass }
+{
+    let _ = words;
+    IdlePass { number, seat }
 }

@@ -90,3 +90,29 @@ fn passes_of_1024_threads_are_lent(rt: HostRuntime) -> Result<(), Fail> {
     assert!(rt; close(tracker, left).is_ok());
     Ok(())
 }
+
+/// Gives one pass more to a desk that has all that it was opened with. Returns the number of the
+/// pass that came back, and how many the desk then has.
+fn give_one_more<R: Wait, N: Named>(
+    rt: &R,
+    tracker: &Tracker,
+    passes: Vec<IdlePass>,
+) -> Option<(u32, usize)>
+    requires tracker { tracker.now ≡ N.tracker }
+    requires passes { ArePasses N.tracker passes.items }
+{
+    let _ = tracker;
+    let mut passes = passes;
+    let last = passes.pop()?;
+    let desk = Desk::<N>::open(passes);
+    let back = desk.give(rt, last).err()?;
+    Some((back.number(), desk.end().len()))
+}
+
+#[test]
+fn a_full_desk_gives_the_pass_back(rt: HostRuntime) -> Result<(), Fail> {
+    let (tracker, passes) = open(rt.alloc(), SETTINGS.settings(rt.alloc())?)?;
+    let back = give_one_more::<_, Brand>(&rt, &tracker, passes);
+    assert_eq!(rt; back, Some((2, 2)));
+    Ok(())
+}

@@ -1,7 +1,7 @@
 //! What the check of a run keeps of the events so far.
 ghost use Rattle.std.specs.Prelude.{◌≡◌, ◌+◌, ◌<◌, ◌^◌, ◌↔◌, true, length, IfOk, IfErr, OnOk};
 ghost use Rattle.tko_model.specs.Ranges.{IsWithinRanges};
-ghost use Rattle.tko_runs.specs.Words.{IsOwnGroup, room_at};
+ghost use Rattle.tko_runs.specs.Words.{room_at};
 ghost use Rattle.tko_runs.specs.States.{CanCome, HasCall, IsPlace, entry_at};
 ghost use Rattle.tko_runs.specs.Orders.{FollowsAt};
 ghost use Rattle.tko_steps.specs.Core.{word_at};
@@ -93,10 +93,10 @@ impl CheckState {
         requires room { self.old.steps + 1 < 2 ^ 64 }
         ensures ok { OnOk result
             (HasFollowed self.old thread kind place found left answer self.new) }
-        ensures err { IfErr result (IsStrayFault self.old thread kind place found left) }
+        ensures err { IfErr result (IsStrayFault self.old kind place found left) }
     {
         self.steps += 1;
-        if !follows(&self.settings, &self.run, thread, kind, place, found, left) {
+        if !follows(&self.settings, &self.run, kind, place, found, left) {
             return Err(RunFault::Step(self.steps));
         }
         let effect = effect_of(
@@ -120,35 +120,20 @@ impl CheckState {
     }
 }
 
-/// Whether a step of a thread is on a word that its call may step on, finds that word, and leaves
-/// what its kind can leave.
+/// Whether a step finds the word at its place, and leaves what its kind can leave.
 fn follows(
     settings: &Settings,
     run: &State,
-    thread: usize,
     kind: Kind,
     place: Place,
     found: Word,
     left: Word,
 ) -> bool
-    requires thread { thread < length run.now.threads }
     requires place { IsPlace run.now.words place }
-    ensures { (result ≡ true) ↔ FollowsAt settings.now run.now thread kind place found left }
+    ensures { (result ≡ true) ↔ FollowsAt settings.now run.now kind place found left }
 {
-    is_own_group(settings, run.server_of(thread), place)
-        && is_word(run, place, found)
+    is_word(run, place, found)
         && can_leave(settings, room_at(settings, run, place), kind, found, left)
-}
-
-/// Whether a call on this server may step on the word at a place: a soft word has to be that of the
-/// server's group.
-fn is_own_group(settings: &Settings, server: usize, place: Place) -> bool
-    ensures { (result ≡ true) ↔ IsOwnGroup settings.now server place }
-{
-    match place {
-        Place::Soft(group) => group == settings.group_of(server),
-        Place::Server(_) | Place::Enrolment => true,
-    }
 }
 
 /// The room of the group of a place.

@@ -158,12 +158,30 @@ fn slots_follow(rt: HostRuntime) -> Result<(), Fail> {
     Ok(())
 }
 
-/// The soft word of the other group holds what the step claims to find; it is not the call's.
+/// A look of thread 1, whose call is on the second server, at the first.
+fn at_first(found: ServerState) -> Event {
+    Event::Step {
+        thread: 1,
+        kind: Kind::Look,
+        place: Place::Server(0),
+        found: Word::Server(found),
+        left: Word::Server(found),
+        answer: None,
+    }
+}
+
+/// The word decides, and not whether it is one that the call steps on.
 #[test]
-fn a_soft_word_is_that_of_the_group_of_the_server(rt: HostRuntime) -> Result<(), Fail> {
-    let look = on_slots(Kind::Look, 1, 0);
-    let changed = fault_of(rt.alloc(), EACH_IN_ITS_GROUP, SLOTS, look)?;
-    assert_eq!(rt; changed, Some(RunFault::Step(7)));
+fn words_of_another_server_and_group_are_judged_alike(rt: HostRuntime) -> Result<(), Fail> {
+    for (event, fault) in [
+        (on_slots(Kind::Look, 1, 0), None),
+        (on_slots(Kind::Give, 1, 0), Some(RunFault::Step(7))),
+        (at_first(state(Mark::Soft(0), 1)), None),
+        (at_first(state(Mark::Up(0), 0)), Some(RunFault::Step(7))),
+    ] {
+        let changed = fault_of(rt.alloc(), EACH_IN_ITS_GROUP, SLOTS, event)?;
+        assert_eq!(rt; changed, fault);
+    }
     Ok(())
 }
 

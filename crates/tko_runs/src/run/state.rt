@@ -4,7 +4,7 @@
 //! the words are at the end.
 ghost use Rattle.std.specs.Prelude.{◌≡◌, ◌↔◌, ◌<◌, ◌+◌, None, true, length, IfOk};
 ghost use Rattle.tko_steps.specs.Core.{slots_at};
-ghost use Rattle.tko_runs.specs.States.{CanCome, HasCall, IsEnrolment, IsIdle, IsPlace, entry_at, number_of, opened_state, server_of, state_after, with_answer, with_begin, with_enrolment, with_word};
+ghost use Rattle.tko_runs.specs.States.{CanCome, HasCall, IsEnrolment, IsIdle, IsPlace, entry_at, number_of, opened_state, state_after, with_answer, with_begin, with_enrolment, with_word};
 ghost use Rattle.tko_steps.specs.Core.{is_call_step, word_at};
 
 use crate::Event;
@@ -106,17 +106,6 @@ impl State {
         match self.threads[thread] {
             ThreadEntry::NotEnrolled => 0,
             ThreadEntry::Idle { number } | ThreadEntry::InCall { number, .. } => number,
-        }
-    }
-
-    /// The server of a thread's call; without a call, 0.
-    pub fn server_of(&self, thread: usize) -> usize
-        requires { thread < length self.now.threads }
-        ensures { result ≡ server_of (entry_at self.now thread) }
-    {
-        match self.threads[thread] {
-            ThreadEntry::NotEnrolled | ThreadEntry::Idle { .. } => 0,
-            ThreadEntry::InCall { server, .. } => server,
         }
     }
 

@@ -68,20 +68,31 @@ fn last_change_before_the_stamp_is_worn(rt: HostRuntime) -> Result<(), Fail> {
 #[test]
 fn worn_stamp(rt: HostRuntime) -> Result<(), Fail> {
     let settings = OneGroup {
+        failures: 2,
         opening_stamp: WORN,
         ..SETTINGS
     };
-    let calls = [
+    let worn = [
         (Op::SoftFailure, Reply::Worn),
         (Op::HardFailure, Reply::Worn),
         (Op::LookUp, Reply::Up(0)),
         (Op::Success, Reply::Clean),
         (Op::Release, Reply::NotMine(Mark::Up(0))),
     ];
-    play(&rt, rt.alloc(), settings, &calls, WORN)?;
+    play(&rt, rt.alloc(), settings, &worn, WORN)?;
+    let last = [
+        (Op::HardFailure, Reply::TookHard),
+        (Op::Success, Reply::Unmarked(Mark::Hard(0))),
+        (Op::SoftFailure, Reply::Worn),
+    ];
+    let before = OneGroup {
+        opening_stamp: WORN - 1,
+        ..settings
+    };
+    play(&rt, rt.alloc(), before, &last, WORN + 1)?;
     let past = OneGroup {
         opening_stamp: WORN + 1,
-        ..SETTINGS
+        ..settings
     };
     let fault = open(rt.alloc(), past.settings(rt.alloc())?).err();
     assert!(rt; matches!(fault, Some(OpenFault::Settings(SettingsFault::Stamp))));
@@ -153,5 +164,31 @@ fn tracker_of_1024_threads(rt: HostRuntime) -> Result<(), Fail> {
         panic!(rt; "a pass is missing")
     };
     assert_eq!(rt; is_at(&last, 0), (Mark::Up(0), 0));
+    Ok(())
+}
+
+/// As many groups as there may be, each of one server.
+#[test]
+fn tracker_of_256_groups(rt: HostRuntime) -> Result<(), Fail> {
+    let alloc = rt.alloc();
+    let settings = Settings {
+        servers: 256,
+        limits: vec![in alloc; 1; 256]?,
+        group_of: (0..256).collect(alloc)?,
+        ..SETTINGS.settings(alloc)?
+    };
+    let (tracker, mut passes) = open(alloc, settings)?;
+    assert!(rt; passes.len() == 1);
+    let mut pass = wake(passes.pop().expect(&rt, "a pass"));
+    assert_eq!(rt;
+        reply(&tracker, &mut pass, Op::SoftFailure, 255),
+        Reply::TookSoft
+    );
+    passes.push(tracker.retire(pass))?;
+    let Ok(last) = close(tracker, passes) else {
+        panic!(rt; "a pass is missing")
+    };
+    assert!(rt; last.groups() == 256);
+    assert_eq!(rt; last.soft(255), (0, 0));
     Ok(())
 }

@@ -16,11 +16,11 @@ loop-pass-init c =
 pub loop-pass-preserved : goal.loop-pass-preserved
 loop-pass-preserved c =
     let i = c.loop-pass.invariant in
-    let step = gathered-step (tracker_of c.args.words.now) c.args.passes.items _ _ (view_of c.loop-pass.seat) (view_of c.join.new.seat)
+    let step = gathered-step (tracker_of c.args.words.now) c.args.passes.items _ _ (view_of c.loop-pass.seat) (view_of c.gather.new.seat)
     c.pass.inside.number c.pass.inside.seat c.in-Some-pass.pass i.2 c.pass.invariant c.pass.view_is c.in-Some-pass.ensures.steps.0
-    c.join.ensures.both i.4 in (tt, tt, step.0, c.join.ensures.seat.0 ∙ i.3, step.1)
+    c.gather.ensures.both i.4 in (tt, tt, step.0, c.gather.ensures.seat.0 ∙ i.3, step.1)
 
-pub join-requires-clause-other : goal.join-requires-clause-other
-join-requires-clause-other c =
+pub gather-requires-clause-other : goal.gather-requires-clause-other
+gather-requires-clause-other c =
     let of_left = subst (All (IsOf (tracker_of c.args.words.now))) c.in-Some-pass.ensures.steps.0 c.loop-pass.invariant.4 in
     ap (λ (it : Seated). it.table) c.pass.view_is ∙ (All-head (IsOf (tracker_of c.args.words.now)) c.in-Some-pass.pass _ of_left).table

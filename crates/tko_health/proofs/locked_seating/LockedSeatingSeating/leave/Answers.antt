@@ -1,7 +1,7 @@
-use Rattle.std.proofs.Common.{rules}
-use Rattle.tko_health.proofs.LockedLemmas.{seat_released}
+use Rattle.std.proofs.Common.{refl}
+use Rattle.tko_health.proofs.SeatingLemmas.{leaves_released}
 use Rattle.tko_health.proofs.locked_seating.LockedSeatingSeating.leave.Goals as goal
 
-pub loop-server-preserved : goal.loop-server-preserved
-loop-server-preserved g c =
-    seat_released c.release.ensures.step (search rules) c.loop-server.invariant.1 c.loop-server.invariant.0
+pub returns-clause-leaves : goal.returns-clause-leaves
+returns-clause-leaves g c =
+    leaves_released c.release_all.ensures.releases (record { same = refl; none = c.release_all.ensures.none })
