@@ -2,9 +2,10 @@
 use Rattle.std.proofs.Common.{◌≡◌, ℕ, Bool, Result, Ok, Err, List, [], ◌∷◌, ◌++◌, append-nil, length, refl, sym, ap, subst}
 use Rattle.std.specs.Prelude.{IfOk}
 use Rattle.tko_model.specs.Records.{HealthItem}
+use Rattle.tko_model.proofs.RecordLemmas.{gains_none}
 use Rattle.tko_text.specs.declared.request.Request.{Request}
 use Rattle.tko_answer.specs.Answering.{retrieval}
-use Rattle.tko_answer.specs.Asking.{Begins, IsFirst, answered, keyed, of_several}
+use Rattle.tko_answer.specs.Asking.{AnsweredItself, Begins, IsFirst, answered, keyed, of_several}
 use Rattle.tko_answer.specs.Standing.{answer_state}
 use Rattle.tko_answer.specs.Standing as answer
 use Rattle.tko_answer.specs.Answers.{AnswersItself}
@@ -40,17 +41,27 @@ pub if_ok : {A E : Type 0} {P : A → Type 0} {Q : A → Type 0} (r : Result A E
 if_ok (Ok x) p f = f x p
 if_ok (Err e) p f = tt
 
+-- the proxy answers without a look-up
+nothing_asked : {H L T C : Type 0} {steps : H → HealthItem → H → Type 0} {old : Parts H L T C} {request : Request} {text : List ℕ}
+    → AnswersItself old.config.addresses request text [] → AnsweredItself steps request old (old, text)
+nothing_asked {old = old} is = record { looks = []; is = is; gains = gains_none old.backend.health; others = refl }
+
 module _ {H L T C : Type 0} {steps : H → HealthItem → H → Type 0} {old : Parts H L T C} {outbox outbox' : List ℕ} {request : Request} where
   pub begins_version : request ≡ Version → outbox' ≡ outbox ++ version_text → Begins steps request (old, outbox) (answer_state answer.Done (old, outbox'))
-  begins_version is more = answered version_text refl (subst (λ (r : Request). AnswersItself steps r old (old, version_text)) (sym is) (refl, refl)) more
+  begins_version is more =
+      answered version_text refl (nothing_asked (subst (λ (r : Request). AnswersItself old.config.addresses r version_text []) (sym is) (refl, refl))) more
 
   pub begins_status : {health : H} → request ≡ StatsTko → IsStatusAfter steps old.config.addresses (old.backend.health, outbox) (health, outbox')
       → Begins steps request (old, outbox) (answer_state answer.Done (record old { backend = record old.backend { health = health } }, outbox'))
   begins_status {health} is after =
-      answered after.text refl
-      (subst (λ (r : Request). AnswersItself steps r old (record old { backend = record old.backend { health = health } }, after.text)) (sym is) (after.status, refl))
-      after.appended
+      answered after.text refl (record {
+        looks = after.status.looks;
+        is = subst (λ (r : Request). AnswersItself old.config.addresses r after.text after.status.looks) (sym is) after.status.is;
+        gains = after.status.gains;
+        others = refl;
+      }) after.appended
 
 module _ {H L T C : Type 0} {steps : H → HealthItem → H → Type 0} {old : Parts H L T C} {outbox : List ℕ} {request : Request} where
   pub begins_quit : request ≡ Quit → Begins steps request (old, outbox) (answer_state answer.Done (old, outbox))
-  begins_quit is = answered [] refl (subst (λ (r : Request). AnswersItself steps r old (old, [])) (sym is) (refl, refl)) (sym (append-nil outbox))
+  begins_quit is =
+      answered [] refl (nothing_asked (subst (λ (r : Request). AnswersItself old.config.addresses r [] []) (sym is) (refl, refl))) (sym (append-nil outbox))

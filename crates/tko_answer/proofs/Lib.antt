@@ -1,10 +1,12 @@
 mod AnsweringLemmas
 mod AskingLemmas
-mod CutLemmas
+pub mod CutLemmas
 pub mod DrivingLemmas
-mod GoingLemmas
+pub mod GoingLemmas
 pub mod HeldLemmas
+pub mod InteractionLemmas
 mod OutboxLemmas
 mod PieceLemmas
+pub mod ReachLemmas
 pub mod ResultLemmas
 mod StatusLemmas

@@ -1,5 +1,5 @@
 -- Texts at the end of the outbox.
-use Rattle.std.proofs.Common.{◌≡◌, ℕ, ◌-◌, List, [], ◌++◌, Bool, true, false, length, length-append, take, drop, Option, Some, None, refl, sym, ap, ◌∙◌, append_assoc, append-nil, arith}
+use Rattle.std.proofs.Common.{◌≡◌, ℕ, ◌-◌, List, [], ◌++◌, Bool, true, false, length, length-append, take, drop, Option, Some, None, sym, ap, ◌∙◌, append_assoc, append-nil, arith}
 use Rattle.std.specs.Prelude.{MatchBool, unwrap_or}
 use Rattle.std.proofs.lemmas.List.{take_at, take-append-drop}
 use Rattle.tko_text.specs.declared.response.Response.{Response}
@@ -51,7 +51,3 @@ pub extends_next : (listed : Bool) (n : ℕ) (xs ys values text : List ℕ) → 
     → Extends (take n xs) ys
 extends_next true n xs ys values text is = extends_front_by n xs ys values is
 extends_next false n xs ys values text is = extends_by text is
-
--- the first bytes are those from before
-pub take_extended : (xs ys : List ℕ) → Extends xs ys → take (length xs) ys ≡ xs
-take_extended xs ys more = ap (take (length xs)) more.is ∙ take_at xs more.more (length xs) refl

@@ -5,7 +5,7 @@ use Rattle.std.proofs.lemmas.Grind.{flat_map-append}
 use Rattle.std.proofs.lemmas.List.{length-map, length-take-le, map-append, take_all}
 use Rattle.tko_model.specs.declared.look.Look.{Look}
 use Rattle.tko_model.specs.Records.{HealthItem, Gains}
-use Rattle.tko_model.proofs.RecordLemmas.{gains_none, gains_one, gains_append}
+use Rattle.tko_model.proofs.RecordLemmas.{gains_one, gains_append}
 use Rattle.tko_health.specs.Health.{look_item}
 use Rattle.tko_answer.specs.Answering.{Extends}
 use Rattle.tko_answer.specs.Cuts.{LooksSome}
@@ -48,9 +48,6 @@ looks-last n (server ∷ servers) last =
     (looks-last (n + 1) servers last ∙ ap (λ m. looks_from (n + 1) servers ++ look_item m last.found ∷ []) number)
 
 module _ {H : Type 0} {steps : H → HealthItem → H → Type 0} where
-  pub lines_none : (old : H) (out : List ℕ) → HasLines steps [] old out old out
-  lines_none old out = record { servers = []; all = refl; looks = gains_none old; lines = sym (append-nil out) }
-
   -- one more server was looked up
   pub lines_more : {addresses : List (List ℕ)} {old mid new : H} {out out' out'' : List ℕ} (address : List ℕ) (found : Look) (number : ℕ)
       → HasLines steps addresses old out mid out' → number ≡ length addresses → steps mid (look_item number found) new
@@ -80,7 +77,11 @@ module _ {H : Type 0} {steps : H → HealthItem → H → Type 0} where
       → IsStatusAfter steps addresses (old, out) (new, out'')
   lines_end {addresses} {old} {new} {out} {out'} {out''} has end = record {
     text = flat_map status_line has.servers ++ codes "END\r\n";
-    status = record { servers = has.servers; all = has.all; looks = has.looks; lines = refl };
+    status = record {
+      looks = looks_from 0 has.servers;
+      is = record { servers = has.servers; all = has.all; are = refl; lines = refl };
+      gains = has.looks;
+    };
     appended =
         end ∙ ap (λ xs. xs ++ codes "END\r\n") has.lines
         ∙ append_assoc out (flat_map status_line has.servers) (codes "END\r\n");

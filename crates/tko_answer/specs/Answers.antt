@@ -1,16 +1,16 @@
--- What becomes of one request: the parts that it changes, and the text that goes to the client.
-use Rattle.std.specs.Prelude.{◌≡◌, ◌<◌, ℕ, List, [], ◌∷◌, length}
-use Rattle.tko_model.specs.Records.{HealthItem, Gains}
+-- What becomes of one request: what is done for it, and the text that goes to the client.
+use Rattle.std.specs.Prelude.{◌≡◌, ◌<◌, ℕ, List, [], ◌∷◌, ◌++◌, length, map}
+use Rattle.tko_model.specs.Records.{HealthItem}
 use Rattle.tko_text.specs.declared.request.Request.{Request}
 use Rattle.tko_text.specs.declared.request.Request.TheVariants.{Get, Gets, Store, Cas, Delete, Incr, Decr, Touch, Version, Quit, StatsTko}
+use Rattle.tko_text.specs.SentRequests.{without_noreply}
 use Rattle.tko_pools.specs.Configs.{Configuration, targets_of}
-use Rattle.tko_route.specs.declared.attempt.Attempt.{Attempt}
-use Rattle.tko_route.specs.Trail.{IsTrail, Attempts, Way, way}
+use Rattle.tko_route.specs.Calls.{Call}
+use Rattle.tko_route.specs.Trail.{IsTrail, Makes, form_at}
 use Rattle.tko_answer.specs.declared.parts.Parts.{Parts}
-use Rattle.tko_backend.specs.Probers.{noted}
+use Rattle.tko_answer.specs.Interactions.{Interaction, Made, Recorded, health_calls}
 use Rattle.tko_answer.specs.Replies.{IsReply, RoutedKey, version_text, written}
-use Rattle.tko_answer.specs.Status.{IsStatus}
-use Rattle.tko_answer.specs.Ghosts.{Answering, upstream_of}
+use Rattle.tko_answer.specs.Status.{IsStatusText}
 use Rattle.tko_answer.specs.TrailEvents.{Tried}
 
 -- the health, the links and the probers have the servers of the configuration
@@ -40,10 +40,9 @@ request_for (Get keys) key = Get (key ∷ [])
 request_for (Gets keys) key = Gets (key ∷ [])
 request_for request key = request
 
--- where a request of this one key goes, in which forms, and the trail that it took
-abbrev pub way_of : Configuration → Request → List ℕ → List Attempt → Way
-way_of config request key trail =
-    way (targets_of config key) config.failover_exptime request trail
+-- a request in the form of each place of its list of targets
+abbrev pub form_in : Configuration → Request → ℕ → Request
+form_in config request = form_at config.failover_exptime (without_noreply request)
 
 -- what answered a request: the keys that were routed for it, and the text of its reply
 pub record RequestAnswer : Type 0 where
@@ -53,42 +52,42 @@ pub record RequestAnswer : Type 0 where
 abbrev pub request_answer : List RoutedKey → List ℕ → RequestAnswer
 request_answer routed text = record { routed = routed; text = text }
 
--- a request without a key is answered by the proxy itself: the parts after it, and the text
-abbrev pub AnswersItself : {H L T C : Type 0} → (H → HealthItem → H → Type 0) → Request
-    → Parts H L T C → Parts H L T C × List ℕ → Type 0
-AnswersItself steps Version old to = (to.1 ≡ version_text) × (to.0 ≡ old)
-AnswersItself steps Quit old to = (to.1 ≡ []) × (to.0 ≡ old)
-AnswersItself steps StatsTko old to =
-    IsStatus steps old.config.addresses old.backend.health (to.0.backend.health, to.1)
-    × (to.0 ≡ record old { backend = record old.backend { health = to.0.backend.health } })
-AnswersItself steps _ old to = ⊥
+-- a request without a key is answered by the proxy itself: the text, and what health was asked
+abbrev pub AnswersItself : List (List ℕ) → Request → List ℕ → List HealthItem → Type 0
+AnswersItself addresses Version text looks = (text ≡ version_text) × (looks ≡ [])
+AnswersItself addresses Quit text looks = (text ≡ []) × (looks ≡ [])
+AnswersItself addresses StatsTko text looks = IsStatusText addresses text looks
+AnswersItself addresses _ text looks = ⊥
 
--- a key of a request took this trail over the targets of the key; the trail was recorded, and the
--- servers that its failures marked are going to be probed
-pub record IsKeyRouted {H L T C : Type 0} (it : Answering H L T C) (old : Parts H L T C)
-    (routed : RoutedKey) (new : Parts H L T C) : Type 0 where
-  pub tried : IsTrail (targets_of old.config routed.key) routed.trail
-  pub attempts : Attempts (upstream_of it.ghosts) (old.backend.health, old.backend.links)
-      (way_of old.config (request_for it.request routed.key) routed.key routed.trail)
-      (new.backend.health, new.backend.links)
-  pub recorded : it.ghosts.records old.trails (Tried routed.trail) new.trails
-  pub config : new.config ≡ old.config
-  pub probers : new.backend.probers ≡ noted routed.trail old.backend.probers
-  pub clock : new.backend.clock ≡ old.backend.clock
+-- these calls gave a key of a request this trail over the targets of the key, and then the trail
+-- was recorded
+pub record IsKeyRouted (config : Configuration) (request : Request) (routed : RoutedKey)
+    (done : List Interaction) : Type 0 where
+  pub tried : IsTrail (targets_of config routed.key) routed.trail
+  pub calls : List Call
+  pub make : Makes (form_in config (request_for request routed.key)) calls routed.trail
+  pub are : done ≡ map Made calls ++ Recorded (Tried routed.trail) ∷ []
 
--- the keys of a request were routed, one after another, and gave this text
-pub record AnswersByKeys {H L T C : Type 0} (it : Answering H L T C) (old : Parts H L T C)
-    (answer : RequestAnswer) (new : Parts H L T C) : Type 0 where
-  pub some : 0 < length (request_keys it.request)
-  pub each : Gains (IsKeyRouted it) old answer.routed new
+-- keys of a request were routed, one after another
+abbrev pub AreKeysRouted : Configuration → Request → List RoutedKey → List Interaction → Type 0
+AreKeysRouted config request [] done = done ≡ []
+AreKeysRouted config request (one ∷ routed) done = (first rest : List Interaction)
+    × IsKeyRouted config request one first × AreKeysRouted config request routed rest
+    × (done ≡ first ++ rest)
+
+-- the keys of a request were routed, and gave this text
+pub record AnswersByKeys (config : Configuration) (request : Request) (answer : RequestAnswer)
+    (done : List Interaction) : Type 0 where
+  pub some : 0 < length (request_keys request)
+  pub each : AreKeysRouted config request answer.routed done
   pub reply : List ℕ
-  pub is_reply : IsReply (request_keys it.request) answer.routed reply
-  pub is_written : answer.text ≡ written it.request reply
+  pub is_reply : IsReply (request_keys request) answer.routed reply
+  pub is_written : answer.text ≡ written request reply
 
--- what becomes of a request once it was recorded
-pub data Answers {H L T C : Type 0} (it : Answering H L T C) (old : Parts H L T C)
-    (answer : RequestAnswer) (new : Parts H L T C) : Type 0 where
-  itself : answer.routed ≡ []
-      → AnswersItself it.ghosts.backend.steps it.request old (new, answer.text)
-      → Answers it old answer new
-  by_keys : AnswersByKeys it old answer new → Answers it old answer new
+-- what is done for a request once it was recorded
+pub data Answers (config : Configuration) (request : Request) (answer : RequestAnswer)
+    (done : List Interaction) : Type 0 where
+  itself : (looks : List HealthItem) → answer.routed ≡ []
+      → AnswersItself config.addresses request answer.text looks → done ≡ health_calls looks
+      → Answers config request answer done
+  by_keys : AnswersByKeys config request answer done → Answers config request answer done

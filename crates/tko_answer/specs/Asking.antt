@@ -2,7 +2,7 @@
 -- passed to it, and other calls of the servers' health may stand between two calls of the value. So
 -- each call says what it adds to the calls of its key, whatever calls stood before.
 use Rattle.std.specs.Prelude.{◌≡◌, ◌≤◌, ℕ, Bool, List, [], ◌∷◌, ◌++◌, IsSome, length, take, unwrap_or, if◌then◌else◌, Ok}
-use Rattle.tko_model.specs.Records.{HealthItem}
+use Rattle.tko_model.specs.Records.{Gains, HealthItem}
 use Rattle.tko_text.specs.declared.request.Request.{Request}
 use Rattle.tko_text.specs.declared.request.Request.TheVariants.{StatsTko}
 use Rattle.tko_text.specs.SentRequests.{is_silent, without_noreply}
@@ -15,11 +15,11 @@ use Rattle.tko_route.specs.Underway.{Awaited}
 use Rattle.tko_route.specs.declared.attempt.Attempt.{Attempt}
 use Rattle.tko_route.specs.declared.routing.Stage.{Stage}
 use Rattle.tko_route.specs.declared.routing.Stage.TheVariants as stage
-use Rattle.tko_backend.specs.Probers.{noted}
 use Rattle.tko_answer.specs.Answering.{retrieval}
 use Rattle.tko_answer.specs.Answers.{AnswersItself, request_keys}
 use Rattle.tko_answer.specs.Cuts.{LooksSome}
 use Rattle.tko_answer.specs.Ghosts.{Recording}
+use Rattle.tko_answer.specs.Interactions.{with_health, with_noted}
 use Rattle.tko_answer.specs.Replies.{end_line, reply_text, values_in}
 use Rattle.tko_answer.specs.TrailEvents.{TrailEvent, Tried}
 use Rattle.tko_answer.specs.Standing.{AnswerState, Asking, KeyState, Standing, answer_state, asking, key_state}
@@ -38,12 +38,6 @@ pub record HasServers {H L T C : Type 0} (servers : H → ℕ) (parts : Parts H 
 abbrev pub GoesTo : Configuration → Request → List ℕ → Type 0
 GoesTo config request targets =
     (key : List ℕ) → request_keys request ≡ key ∷ [] → targets ≡ targets_of config key
-
--- the same parts with another health
-abbrev pub with_health : {H L T C : Type 0} → H → Parts H L T C → Parts H L T C
-with_health health parts = record parts {
-  backend = record parts.backend { health = health };
-}
 
 -- links, clock and configuration are as they were, and the servers are as many
 pub record Stays {H L T C : Type 0} (servers : H → ℕ) (old new : Parts H L T C) : Type 0 where
@@ -105,11 +99,19 @@ abbrev pub BeginsKeys : Request → ℕ → Standing → Type 0
 BeginsKeys request waiting at =
     (one : OneKey) × (at ≡ answer.Next one) × IsFirst request waiting one
 
+-- the proxy answered a request itself, and health was asked what it had to be
+pub record AnsweredItself {H L T C : Type 0} (steps : H → HealthItem → H → Type 0)
+    (request : Request) (old : Parts H L T C) (to : Parts H L T C × List ℕ) : Type 0 where
+  pub looks : List HealthItem
+  pub is : AnswersItself old.config.addresses request to.1 looks
+  pub gains : Gains steps old.backend.health looks to.0.backend.health
+  pub others : to.0 ≡ with_health to.0.backend.health old
+
 -- how the answer to a request begins: the proxy answers it itself; or a key is to be asked for
 pub data Begins {H L T C : Type 0} (steps : H → HealthItem → H → Type 0) (request : Request)
     (old : Parts H L T C × List ℕ) (to : AnswerState (Parts H L T C × List ℕ)) : Type 0 where
   answered : (text : List ℕ) → to.at ≡ answer.Done
-      → AnswersItself steps request old.0 (to.state.0, text)
+      → AnsweredItself steps request old.0 (to.state.0, text)
       → to.state.1 ≡ old.1 ++ text → Begins steps request old to
   keyed : BeginsKeys request (length old.1) to.at → to.state ≡ old → Begins steps request old to
 
@@ -171,12 +173,6 @@ Replies (share.Whole silent) routed outbox to = (to.at ≡ answer.Done)
 Replies (share.Joined begin left) routed outbox to =
     Joins (joining routed.request begin left) routed.trail outbox to
 
--- the servers that the attempts marked are going to be probed
-abbrev pub with_noted : {H L T C : Type 0} → List Attempt → Parts H L T C → Parts H L T C
-with_noted trail old = record old {
-  backend = record old.backend { probers = noted trail old.backend.probers };
-}
-
 -- a key took this trail, which was recorded, and its response went into the reply
 pub record Ended {H L T C : Type 0} (records : T → TrailEvent → T → Type 0) (trail : List Attempt)
     (from : KeyState (Parts H L T C × List ℕ)) (to : AnswerState (Parts H L T C × List ℕ))
@@ -190,8 +186,7 @@ pub record Ended {H L T C : Type 0} (records : T → TrailEvent → T → Type 0
 -- key
 pub data IsEndCut {H L T C : Type 0} (records : T → TrailEvent → T → Type 0) (trail : List Attempt)
     (from : KeyState (Parts H L T C)) (new : Parts H L T C) : Type 0 where
-  lost : new ≡ record (with_noted trail from.state) { trails = new.trails }
-      → IsEndCut records trail from new
+  lost : new ≡ with_noted trail from.state → IsEndCut records trail from new
   joined : (begin : ℕ) (left : List (List ℕ)) → from.key.share ≡ share.Joined begin left
       → IsSome (values_in (answer_of trail))
       → records from.state.trails (Tried trail) new.trails
@@ -301,12 +296,22 @@ module _ {H L T C : Type 0} (ghosts : Recording H T) where
       → IsKeyBeginCut ghosts
       (course_of old.config (targets_of old.config key) one (without_noreply one.request)) old new
 
-  -- what came of a send was recorded, and its key went on
-  abbrev pub SendTaken : SendOutcome → Parts H L T C × List ℕ
-      → AnswerState (Parts H L T C × List ℕ) → Type 0
-  SendTaken came old to = AfterSend old.0.config came.asking came.outcome
-      (λ original calls. Goes ghosts (course_calls
-      (course_of old.0.config came.targets came.asking.key original) calls) old to)
+  -- what came of a send was recorded, and its key went on: health was asked or told the same,
+  -- whatever calls of the key stood before
+  pub record SendTaken (came : SendOutcome) (old : Parts H L T C × List ℕ)
+      (to : AnswerState (Parts H L T C × List ℕ)) : Type 0 where
+    pub stage : Stage
+    pub health : H
+    pub on : GoesOn ghosts.steps old.0.backend.health
+        (λ more. AfterSend old.0.config came.asking came.outcome
+        (λ original calls. Reached came.targets (form_at old.0.config.failover_exptime original)
+        (calls more) stage)) health
+    pub settles : (original : Request)
+        → came.asking.key.request ≡ form_at old.0.config.failover_exptime original
+        (length came.asking.waiting.attempts)
+        → Settles ghosts.records stage (key_state (key_at_stage
+        (course_of old.0.config came.targets came.asking.key original) stage)
+        (with_health health old.0, old.1)) to
 
   -- memory ran out there
   abbrev pub SendCut : SendOutcome → Parts H L T C → Parts H L T C → Type 0

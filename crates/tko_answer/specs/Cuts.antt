@@ -1,14 +1,17 @@
--- What a request did at which memory ran out.
-use Rattle.std.specs.Prelude.{◌≡◌, ℕ, ◌+◌, List, ◌∷◌, ◌++◌, All}
+-- What was done for a request at which memory ran out.
+use Rattle.std.specs.Prelude.{◌≡◌, ℕ, Bool, List, [], ◌∷◌, ◌++◌, All, Err, length, map}
 use Rattle.tko_model.specs.Records.{HealthItem, Gains}
+use Rattle.tko_text.specs.declared.request.Request.{Request}
 use Rattle.tko_text.specs.declared.request.Request.TheVariants.{StatsTko}
+use Rattle.tko_pools.specs.Configs.{Configuration, targets_of}
+use Rattle.tko_route.specs.Calls.{Call, came}
+use Rattle.tko_route.specs.Routing.{FindsUp}
+use Rattle.tko_route.specs.Trail.{IsCutTrail, IsTrail, Makes, next_target}
 use Rattle.tko_route.specs.declared.attempt.Attempt.{Attempt}
-use Rattle.tko_answer.specs.declared.parts.Parts.{Parts}
-use Rattle.tko_answer.specs.Answering.{IsCutShort, IsTried}
-use Rattle.tko_answer.specs.Ghosts.{Answering, with_request}
-use Rattle.tko_answer.specs.Replies.{HasValues, RoutedKey, keys_in, routed_key, sends_to, trails_in}
+use Rattle.tko_answer.specs.Answers.{AreKeysRouted, form_in, request_for, request_keys}
+use Rattle.tko_answer.specs.Interactions.{Interaction, Made, Noted, health_calls}
+use Rattle.tko_answer.specs.Replies.{HasValues, RoutedKey, keys_in}
 use Rattle.tko_answer.specs.Status.{Looked, addresses_in, looks_from}
-use Rattle.tko_answer.specs.Answers.{IsKeyRouted, request_for, request_keys}
 
 -- the first servers were looked up once each, in number order, and no other
 pub record LooksSome {H : Type 0} (steps : H → HealthItem → H → Type 0)
@@ -18,47 +21,38 @@ pub record LooksSome {H : Type 0} (steps : H → HealthItem → H → Type 0)
   pub parts : addresses ≡ addresses_in servers ++ unlooked
   pub looks : Gains steps old (looks_from 0 servers) new
 
--- memory ran out at this request of one key: between its attempts; or after them, so that its reply
--- or its trail was lost
-pub data IsKeyCut {H L T C : Type 0} (it : Answering H L T C) (key : List ℕ)
-    (old new : Parts H L T C) : Type 0 where
-  attempts_cut : IsCutShort it key old new → IsKeyCut it key old new
-  reply_lost : (trail : List Attempt) (mid : Parts H L T C)
-      → IsTried it old (routed_key key trail) mid → new ≡ record mid { trails = new.trails }
-      → IsKeyCut it key old new
+-- memory ran out at this key of a request: after its attempts, so that nothing but their marks was
+-- noted; or at the send to the next target, after attempts at the first ones, none of them answered
+pub data IsKeyCut (config : Configuration) (request : Request) (key : List ℕ)
+    (done : List Interaction) : Type 0 where
+  reply_lost : (trail : List Attempt) (calls : List Call) → IsTrail (targets_of config key) trail
+      → Makes (form_in config (request_for request key)) calls trail
+      → done ≡ map Made calls ++ Noted trail ∷ []
+      → IsKeyCut config request key done
+  send_lost : (trail : List Attempt) (calls : List Call) (server : ℕ) (was_sent : Bool)
+      → IsCutTrail (targets_of config key) trail
+      → server ≡ next_target (targets_of config key) trail
+      → FindsUp (form_in config (request_for request key)) calls trail server
+      → done ≡ map Made calls
+      ++ Made (came server (form_in config (request_for request key) (length trail))
+      (Err (record { sent = was_sent }))) ∷ Noted trail ∷ []
+      → IsKeyCut config request key done
 
 -- memory ran out before any of these keys was tried, or at the first of them
-pub data IsFirstCut {H L T C : Type 0} (it : Answering H L T C) (keys : List (List ℕ))
-    (old new : Parts H L T C) : Type 0 where
-  untried : new ≡ old → IsFirstCut it keys old new
+pub data IsFirstCut (config : Configuration) (request : Request) (keys : List (List ℕ))
+    (done : List Interaction) : Type 0 where
+  untried : done ≡ [] → IsFirstCut config request keys done
   at_first : (key : List ℕ) (rest : List (List ℕ)) → keys ≡ key ∷ rest
-      → IsKeyCut (with_request (request_for it.request key) it) key old new
-      → IsFirstCut it keys old new
+      → IsKeyCut config request key done → IsFirstCut config request keys done
 
--- some keys of a request were routed, in order, each got a list of values, and each server was sent
--- to as often as their trails say; and then memory ran out
-pub record AreKeysCut {H L T C : Type 0} (it : Answering H L T C) (old new : Parts H L T C)
+-- memory ran out in the answer to a request that was recorded: some keys were routed, in order, and
+-- each got a list of values; or the first servers were looked up for their status
+pub data IsAnswerCut (config : Configuration) (request : Request) (done : List Interaction)
     : Type 0 where
-  pub routed : List RoutedKey
-  pub left : List (List ℕ)
-  pub mid : Parts H L T C
-  pub keys : request_keys it.request ≡ keys_in routed ++ left
-  pub each : Gains (IsKeyRouted it) old routed mid
-  pub values : All HasValues routed
-  pub sends : (server : ℕ)
-      → it.ghosts.backend.sent mid.backend.links server
-      ≡ it.ghosts.backend.sent old.backend.links server + sends_to server (trails_in routed)
-  pub probes : (server : ℕ)
-      → it.ghosts.backend.probed mid.backend.links server
-      ≡ it.ghosts.backend.probed old.backend.links server
-  pub last : IsFirstCut it left mid new
-
--- memory ran out in the answer to a request that was recorded
-pub data IsAnswerCut {H L T C : Type 0} (it : Answering H L T C) (old new : Parts H L T C)
-    : Type 0 where
-  at_keys : AreKeysCut it old new → IsAnswerCut it old new
-  in_status : it.request ≡ StatsTko
-      → LooksSome it.ghosts.backend.steps old.config.addresses old.backend.health
-      new.backend.health
-      → new ≡ record old { backend = record old.backend { health = new.backend.health } }
-      → IsAnswerCut it old new
+  at_keys : (routed : List RoutedKey) (left : List (List ℕ)) (front last : List Interaction)
+      → request_keys request ≡ keys_in routed ++ left → AreKeysRouted config request routed front
+      → All HasValues routed → IsFirstCut config request left last → done ≡ front ++ last
+      → IsAnswerCut config request done
+  in_status : (servers : List Looked) (unlooked : List (List ℕ)) → request ≡ StatsTko
+      → config.addresses ≡ addresses_in servers ++ unlooked
+      → done ≡ health_calls (looks_from 0 servers) → IsAnswerCut config request done

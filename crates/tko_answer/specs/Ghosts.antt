@@ -1,6 +1,5 @@
 -- What the traits of the parts show, in one record for those relations that need it.
 use Rattle.tko_model.specs.Records.{HealthItem}
-use Rattle.tko_text.specs.declared.request.Request.{Request}
 use Rattle.tko_health.specs.declared.health.Health.{Ghosts as HealthGhosts}
 use Rattle.tko_links.specs.declared.links.Links.{Ghosts as LinksGhosts}
 use Rattle.tko_route.specs.Calls.{Upstream}
@@ -35,15 +34,3 @@ upstream_of ghosts = record {
   exchanges = ghosts.backend.exchanges;
   sent = ghosts.backend.sent;
 }
-
--- a request that is answered over parts that show this
-pub record Answering (H L T C : Type 0) : Type 1 where
-  pub ghosts : PartsGhosts H L T C
-  pub request : Request
-
-abbrev pub answering : {H L T C : Type 0} → PartsGhosts H L T C → Request → Answering H L T C
-answering ghosts request = record { ghosts = ghosts; request = request }
-
--- another request over the same parts
-abbrev pub with_request : {H L T C : Type 0} → Request → Answering H L T C → Answering H L T C
-with_request request it = record { ghosts = it.ghosts; request = request }

@@ -4,6 +4,7 @@ pub mod Asking
 pub mod Counting
 pub mod Cuts
 pub mod Ghosts
+pub mod Interactions
 pub mod Replies
 pub mod Standing
 pub mod Status

@@ -35,14 +35,20 @@ looks_from number [] = []
 looks_from number (server ∷ servers) =
     look_item number server.found ∷ looks_from (number + 1) servers
 
--- each server was looked up once, in number order, which led to this health; and the text beside it
--- has the line of each and `END`
-pub record IsStatus {H : Type 0} (steps : H → HealthItem → H → Type 0)
-    (addresses : List (List ℕ)) (old : H) (to : H × List ℕ) : Type 0 where
+-- each server was looked up once, in number order, and the text has the line of each and `END`
+pub record IsStatusText (addresses : List (List ℕ)) (text : List ℕ) (looks : List HealthItem)
+    : Type 0 where
   pub servers : List Looked
   pub all : addresses_in servers ≡ addresses
-  pub looks : Gains steps old (looks_from 0 servers) to.0
-  pub lines : to.1 ≡ flat_map status_line servers ++ codes "END\r\n"
+  pub are : looks ≡ looks_from 0 servers
+  pub lines : text ≡ flat_map status_line servers ++ codes "END\r\n"
+
+-- such look-ups led to this health, and gave the text beside it
+pub record IsStatus {H : Type 0} (steps : H → HealthItem → H → Type 0)
+    (addresses : List (List ℕ)) (old : H) (to : H × List ℕ) : Type 0 where
+  pub looks : List HealthItem
+  pub is : IsStatusText addresses to.1 looks
+  pub gains : Gains steps old looks to.0
 
 -- such a text was put at the end of a buffer: health and the buffer before and after
 pub record IsStatusAfter {H : Type 0} (steps : H → HealthItem → H → Type 0)

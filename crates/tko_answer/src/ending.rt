@@ -1,6 +1,7 @@
 //! How a key ends: what was marked is noted, and the next of several keys takes its place.
 ghost use Rattle.std.specs.Prelude.{◌≡◌, ℕ, IfOk, OnErr, length};
-ghost use Rattle.tko_answer.specs.Asking.{JoinsNext, joining, with_noted};
+ghost use Rattle.tko_answer.specs.Asking.{JoinsNext, joining};
+ghost use Rattle.tko_answer.specs.Interactions.{with_noted};
 ghost use Rattle.tko_answer.specs.Standing.{answer_state, standing_of};
 ghost use Rattle.tko_answer.specs.declared.asking.Share.TheVariants.{Joined};
 

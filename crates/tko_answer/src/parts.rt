@@ -1,6 +1,7 @@
 //! What a request is answered over.
 ghost use Rattle.std.specs.Prelude.{◌≡◌, ℕ, IfOk, OnErr, OnOk};
-ghost use Rattle.tko_answer.specs.Asking.{GoesTo, HasServers, with_health};
+ghost use Rattle.tko_answer.specs.Asking.{GoesTo, HasServers};
+ghost use Rattle.tko_answer.specs.Interactions.{with_health};
 ghost use Rattle.tko_pools.specs.Configs.{AreServers};
 ghost use Rattle.tko_route.specs.Routing.{GoesOn, Reached, last_place};
 ghost use Rattle.tko_route.specs.Trail.{form_at};
@@ -35,8 +36,9 @@ pub(crate) fn begin_route<R: Wait, H: Health, L, T, C>(
     request: &mut Request,
 ) -> Result<Stage, NoMemory>
     requires servers { HasServers H.servers parts.old }
-    ensures ok { IfOk result (λ to. (form : ℕ → Request) → GoesOn H.steps parts.old.backend.health
-        (λ calls. Reached targets.new.items form calls to) parts.new.backend.health) }
+    ensures ok { IfOk result (λ to. GoesOn H.steps parts.old.backend.health
+        (λ calls. (form : ℕ → Request) → Reached targets.new.items form calls to)
+        parts.new.backend.health) }
     ensures request { IfOk result (λ stage. request.new ≡ form_at parts.old.config.failover_exptime
         (without_noreply request.old) (last_place stage)) }
     ensures others { parts.new ≡ with_health parts.new.backend.health parts.old }

@@ -1,5 +1,5 @@
 //! What records each request and each trail.
-ghost use Rattle.std.specs.Prelude.{◌≡◌, [], IsOk, OnOk};
+ghost use Rattle.std.specs.Prelude.{◌≡◌, [], IsOk, OnErr, OnOk};
 ghost use Rattle.tko_answer.specs.TrailEvents.{Asked, Tried};
 
 use std::alloc::Global;
@@ -9,7 +9,8 @@ use tko_links::IoRuntime;
 use tko_route::Trail;
 use tko_text::Request;
 
-/// Records each item that isn't a fault, and then the trail of each of its keys.
+/// Records each item that isn't a fault, and then the trail of each of its keys. Where memory runs
+/// out, nothing is recorded.
 pub trait Trails {
     ghost use Rattle.tko_answer.specs.TrailEvents.{TrailEvent};
 
@@ -17,10 +18,12 @@ pub trait Trails {
     ghost records: { Self → TrailEvent → Self → Type 0 };
 
     fn request<R: IoRuntime>(&mut self, rt: &R, request: &Request) -> Result<(), NoMemory>
-        ensures { OnOk result (records self.old (Asked request.now) self.new) };
+        ensures ok { OnOk result (records self.old (Asked request.now) self.new) }
+        ensures err { OnErr result (self.new ≡ self.old) };
 
     fn trail<R: IoRuntime>(&mut self, rt: &R, trail: Trail) -> Result<(), NoMemory>
-        ensures { OnOk result (records self.old (Tried trail) self.new) };
+        ensures ok { OnOk result (records self.old (Tried trail) self.new) }
+        ensures err { OnErr result (self.new ≡ self.old) };
 }
 
 /// The trails, in order.

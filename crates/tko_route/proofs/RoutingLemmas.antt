@@ -18,9 +18,10 @@ use Rattle.tko_links.specs.declared.links.Outcome.TheVariants as outcome
 use Rattle.tko_route.specs.declared.attempt.Attempt.{Attempt}
 use Rattle.tko_route.specs.declared.attempt.Attempt.TheVariants as attempt
 use Rattle.tko_route.specs.Calls.{Call, Told, came, look_up}
-use Rattle.tko_route.specs.Routing.{FindsUp, GoesOn, IsAwaited, IsTried, IsUnderway}
+use Rattle.tko_route.specs.Routing.{FindsUp, GoesOn, IsAwaited, IsTried, IsUnderway, Reached, came_of}
 use Rattle.tko_route.specs.Trail.{Ends, IsAnswer, IsAttempt, IsTrail, LastAnswered, Makes, NoneAnswered, answer_of, next_target, outcome_of, response_of, server_of}
 use Rattle.tko_route.proofs.TrailLemmas.{makes_pushed}
+use Rattle.tko_route.specs.declared.routing.Stage.{Stage}
 use Rattle.tko_route.specs.Underway.{Awaited, Underway}
 
 -- an answer is the last attempt's
@@ -116,98 +117,101 @@ one_told calls items item =
     ap (λ told. calls ++ told) (map-append Told items (item ∷ [])) ∙ sym (append_assoc calls (map Told items) (Told item ∷ []))
 
 module _ {H : Type 0} {steps : H → HealthItem → H → Type 0} where
-  -- without a call
-  pub stays : (reached : List Call → Type 0) (calls : List Call) (at : H) → reached calls
-      → GoesOn steps at (λ more. reached (calls ++ more)) at
-  stays reached calls at is =
-      record { items = []; gains = gains_none at; is = subst reached (sym (append-nil calls)) is }
-
   -- one more marked server was skipped
-  pub skipped : (form : ℕ → Request) (calls : List Call) {old mid new : H} {trail all : List Attempt} (server : ℕ) (mark : Mark)
-      → GoesOn steps old (λ more. Makes form (calls ++ more) trail) mid
+  pub skipped : {old mid new : H} {was trail all : List Attempt} (server : ℕ) (mark : Mark)
+      → GoesOn steps old (λ more. (form : ℕ → Request) (calls : List Call) → Makes form calls was → Makes form (calls ++ more) trail) mid
       → steps mid (Called LookUp server (reply.Marked mark)) new
       → all ≡ trail ++ attempt.Skipped server mark ∷ []
-      → GoesOn steps old (λ more. Makes form (calls ++ more) all) new
-  skipped form calls server mark on step e =
+      → GoesOn steps old (λ more. (form : ℕ → Request) (calls : List Call) → Makes form calls was → Makes form (calls ++ more) all) new
+  skipped server mark on step e =
       let item = Called LookUp server (reply.Marked mark) in
       record {
         items = on.items ++ item ∷ [];
         gains = gains_push on.gains step;
-        is = makes_pushed (attempt.Skipped server mark) (Told item ∷ []) on.is refl (one_told calls on.items item) e;
+        is = λ form calls make. makes_pushed (attempt.Skipped server mark) (Told item ∷ []) (on.is form calls make) refl (one_told calls on.items item) e;
       }
 
   -- then a server was found up
-  pub found_up : (form : ℕ → Request) (calls : List Call) {old mid new : H} {trail : List Attempt} {clear : ℕ} (server count : ℕ)
-      → clear ≡ server → GoesOn steps old (λ more. Makes form (calls ++ more) trail) mid
+  pub found_up : {old mid new : H} {was trail : List Attempt} {clear : ℕ} (server count : ℕ)
+      → clear ≡ server → GoesOn steps old (λ more. (form : ℕ → Request) (calls : List Call) → Makes form calls was → Makes form (calls ++ more) trail) mid
       → steps mid (Called LookUp server (reply.Up count)) new
-      → GoesOn steps old (λ more. FindsUp form (calls ++ more) trail clear) new
-  found_up form calls {old} {mid} {new} {trail} {clear} server count names on step =
+      → GoesOn steps old (λ more. (form : ℕ → Request) (calls : List Call) → Makes form calls was → FindsUp form (calls ++ more) trail clear) new
+  found_up {old} {mid} {new} {was} {trail} {clear} server count names on step =
       let item = Called LookUp server (reply.Up count) in
-      let P : ℕ → Type 0 = λ n. GoesOn steps old (λ more. FindsUp form (calls ++ more) trail n) new in
+      let P : ℕ → Type 0 = λ n. GoesOn steps old (λ more. (form : ℕ → Request) (calls : List Call) → Makes form calls was → FindsUp form (calls ++ more) trail n) new in
       subst P (sym names) (record {
         items = on.items ++ item ∷ [];
         gains = gains_push on.gains step;
-        is = record { before = calls ++ map Told on.items; make = on.is; count = count; is = one_told calls on.items item };
+        is = λ form calls make. record { before = calls ++ map Told on.items; make = on.is form calls make; count = count; is = one_told calls on.items item };
       })
 
   -- the calls of an attempt that ended so, after a look-up that found the server up
-  ended : (old new : H) (it : Attempt) (server count : ℕ) (request : Request) (got : Outcome)
+  ended : (old new : H) (it : Attempt) (server : ℕ) (got : Outcome)
       → Ends steps old it new → outcome_of it ≡ Some got → server_of it ≡ server
-      → GoesOn steps old (λ more. IsAttempt request (look_up server (reply.Up count) ∷ came server request (Ok got) ∷ more) it) new
-  ended old new (attempt.Skipped at mark) server count request got ends is at_is = absurd ends
-  ended old new (attempt.Sent at it answer) server count request got (op, known, step) is at_is =
+      → GoesOn steps old (λ more. (request : Request) (count : ℕ) → IsAttempt request (look_up server (reply.Up count) ∷ came server request (Ok got) ∷ more) it) new
+  ended old new (attempt.Skipped at mark) server got ends is at_is = absurd ends
+  ended old new (attempt.Sent at it answer) server got (op, known, step) is at_is =
       let same : it ≡ got = cc in
       let P : ℕ → Outcome → Type 0 =
-      λ n o. GoesOn steps old (λ more. IsAttempt request (look_up n (reply.Up count) ∷ came n request (Ok o) ∷ more) (attempt.Sent at it answer)) new in
+      λ n o. GoesOn steps old (λ more. (request : Request) (count : ℕ) → IsAttempt request (look_up n (reply.Up count) ∷ came n request (Ok o) ∷ more) (attempt.Sent at it answer)) new in
       subst (λ (n : ℕ). P n got) at_is (subst (λ (o : Outcome). P at o) same (record {
         items = Called op at answer ∷ [];
         gains = gains_one step;
-        is = (count, op, known, refl);
+        is = λ request count. (count, op, known, refl);
       }))
-  ended old new (attempt.Spent at) server count request got same is at_is =
+  ended old new (attempt.Spent at) server got same is at_is =
       let none : outcome.Spent ≡ got = cc in
       let P : ℕ → Outcome → H → Type 0 =
-      λ n o h. GoesOn steps old (λ more. IsAttempt request (look_up n (reply.Up count) ∷ came n request (Ok o) ∷ more) (attempt.Spent at)) h in
+      λ n o h. GoesOn steps old (λ more. (request : Request) (count : ℕ) → IsAttempt request (look_up n (reply.Up count) ∷ came n request (Ok o) ∷ more) (attempt.Spent at)) h in
       subst (λ (n : ℕ). P n got new) at_is (subst (λ (o : Outcome). P at o new) none (subst (λ (h : H). P at outcome.Spent h) (sym same) (record {
         items = [];
         gains = gains_none old;
-        is = (count, refl);
+        is = λ request count. (count, refl);
       })))
 
   -- what came of a send, and the call that recorded it, make the attempt
-  pub recorded : (form : ℕ → Request) (calls : List Call) {old new : H} (waiting : Awaited) {all : List Attempt}
-      (it : Attempt) (got : Outcome) → FindsUp form calls waiting.attempts waiting.server
+  pub recorded : {old new : H} (waiting : Awaited) {all : List Attempt}
+      (it : Attempt) (got : Outcome)
       → Ends steps old it new → outcome_of it ≡ Some got → server_of it ≡ waiting.server
       → all ≡ waiting.attempts ++ it ∷ []
-      → GoesOn steps old (λ more. Makes form (calls ++ came waiting.server (form (length waiting.attempts)) (Ok got) ∷ more) all) new
-  recorded form calls {old} {new} waiting it got up ends is at e =
-      let request = form (length waiting.attempts) in
-      let on = ended old new it waiting.server up.count request got ends is at in
-      let item = came waiting.server request (Ok got) in
-      let look = look_up waiting.server (reply.Up up.count) in
+      → GoesOn steps old (λ more. (form : ℕ → Request) (calls : List Call) → FindsUp form calls waiting.attempts waiting.server
+      → Makes form (calls ++ came waiting.server (form (length waiting.attempts)) (Ok got) ∷ more) all) new
+  recorded {old} {new} waiting it got ends is at e =
+      let on = ended old new it waiting.server got ends is at in
       record {
         items = on.items;
         gains = on.gains;
-        is = makes_pushed it (look ∷ item ∷ map Told on.items) up.make on.is
+        is = λ form calls up.
+            let item = came waiting.server (form (length waiting.attempts)) (Ok got) in
+            let look = look_up waiting.server (reply.Up up.count) in
+            makes_pushed it (look ∷ item ∷ map Told on.items) up.make (on.is (form (length waiting.attempts)) up.count)
             (ap (λ list. list ++ item ∷ map Told on.items) up.is ∙ append_assoc up.before (look ∷ []) (item ∷ map Told on.items)) e;
       }
 
   -- an answered routing is done without a call
-  pub done_at_once : (targets : List ℕ) (form : ℕ → Request) (calls : List Call) (at : H) {trail all : List Attempt}
-      → IsTrail targets all → all ≡ trail → Makes form calls trail
-      → GoesOn steps at (λ more. IsTrail targets all × Makes form (calls ++ more) all) at
-  done_at_once targets form calls at {trail} {all} whole e make =
-      let P : List Attempt → Type 0 = λ list. Makes form calls list in
-      stays (λ list. IsTrail targets all × Makes form list all) calls at (whole, subst P (sym e) make)
+  pub done_at_once : (targets : List ℕ) (at : H) {trail all : List Attempt}
+      → IsTrail targets all → all ≡ trail
+      → GoesOn steps at (λ more. (form : ℕ → Request) (calls : List Call) → Makes form calls trail → IsTrail targets all × Makes form (calls ++ more) all) at
+  done_at_once targets at {trail} {all} whole e = record {
+    items = [];
+    gains = gains_none at;
+    is = λ form calls make. (whole, subst (λ cs. Makes form cs all) (sym (append-nil calls)) (subst (λ list. Makes form calls list) (sym e) make));
+  }
 
-  -- after one call more, health was asked or told this, and then more
-  pub then_on : (reached : List Call → Type 0) (calls : List Call) (item : Call) {old mid new : H} {items : List HealthItem}
-      → Gains steps old items mid → GoesOn steps mid (λ more. reached ((calls ++ item ∷ map Told items) ++ more)) new
-      → GoesOn steps old (λ more. reached (calls ++ item ∷ more)) new
-  then_on reached calls item {old} {mid} {new} {items} first on = record {
-    items = items ++ on.items;
-    gains = gains_append first on.gains;
-    is = subst reached
-        (append_assoc calls (item ∷ map Told items) (map Told on.items)
-        ∙ ap (λ told. calls ++ item ∷ told) (sym (map-append Told items on.items))) on.is;
+  -- what came of a send was recorded, and then health was asked more
+  pub then_on : {old mid new : H} {attempts : List Attempt} (targets : List ℕ) (waiting : Awaited) (got : Outcome) (to : Stage)
+      → GoesOn steps old (λ more. (form : ℕ → Request) (calls : List Call) → FindsUp form calls waiting.attempts waiting.server
+      → Makes form (calls ++ came_of form waiting got ∷ more) attempts) mid
+      → GoesOn steps mid (λ more. (form : ℕ → Request) (calls : List Call) → Makes form calls attempts → Reached targets form (calls ++ more) to) new
+      → GoesOn steps old (λ more. (form : ℕ → Request) (calls : List Call) → FindsUp form calls waiting.attempts waiting.server
+      → Reached targets form (calls ++ came_of form waiting got ∷ more) to) new
+  then_on targets waiting got to first on = record {
+    items = first.items ++ on.items;
+    gains = gains_append first.gains on.gains;
+    is = λ form calls up.
+        let item = came_of form waiting got in
+        subst (λ list. Reached targets form list to)
+        (append_assoc calls (item ∷ map Told first.items) (map Told on.items)
+        ∙ ap (λ told. calls ++ item ∷ told) (sym (map-append Told first.items on.items)))
+        (on.is form (calls ++ item ∷ map Told first.items) (first.is form calls up));
   }

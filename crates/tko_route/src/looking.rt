@@ -42,9 +42,9 @@ pub(crate) fn look_on<R: Wait, H: Health>(
     requires tried { IsTried targets.now attempts.old.items }
     ensures some { IfSome result (IsNext targets.now attempts.new.items) }
     ensures none { IfNone result (IsTrail targets.now attempts.new.items) }
-    ensures calls { (form : ℕ → Request) (calls : List Call) → Makes form calls attempts.old.items
-        → GoesOn H.steps health.old
-        (λ more. Finds form (calls ++ more) attempts.new.items result) health.new }
+    ensures calls { GoesOn H.steps health.old
+        (λ more. (form : ℕ → Request) (calls : List Call) → Makes form calls attempts.old.items
+        → Finds form (calls ++ more) attempts.new.items result) health.new }
     ensures request { IsBrought exptime (request.old, length attempts.old.items - 1)
         (request.new, place_of result (length attempts.new.items)) }
     ensures grown { length attempts.old.items ≤ length attempts.new.items }

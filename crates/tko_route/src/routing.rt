@@ -95,9 +95,9 @@ impl Routing {
     ) -> Stage
         requires health { All (λ target. target < H.servers health.old) targets.now }
         requires underway { IsUnderway targets.now self }
-        ensures calls { (form : ℕ → Request) (calls : List Call) → Makes form calls self.attempts
-            → GoesOn H.steps health.old
-            (λ more. Reached targets.now form (calls ++ more) result) health.new }
+        ensures calls { GoesOn H.steps health.old
+            (λ more. (form : ℕ → Request) (calls : List Call) → Makes form calls self.attempts
+            → Reached targets.now form (calls ++ more) result) health.new }
         ensures request { IsBrought exptime (request.old, length self.attempts - 1)
             (request.new, last_place result) }
         ensures grown { length self.attempts ≤ tries result }
@@ -128,9 +128,8 @@ impl Stage {
         exptime: u32,
     ) -> Result<Stage, NoMemory>
         requires health { All (λ target. target < H.servers health.old) targets.now }
-        ensures calls { IfOk result (λ stage. (form : ℕ → Request)
-            → GoesOn H.steps health.old
-            (λ calls. Reached targets.now form calls stage) health.new) }
+        ensures calls { IfOk result (λ stage. GoesOn H.steps health.old
+            (λ calls. (form : ℕ → Request) → Reached targets.now form calls stage) health.new) }
         ensures ok_request { IfOk result (λ stage.
             request.new ≡ form_at exptime (without_noreply request.old) (last_place stage)) }
         ensures err { OnErr result (0 < length targets.now) }
@@ -154,10 +153,9 @@ impl Waiting {
     /// Records what came of the send.
     fn record<R: Wait, H: Health>(self, rt: &R, health: &mut H, outcome: Outcome) -> Routing
         requires { self.server < H.servers health.old }
-        ensures calls { (form : ℕ → Request) (calls : List Call)
+        ensures calls { GoesOn H.steps health.old (λ more. (form : ℕ → Request) (calls : List Call)
             → FindsUp form calls self.attempts self.server
-            → GoesOn H.steps health.old (λ more. Makes form
-            (calls ++ came_of form self outcome ∷ more) result.attempts) health.new }
+            → Makes form (calls ++ came_of form self outcome ∷ more) result.attempts) health.new }
         ensures one { length result.attempts ≡ length self.attempts + 1 }
         ensures underway { (targets : List ℕ) → IsAwaited targets self → IsUnderway targets result }
         ensures servers { H.servers health.new ≡ H.servers health.old }
@@ -179,10 +177,9 @@ impl Waiting {
     ) -> Stage
         requires health { All (λ target. target < H.servers health.old) targets.now }
         requires awaited { IsAwaited targets.now self }
-        ensures calls { (form : ℕ → Request) (calls : List Call)
+        ensures calls { GoesOn H.steps health.old (λ more. (form : ℕ → Request) (calls : List Call)
             → FindsUp form calls self.attempts self.server
-            → GoesOn H.steps health.old (λ more. Reached targets.now form
-            (calls ++ came_of form self outcome ∷ more) result) health.new }
+            → Reached targets.now form (calls ++ came_of form self outcome ∷ more) result) health.new }
         ensures request { IsBrought exptime (request.old, length self.attempts)
             (request.new, last_place result) }
         ensures grown { length self.attempts < tries result }

@@ -11,7 +11,7 @@ use Rattle.tko_text.specs.declared.request.Request.{Request}
 use Rattle.tko_pools.specs.Configs.{Configuration, targets_of}
 use Rattle.tko_answer.specs.Answering.{Extends}
 use Rattle.tko_answer.specs.Answers.{request_keys}
-use Rattle.tko_answer.specs.Asking.{Begins, BeginsAt, Goes, GoesCut, IsFirst, IsKeyBeginCut, Stays, with_noted, AfterSend, course_calls, course_of, no_calls, send_outcome}
+use Rattle.tko_answer.specs.Asking.{AfterSend, Begins, BeginsAt, Goes, GoesCut, IsFirst, IsKeyBeginCut, SendTaken, course_calls, course_of, no_calls, send_outcome}
 use Rattle.tko_answer.specs.Asking as begins
 use Rattle.tko_answer.specs.Ghosts.{recording}
 use Rattle.tko_answer.specs.TrailEvents.{Asked, TrailEvent}
@@ -20,7 +20,7 @@ use Rattle.tko_answer.specs.Standing.{Asking, Standing, answer_state, asking}
 use Rattle.tko_answer.specs.Standing as answer
 use Rattle.tko_answer.specs.declared.asking.OneKey.{OneKey}
 use Rattle.tko_answer.specs.declared.parts.Parts.{Parts}
-use Rattle.tko_answer.proofs.DrivingLemmas.{begun}
+use Rattle.tko_answer.proofs.GoingLemmas.{sent_goes}
 use Rattle.tko_answer.proofs.HeldLemmas.{AwaitsAt, HoldsAt, goes_awaits, goes_held}
 use Rattle.tko_turns.specs.Driven.{IsOut, IsReady, IsReadyFor, ItemDropped, ItemRead, KeyBegun, KeyDropped, MayGoOn, OutcomeDropped, OutcomeTaken, RequestBegun, RequestDropped, WasDropped, WentOn, begun_at, dropped, requests_after, step_of, stepped, went, work_of}
 use Rattle.tko_turns.specs.Driven as driven
@@ -167,14 +167,14 @@ module _ {H L T C : Type 0} {steps : H → HealthItem → H → Type 0} {records
   -- what came of a send was recorded
   pub outcome_taken : {old new : SessionState} {parts parts' : Parts H L T C} {wanted : Step} (outcome : Outcome) (it : Asking) (at : Standing)
       (aimed front : List ℕ) (reading : Reading) (outbox : List ℕ) (requests : ℕ) (owes : Bool) (begin : ℕ) (targets : List ℕ)
-      → AfterSend parts.config it outcome (λ original calls. Goes (recording steps records) (course_calls (course_of parts.config aimed it.key original) calls) (parts, front) (answer_state at (parts', outbox)))
+      → SendTaken (recording steps records) (send_outcome aimed it outcome) (parts, front) (answer_state at (parts', outbox))
       → wanted ≡ step_of progress.More at → new ≡ is_went at reading outbox requests owes begin targets
       → aimed ≡ old.targets → front ≡ old.outbox → reading ≡ old.reading → requests ≡ old.requests → owes ≡ old.owes → begin ≡ old.begin
       → targets ≡ old.targets → OutcomeTaken (recording steps records) (send_outcome old.targets it outcome) (snapshot old parts) (stepped wanted (snapshot new parts'))
   outcome_taken {old} {new} {parts} {parts'} outcome it at aimed front reading outbox requests owes begin targets goes asks is aims waits reads counts owed begins same =
       let o : new.outbox ≡ outbox = ap (λ (s : SessionState). s.outbox) is in
       let P : List ℕ → List ℕ → List ℕ → Type 0 = λ ts xs ys.
-      AfterSend parts.config it outcome (λ original calls. Goes (recording steps records) (course_calls (course_of parts.config ts it.key original) calls) (parts, xs) (answer_state at (parts', ys))) in
+      SendTaken (recording steps records) (send_outcome ts it outcome) (parts, xs) (answer_state at (parts', ys)) in
       record {
         at = at;
         goes =
@@ -189,7 +189,7 @@ module _ {H L T C : Type 0} {steps : H → HealthItem → H → Type 0} {records
       → OutcomeTaken (recording steps records) (send_outcome old.state.targets it outcome) old (stepped wanted new) → new.parts.config ≡ old.parts.config → IsReady new.parts.config new.state
   outcome_ready {outcome} {it} {old} {new} out outcome' same =
       let sent = out.sent in
-      let goes = outcome'.goes sent.original sent.calls sent.form sent.found in
+      let goes = sent_goes outcome'.goes sent.original sent.calls sent.form sent.found in
       let state : SessionState = record old.state { outbox = new.state.outbox } in
       subst (λ config. IsReady config new.state) (sym same)
       (subst (IsReady old.parts.config) (sym outcome'.state)
@@ -287,10 +287,6 @@ none_at key (Some waiting) at = absurd at
 pub begins_at : (config : Configuration) (state : SessionState) (key : OneKey) (sent : Option Awaited) → IsReady config state
     → state.work ≡ work.key_work key sent → sent ≡ None → BeginsAt state.begin key.share state.outbox
 begins_at config state key sent ready is none = subst (IsReadyFor config state) (is ∙ ap (work.key_work key) none) ready
-
-pub out_at : {config : Configuration} {state : SessionState} {key : OneKey} {waiting : Awaited} (sent : Option Awaited) → sent ≡ Some waiting
-    → IsReadyFor config state (work.key_work key sent) → IsOut config state (asking waiting key)
-out_at {config} {state} {key} {waiting} sent is ready = subst (λ s. IsReadyFor config state (work.key_work key s)) is ready
 
 pub false_true : {b : Bool} → b ≡ true → b ≡ false → ⊥
 false_true is other = cc

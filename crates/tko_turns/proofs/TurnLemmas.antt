@@ -18,13 +18,18 @@ use Rattle.tko_text.specs.Requests.{fault_text}
 use Rattle.tko_answer.specs.declared.parts.Parts.{Parts}
 use Rattle.tko_text.specs.Reading.{Reading, Gives, NeedsMore, Emits}
 use Rattle.tko_route.specs.Trail.{sends_in}
+use Rattle.tko_pools.specs.Configs.{Configuration}
+use Rattle.tko_answer.proofs.InteractionLemmas.{answers_sends, performs}
+use Rattle.tko_answer.specs.Interactions.{Interaction, Recorded, sends_by}
+use Rattle.tko_answer.specs.TrailEvents.{Asked}
 use Rattle.tko_answer.specs.Replies.{trails_in}
 use Rattle.tko_turns.specs.Effects.{effects_of}
 use Rattle.tko_turns.specs.Events.{Answer, Effects, Event, IdleRound, RoundAfter, Rounded, turns_of}
 use Rattle.tko_turns.specs.Ends.{IsRun, NoneRun}
 use Rattle.tko_answer.specs.Ghosts.{PartsGhosts}
 use Rattle.tko_backend.specs.Round.{probes_in, ran_out}
-use Rattle.tko_turns.specs.Turns.{Turn, is_request, refused}
+use Rattle.tko_turns.specs.Turns.{IsTurn, Turn, is_request, refused}
+use Rattle.tko_turns.specs.Turns as turns
 use Rattle.tko_turns.specs.declared.step.Progress.{Progress}
 use Rattle.tko_turns.specs.declared.step.Progress.TheVariants.{More, NeedsInput}
 use Rattle.tko_turns.specs.declared.step.Progress.TheVariants as progress
@@ -325,6 +330,16 @@ module _ {W : Type 0} {does : Effects W} where
     behind = no_more refl none;
   }
 
+-- a turn sent as often as its trails did
+turn_sends : (server : ℕ) (config : Configuration) (turn : Turn) (done : List Interaction)
+    → IsTurn config turn done → sum_by (sends_by server) done ≡ sends_to server (trails_in turn.routed)
+turn_sends server config turn done (refused fault is none text nothing) =
+    ap (sum_by (sends_by server)) nothing ∙ sym (ap (λ routed. sends_to server (trails_in routed)) none)
+turn_sends server config turn done (turns.answered request then is are it) =
+    let here : sum_by (sends_by server) (Recorded (Asked request) ∷ then) ≡ 0 + 0 + sum_by (sends_by server) then =
+    sum_by-append (sends_by server) (Recorded (Asked request) ∷ []) then in
+    omega (arith, ap (sum_by (sends_by server)) are, here, answers_sends server config request turn.routed turn.text then it)
+
 module _ {H L T C : Type 0} (ghosts : PartsGhosts H L T C) where
   -- a fault is answered, which changes nothing but the outbox
   pub answered_fault : (old mid new : SessionState) (world : Parts H L T C) (fault : TextFault) (progress : Progress)
@@ -336,7 +351,7 @@ module _ {H L T C : Type 0} (ghosts : PartsGhosts H L T C) where
     events = Answer (record { item = item.Fault fault; routed = []; text = fault_text fault }) ∷ [];
     turned = record {
       gives = subst (λ to. Gives old.reading (item.Fault fault ∷ []) to) (sym (ap (λ s. s.reading) e)) (Gives-one _ _ _ told);
-      gains = gains_one (refused fault refl refl refl refl);
+      gains = gains_one (performs (λ config. IsTurn config (record { item = item.Fault fault; routed = []; text = fault_text fault })) (refused fault refl refl refl refl) (gains_none world));
       order =
           let owes : new.owes ≡ false = ap (λ s. s.owes) e ∙ ap (λ s. s.owes) same ∙ none in
           rw (none, owes) refl;
@@ -381,9 +396,10 @@ module _ {H L T C : Type 0} {ghosts : PartsGhosts H L T C} where
       order = rw (none, replied.owes) refl;
       counts = record {
         sends = λ server.
-            replied.sends server
-            ∙ ap (λ trails. ghosts.backend.sent before.backend.links server + sends_to server trails) (sym (append-nil (trails_in replied.routed)));
-        probes = λ server. replied.probes server ∙ sym (add-zero (ghosts.backend.probed before.backend.links server));
+            replied.becomes.sends server
+            ∙ ap (λ n. ghosts.backend.sent before.backend.links server + n) (turn_sends server before.config _ replied.becomes.done replied.becomes.is
+            ∙ ap (sends_to server) (sym (append-nil (trails_in replied.routed))));
+        probes = λ server. replied.becomes.probes server ∙ sym (add-zero (ghosts.backend.probed before.backend.links server));
       };
       memory = refl;
       requests = replied.requests ∙ ap (λ s. capped (s.requests + 1)) same;

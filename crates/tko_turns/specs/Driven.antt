@@ -9,8 +9,7 @@ use Rattle.tko_text.specs.declared.request.Request.{Request}
 use Rattle.tko_links.specs.declared.links.Outcome.{Outcome}
 use Rattle.tko_pools.specs.Configs.{Configuration}
 use Rattle.tko_io.specs.Io.{capped}
-use Rattle.tko_answer.specs.Answers.{AnswersItself}
-use Rattle.tko_answer.specs.Asking.{BeginsAt, GoesTo, IsBeginCut, IsFirst, IsSent, KeyCut, KeyTaken, SendCut, SendOutcome, SendTaken, send_outcome}
+use Rattle.tko_answer.specs.Asking.{AnsweredItself, BeginsAt, GoesTo, IsBeginCut, IsFirst, IsSent, KeyCut, KeyTaken, SendCut, SendOutcome, SendTaken, send_outcome}
 use Rattle.tko_answer.specs.Ghosts.{Recording}
 use Rattle.tko_answer.specs.TrailEvents.{Asked}
 use Rattle.tko_answer.specs.Standing.{Asking, Standing, answer_state, key_state}
@@ -122,7 +121,7 @@ module _ {H L T C : Type 0} (ghosts : Recording H T) where
   pub data RequestBegun (request : Request) (old : Snapshot (Parts H L T C))
       (to : Stepped (Parts H L T C)) : Type 0 where
     itself : (told : T) (text : List ℕ) → ghosts.records old.parts.trails (Asked request) told
-        → AnswersItself ghosts.steps request (record old.parts { trails = told })
+        → AnsweredItself ghosts.steps request (record old.parts { trails = told })
         (to.session.parts, text)
         → to.wanted ≡ step.At (progress_of request)
         → to.session.state ≡ went answer.Done
@@ -135,8 +134,8 @@ module _ {H L T C : Type 0} (ghosts : Recording H T) where
 
   -- memory ran out there: while the request was recorded, after that, or at its first key
   pub data RequestDropped (request : Request) (old new : Snapshot (Parts H L T C)) : Type 0 where
-    unrecorded : new.parts ≡ record old.parts { trails = new.parts.trails }
-        → new.state ≡ begun_at old.state → RequestDropped request old new
+    unrecorded : new.parts ≡ old.parts → new.state ≡ begun_at old.state
+        → RequestDropped request old new
     recorded : (told : T) → ghosts.records old.parts.trails (Asked request) told
         → IsBeginCut ghosts.steps request (record old.parts { trails = told }) new.parts
         → new.state ≡ begun_at old.state → RequestDropped request old new

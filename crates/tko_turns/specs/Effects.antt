@@ -7,13 +7,14 @@ use Rattle.tko_answer.specs.declared.parts.Parts.{Parts}
 use Rattle.tko_turns.specs.Turns.{IsRequestCut}
 use Rattle.tko_turns.specs.Events.{Effects, IsEvent}
 use Rattle.tko_answer.specs.Ghosts.{PartsGhosts, parts_ghosts}
+use Rattle.tko_answer.specs.Interactions.{Performs}
 use Rattle.tko_turns.specs.SessionState.{probed_by, sent_by}
 
 -- the effects on parts that show this
 abbrev pub effects_of : {H L T C : Type 0} → PartsGhosts H L T C → Effects (Parts H L T C)
 effects_of ghosts = record {
   step = IsEvent ghosts;
-  cut = IsRequestCut ghosts;
+  cut = λ request. Performs ghosts (λ config. IsRequestCut config request);
   sent = sent_by ghosts.backend.sent;
   probed = probed_by ghosts.backend.probed;
 }

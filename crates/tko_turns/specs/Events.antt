@@ -6,7 +6,8 @@ use Rattle.tko_answer.specs.declared.parts.Parts.{Parts}
 use Rattle.tko_backend.specs.Ghosts.{BackendGhosts}
 use Rattle.tko_backend.specs.Round.{IsRound, Visit, ran_out}
 use Rattle.tko_answer.specs.Ghosts.{PartsGhosts}
-use Rattle.tko_turns.specs.Turns.{Turn, IsTurn, is_request}
+use Rattle.tko_answer.specs.Interactions.{Performs}
+use Rattle.tko_turns.specs.Turns.{IsTurn, Turn, is_request}
 
 -- an item and what became of it, the round after a request, or the round at an idle turn of the
 -- reader; a round with its visit of each server
@@ -92,6 +93,6 @@ module _ {H L T C : Type 0} (ghosts : BackendGhosts H L C) where
 -- what an event changes
 abbrev pub IsEvent : {H L T C : Type 0} → PartsGhosts H L T C → Parts H L T C → Event
     → Parts H L T C → Type 0
-IsEvent ghosts old (Answer turn) new = IsTurn ghosts old turn new
+IsEvent ghosts old (Answer turn) new = Performs ghosts (λ config. IsTurn config turn) old new
 IsEvent ghosts old (RoundAfter visits) new = IsRoundOf ghosts.backend visits old new
 IsEvent ghosts old (IdleRound visits) new = IsRoundOf ghosts.backend visits old new

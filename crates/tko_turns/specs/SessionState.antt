@@ -19,6 +19,7 @@ use Rattle.tko_io.specs.Io.{capped}
 use Rattle.tko_answer.specs.Replies.{RoutedKey, reply_bound, sends_to, trails_in}
 use Rattle.tko_backend.specs.Round.{probes_in}
 use Rattle.tko_answer.specs.Ghosts.{PartsGhosts}
+use Rattle.tko_answer.specs.Interactions.{Performs}
 use Rattle.tko_turns.specs.Turns.{IsTurn, Turn, is_request}
 
 -- how far the input was read, the replies that wait to be written, the number of requests, and
@@ -147,14 +148,8 @@ pub record Replied {H L T C : Type 0} (ghosts : PartsGhosts H L T C)
     : Type 0 where
   pub routed : List RoutedKey
   pub text : List ℕ
-  pub becomes : IsTurn ghosts old.parts
-      (record { item = item.Request request; routed = routed; text = text }) new.parts
-  pub sends : (server : ℕ)
-      → ghosts.backend.sent new.parts.backend.links server
-      ≡ ghosts.backend.sent old.parts.backend.links server + sends_to server (trails_in routed)
-  pub probes : (server : ℕ)
-      → ghosts.backend.probed new.parts.backend.links server
-      ≡ ghosts.backend.probed old.parts.backend.links server
+  pub becomes : Performs ghosts (λ config. IsTurn config
+      (record { item = item.Request request; routed = routed; text = text })) old.parts new.parts
   pub reading : new.state.reading ≡ old.state.reading
   pub outbox : new.state.outbox ≡ old.state.outbox ++ text
   pub requests : capped new.state.requests ≡ capped (old.state.requests + 1)

@@ -4,8 +4,9 @@ ghost use Rattle.std.specs.Prelude.{◌≡◌, ◌≢◌, ◌≤◌, ◌↔◌, 
 ghost use Rattle.tko_text.specs.Reading.{Emits, NeedsMore, Never};
 ghost use Rattle.tko_text.specs.Requests.{fault_text};
 ghost use Rattle.tko_answer.specs.Answering.{Extends};
-ghost use Rattle.tko_answer.specs.Asking.{BeginsAt, HasServers, Stays, with_noted};
+ghost use Rattle.tko_answer.specs.Asking.{BeginsAt, HasServers, Stays};
 ghost use Rattle.tko_answer.specs.Ghosts.{recording};
+ghost use Rattle.tko_answer.specs.Interactions.{with_noted};
 ghost use Rattle.tko_answer.specs.Replies.{reply_bound};
 ghost use Rattle.tko_turns.specs.Driven.{AwaitedDropped, AwaitedTaken, IsAwaiting, IsReady, ItemDropped, ItemRead, KeyAtWorkBegun, KeyAtWorkDropped, MayGoOn, RequestBegun, RequestDropped, WasDropped, WentOn, dropped, step_of, stepped, went};
 ghost use Rattle.tko_answer.specs.Standing.{Asking, Done, standing_of};

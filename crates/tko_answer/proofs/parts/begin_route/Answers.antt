@@ -6,5 +6,5 @@ use Rattle.tko_answer.proofs.parts.begin_route.Goals as goal
 
 pub returns-clause-ok : goal.returns-clause-ok
 returns-clause-ok g c =
-    subst (λ xs. IfOk c.begin.result (λ stage. (form : ℕ → Request) → GoesOn g.H.Health.steps c.args.parts.now.backend.health (λ calls. Reached xs form calls stage) c.begin.new.health))
+    subst (λ xs. IfOk c.begin.result (λ stage. GoesOn g.H.Health.steps c.args.parts.now.backend.health (λ calls. (form : ℕ → Request) → Reached xs form calls stage) c.begin.new.health))
     c.deref.ensures.value c.begin.ensures.calls

@@ -12,8 +12,8 @@ use Rattle.tko_route.proofs.failover.route.Goals as goal
 pub loop-stage-init : goal.loop-stage-init
 loop-stage-init g c =
     let form = form_at c.args.exptime (without_noreply c.args.request.now) in
-    let on = c.in-Ok.ensures.calls form in (
-      (map Told on.items, on.is, gains_told (upstream g.H.Health g.L.Links) (gains_none (c.args.health.now, c.args.links.now)) on.gains),
+    let on = c.in-Ok.ensures.calls in (
+      (map Told on.items, on.is form, gains_told (upstream g.H.Health g.L.Links) (gains_none (c.args.health.now, c.args.links.now)) on.gains),
       c.begin.ensures.servers,
       refl,
       c.in-Ok.ensures.ok_request,
@@ -43,11 +43,11 @@ loop-stage-preserved g c =
     let so_far = c.loop-stage.invariant.0 in
     let at = subst (λ (s : Stage). Reached c.args.targets.now form so_far.0 s) c.in-Away.is so_far.1 in
     let form_is = subst (λ (s : Stage). c.loop-stage.request ≡ form (last_place s)) c.in-Away.is c.loop-stage.invariant.3 in
-    let on = c.answered-stage.ensures.calls form so_far.0 at.2 in
+    let on = c.answered-stage.ensures.calls in
     let item = came c.in-Away.waiting.server (form (length c.in-Away.waiting.attempts)) (Ok c.in-Ok-exchange.outcome) in (
       (
         so_far.0 ++ item ∷ map Told on.items,
-        on.is,
+        on.is form so_far.0 at.2,
         made_sent (upstream g.H.Health g.L.Links) {old = (c.args.health.now, c.args.links.now)} so_far.2 at.1
             (record { item = c.in-Ok-exchange.ensures.record; spent = c.in-Ok-exchange.ensures.spent; sends = c.in-Ok-exchange.ensures.sends })
             form_is on.gains,

@@ -9,7 +9,7 @@ pub loop-attempts-preserved : goal.loop-attempts-preserved
 loop-attempts-preserved g c =
     let place : c.len-in-loop-attempts-2.result ≡ length c.loop-attempts.attempts.items = search rules in
     let count = count_pushed _ c.loop-attempts.attempts.items _ c.push_reserved.ensures.items in (
-      λ form calls make. skipped form calls _ _ (c.loop-attempts.invariant.0 form calls make) c.in-Marked.ensures.step c.push_reserved.ensures.items,
+      skipped _ _ c.loop-attempts.invariant.0 c.in-Marked.ensures.step c.push_reserved.ensures.items,
       record { servers = grind (arith, common_steps); unanswered = grind (arith, common_steps) },
       grind (arith, common_steps),
       omega (arith, c.push_reserved.ensures.capacity, c.loop-attempts.invariant.3),
@@ -20,5 +20,4 @@ loop-attempts-preserved g c =
     )
 
 pub returns-in-Up-clause-calls : goal.returns-in-Up-clause-calls
-returns-in-Up-clause-calls g c = λ form calls make.
-    found_up form calls _ _ c.in-Up.ensures.names (c.loop-attempts.invariant.0 form calls make) c.in-Up.ensures.step
+returns-in-Up-clause-calls g c = found_up _ _ c.in-Up.ensures.names c.loop-attempts.invariant.0 c.in-Up.ensures.step

@@ -7,8 +7,8 @@ use Rattle.tko_route.proofs.looking.look_on.Given as goal
 
 abbrev pub invariant-loop-attempts : goal.invariant-loop-attempts
 invariant-loop-attempts g l =
-    ((form : ℕ → Request) (calls : List Call) → Makes form calls l.fn.attempts.items
-    → GoesOn g.H.Health.steps l.fn.health (λ more. Makes form (calls ++ more) l.attempts.items) l.health)
+    GoesOn g.H.Health.steps l.fn.health (λ more. (form : ℕ → Request) (calls : List Call) → Makes form calls l.fn.attempts.items
+    → Makes form (calls ++ more) l.attempts.items) l.health
     × IsTried l.targets l.attempts.items
     × (length l.fn.attempts.items ≤ length l.attempts.items)
     × (length l.targets ≤ vec_capacity l.attempts)

@@ -2,7 +2,7 @@ use Rattle.std.proofs.Common.{Err, Ok, refl, subst, sym}
 use Rattle.std.proofs.lemmas.Result.{err_from_is_err_and}
 use Rattle.tko_route.specs.Calls.{IsExchange, upstream}
 use Rattle.tko_answer.specs.Answers.{Reaches}
-use Rattle.tko_answer.proofs.DrivingLemmas.{linked_reach, noted_reach, stays_reach}
+use Rattle.tko_answer.proofs.ReachLemmas.{linked_reach, noted_reach, stays_reach}
 use Rattle.tko_turns.specs.Driven.{IsAwaiting, IsReadyFor, MayGoOn}
 use Rattle.tko_turns.specs.SessionState.{snapshot}
 use Rattle.tko_turns.proofs.DrivenLemmas.{key_cut, on_asks, on_at, on_next, outcome_cut, outcome_on, read_cut, read_on, same_ok, stop_cut, went_on}
@@ -27,7 +27,7 @@ returns-in_err-step-clause-reach g c = stays_reach c.requires.reach c.in_err-ste
 pub loop-init : goal.loop-init
 loop-init g c = (
   read_on g.H.Health g.L.Links g.T.Trails g.C.Clock (snapshot c.args.session.now c.args.parts.now) c.in_ok-step.step (snapshot c.next.new.self c.next.new.parts)
-      c.requires.settled c.requires.room c.in_ok-step.ensures.stays c.in_ok-step.ensures.ok,
+      c.requires.settled c.requires.room c.in_ok-step.ensures.ok,
   c.in_ok-step.ensures.ready,
   stays_reach c.requires.reach c.in_ok-step.ensures.stays,
 )

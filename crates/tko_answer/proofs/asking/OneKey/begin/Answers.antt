@@ -16,14 +16,14 @@ returns-clause-ok g c =
     let form = form_at c.args.parts.now.config.failover_exptime (without_noreply c.args.self.now.request) in
     let on = c.in_ok-stage.ensures in
     if_ok c.settle.result c.settle.ensures.ok (λ at settles.
-    begin_goes c.in_ok-stage.stage _ c.args.self.now.share _ form on.others on.request (on.ok form) settles)
+    begin_goes c.in_ok-stage.stage _ c.args.self.now.share _ form on.others on.request (record { items = on.ok.items; gains = on.ok.gains; is = on.ok.is form }) settles)
 
 pub returns-clause-cut : goal.returns-clause-cut
 returns-clause-cut g c =
     let form = form_at c.args.parts.now.config.failover_exptime (without_noreply c.args.self.now.request) in
     let on = c.in_ok-stage.ensures in
     on_errs c.settle.result c.settle.ensures.cut (λ cut key is.
-    let goes = begin_goes_cut c.in_ok-stage.stage _ c.args.self.now.share _ form on.others on.request (on.ok form) cut in
+    let goes = begin_goes_cut c.in_ok-stage.stage _ c.args.self.now.share _ form on.others on.request (record { items = on.ok.items; gains = on.ok.gains; is = on.ok.is form }) cut in
     subst (λ xs. IsKeyBeginCut (recording g.H.Health.steps g.T.Trails.records) (record { targets = xs; form = form; share = c.args.self.now.share }) c.args.parts.now c.settle.new.parts)
     (on.targets key is) (ended goes))
 

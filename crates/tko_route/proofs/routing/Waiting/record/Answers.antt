@@ -4,10 +4,10 @@ use Rattle.tko_route.specs.Trail.{server_of}
 use Rattle.tko_route.proofs.routing.Waiting.record.Goals as goal
 
 pub returns-clause-calls : goal.returns-clause-calls
-returns-clause-calls g c = λ form calls up.
+returns-clause-calls g c =
     let at : server_of c.conclude.result ≡ c.args.self.server = search rules in
     let parts : c.push_reserved.new.self.items ≡ c.args.self.attempts ++ c.conclude.result ∷ [] = search rules in
-    recorded form calls c.args.self c.conclude.result c.args.outcome up c.conclude.ensures.ends c.conclude.ensures.outcome at parts
+    recorded c.args.self c.conclude.result c.args.outcome c.conclude.ensures.ends c.conclude.ensures.outcome at parts
 
 pub returns-clause-underway : goal.returns-clause-underway
 returns-clause-underway g c = λ targets awaited.
