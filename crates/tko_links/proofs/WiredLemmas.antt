@@ -3,17 +3,17 @@ use Rattle.std.proofs.Common.{◌≡◌, ℕ, Bool, true, false, List, [], ◌�
 use Rattle.std.specs.List.{concat}
 use Rattle.std.proofs.lemmas.Grind.{flat_map-append}
 use Rattle.tko_model.specs.Records.{Gains, Lead}
-use Rattle.tko_model.proofs.RecordLemmas.{gains_append, gains_none}
+use Rattle.tko_model.proofs.RecordLemmas.{gains_append, gains_none, gains_one}
 use Rattle.tko_text.specs.declared.request.Request.{Request}
 use Rattle.tko_text.specs.Requests.{request_text}
 use Rattle.tko_links.specs.declared.links.Outcome.{Outcome}
 use Rattle.tko_links.specs.declared.links.Outcome.TheVariants as outcome
-use Rattle.tko_links.specs.Exchanges.{ConnectionFailed, Ended, Ends, IsBroken, IsExchange, IsFront, IsOpening, Unreadable, WriteTookNone, closing_of, given_up, got_all, tried, wrote_all}
-use Rattle.tko_links.specs.Links.{LinksItem}
+use Rattle.tko_links.specs.Exchanges.{ConnectionFailed, Ended, Ends, IsBroken, IsExchange, IsFront, IsProbing, IsOpening, Unreadable, WriteTookNone, closing_of, given_up, got_all, tried, wrote_all}
+use Rattle.tko_links.specs.Links.{LinksItem, Sent, Probed}
 use Rattle.tko_links.specs.Scripted.{probes_after_all, sends_after_all}
 use Rattle.tko_links.specs.WireRecords.{AreAt, IsDone, IsWireRecord, bytes_of, written_in}
-use Rattle.tko_links.specs.Wired.{IsWired, WiredState, asked_in, came_of_item, server_of}
-use Rattle.tko_links.specs.Wires.{WireItem, Checked, Failed, Shut}
+use Rattle.tko_links.specs.Wired.{IsOverWire, IsWired, WiredState, asked_in, server_of}
+use Rattle.tko_links.specs.Wires.{WireItem, Checked, Failed, Limited, Shut}
 
 -- items at one server that wrote nothing
 record IsSilent (server : ℕ) (items : List WireItem) : Type 0 where
@@ -97,6 +97,16 @@ only_written opening wrote got closing o g c =
     ∙ ap (λ xs. written_in wrote ++ xs) (flat_map-append bytes_of got closing ∙ ap (λ xs. xs ++ written_in closing) g ∙ c)
     ∙ append-nil (written_in wrote)
 
+-- the wire's items of one item of the links
+record Done {W : Type 0} (steps : W → WireItem → W → Type 0) (it : LinksItem) (old new : W) : Type 0 where
+  items : List WireItem
+  done : IsDone it items
+  gains : Gains steps old items new
+
+probe_bytes : (server : ℕ) (items : List WireItem)
+    → written_in (Limited server true ∷ (items ++ Limited server false ∷ [])) ≡ written_in items
+probe_bytes server items = flat_map-append bytes_of items (Limited server false ∷ []) ∙ append-nil (written_in items)
+
 module _ {W : Type 0} {servers : W → ℕ} {connected : W → ℕ → Bool} {failures : W → ℕ} {steps : W → WireItem → W → Type 0} where
   abbrev items_of : {server : ℕ} {request : Request} {old new : W} {came : Option Outcome}
       → IsExchange servers connected failures steps server request old came new → List WireItem
@@ -122,13 +132,28 @@ module _ {W : Type 0} {servers : W → ℕ} {connected : W → ℕ → Bool} {fa
       opening.quiet (got_silent server exchange.got).quiet closing.quiet
       ∙ wrote_bytes server exchange.sent
 
-  exchange_done : (it : LinksItem) {old new : W}
-      → (exchange : IsExchange servers connected failures steps (server_of it) (asked_in it) old (came_of_item it) new)
-      → IsDone it (items_of exchange)
-  exchange_done it exchange = record {
+item_done : {W : Type 0} (servers : W → ℕ) (connected : W → ℕ → Bool) (failures : W → ℕ)
+    (steps : W → WireItem → W → Type 0) (it : LinksItem) {old new : W}
+    → IsOverWire servers connected failures steps old it new → Done steps it old new
+item_done servers connected failures steps (Sent server request came) exchange = record {
+  items = items_of exchange;
+  done = record {
     own = exchange_at exchange;
-    front = subst (λ xs. IsFront xs (request_text (asked_in it))) (sym (exchange_bytes exchange)) exchange.front;
-  }
+    front = subst (λ xs. IsFront xs (request_text request)) (sym (exchange_bytes exchange)) exchange.front;
+  };
+  gains = exchange.part.gains;
+}
+item_done servers connected failures steps (Probed server came) probing =
+    let exchange = probing.exchange in
+    record {
+      items = Limited server true ∷ (items_of exchange ++ Limited server false ∷ []);
+      done = record {
+        own = (refl, at_append server (items_of exchange) _ (exchange_at exchange) (refl, tt));
+        front = subst (λ xs. IsFront xs (request_text (asked_in (Probed server came))))
+            (sym (probe_bytes server (items_of exchange) ∙ exchange_bytes exchange)) exchange.front;
+      };
+      gains = gains_append probing.begun.gains (gains_append exchange.part.gains probing.ended.gains);
+    }
 
 records : {W : Type 0} (servers : W → ℕ) (connected : W → ℕ → Bool) (failures : W → ℕ) (steps : W → WireItem → W → Type 0)
     (old new : WiredState W) (items : List LinksItem) → Lead (IsWired servers connected failures steps) old items new
@@ -143,10 +168,11 @@ records {W} servers connected failures steps old new [] e =
     }
 records {W} servers connected failures steps old new (it ∷ items) (mid, step, rest) =
     let behind = records servers connected failures steps mid new items rest in
+    let here = item_done servers connected failures steps it step.exchange in
     record {
-      calls = items_of step.exchange ∷ behind.calls;
-      done = (exchange_done it step.exchange, behind.done);
-      gains = gains_append step.exchange.part.gains behind.gains;
+      calls = here.items ∷ behind.calls;
+      done = (here.done, behind.done);
+      gains = gains_append here.gains behind.gains;
       sends = behind.sends ∙ ap (λ (counts : List ℕ). sends_after_all counts items) step.sends;
       probes = behind.probes ∙ ap (λ (counts : List ℕ). probes_after_all counts items) step.probes;
     }

@@ -1,5 +1,5 @@
 -- The time of an exchange, by a clock that may not be readable.
-use Rattle.std.specs.Prelude.{ℕ, ◌-◌, Option, Some, None, unwrap_or}
+use Rattle.std.specs.Prelude.{ℕ, ◌-◌, ◌/◌, max, Option, Some, None, unwrap_or}
 use Rattle.std.specs.declared.time.Instant.{Instant}
 use Rattle.std.specs.Duration.{as_nanos}
 use Rattle.std.specs.Time.{instant_nanos}
@@ -14,3 +14,7 @@ passed _ _ = None
 -- none did
 abbrev pub left_at : ExchangeTime → Option Instant → ℕ
 left_at time now = as_nanos time.limit - unwrap_or (passed time.begun now) 0
+
+-- one of so many equal parts of a time; of no parts, all of it
+abbrev pub share_of : ℕ → ℕ → ℕ
+share_of left parts = left / max parts 1

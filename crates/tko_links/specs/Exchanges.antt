@@ -3,6 +3,7 @@ use Rattle.std.specs.Prelude.{◌≡◌, ℕ, ◌+◌, ◌⊎◌, Bool, true, fa
 use Rattle.std.specs.List.{concat}
 use Rattle.tko_model.specs.Records.{Gains}
 use Rattle.tko_text.specs.declared.request.Request.{Request}
+use Rattle.tko_text.specs.declared.request.Request.TheVariants.{Version as version}
 use Rattle.tko_text.specs.declared.response.Response.{Response}
 use Rattle.tko_text.specs.declared.response.fault.ReadFault.TheVariants as read_fault
 use Rattle.tko_text.specs.Requests.{request_text}
@@ -11,7 +12,7 @@ use Rattle.tko_links.specs.declared.links.Outcome.{Outcome}
 use Rattle.tko_links.specs.declared.links.Outcome.TheVariants as outcome
 use Rattle.tko_links.specs.declared.wire.WireFault.TheVariants as wire_fault
 use Rattle.tko_links.specs.Incoming.{IsReply}
-use Rattle.tko_links.specs.Wires.{WireItem, Connected, Unconnected, Wrote, Got, Failed, Shut, Checked, OthersSame}
+use Rattle.tko_links.specs.Wires.{WireItem, Connected, Unconnected, Wrote, Got, Failed, Shut, Checked, Limited, OthersSame}
 
 -- how many failures of the wire an item is: to take none of a piece is one
 abbrev pub failures_of : WireItem → ℕ
@@ -23,6 +24,7 @@ failures_of (Got server bytes) = 0
 failures_of (Failed server fault) = 1
 failures_of (Shut server) = 0
 failures_of (Checked server usable) = 0
+failures_of (Limited server is_probe) = 0
 
 -- these are the wire's items from the one state to the other, the connection of this server is
 -- there at their end or not, and no other server's connection changed
@@ -142,3 +144,16 @@ pub record IsExchange {W : Type 0} (servers : W → ℕ) (connected : W → ℕ 
   pub front : IsFront (concat sent) (request_text request)
   pub order : (got ≡ []) ⊎ (concat sent ≡ request_text request)
   pub ends : Ends server request came sent got closing stays
+
+-- A probe asks for the version, in an exchange under the time limit of probes. After it the whole
+-- limit is set again.
+pub record IsProbing {W : Type 0} (servers : W → ℕ) (connected : W → ℕ → Bool) (failures : W → ℕ)
+    (steps : W → WireItem → W → Type 0) (server : ℕ) (old : W) (came : Option Outcome) (new : W)
+    : Type 0 where
+  pub first : W
+  pub last : W
+  pub begun : IsPart servers connected failures steps server old (Limited server true ∷ [])
+      (connected old server) first
+  pub exchange : IsExchange servers connected failures steps server version first came last
+  pub ended : IsPart servers connected failures steps server last (Limited server false ∷ [])
+      (connected last server) new

@@ -2,6 +2,7 @@ pub mod ExchangeParts
 pub mod ExchangeTimes
 pub mod Exchanges
 pub mod Faults
+pub mod Hosts
 pub mod Incoming
 pub mod Links
 pub mod MemoryWires

@@ -1,9 +1,11 @@
 -- A connection over TCP: the time limit of the exchange on it.
-use Rattle.std.specs.Prelude.{◌≡◌, ◌≤◌, ℕ, true, false, List, length}
+use Rattle.std.specs.Prelude.{◌≡◌, ◌≤◌, ℕ, true, false, List, length, Option}
 use Rattle.std.specs.declared.time.Duration.{Duration}
+use Rattle.std.specs.declared.time.Instant.{Instant}
 use Rattle.std.specs.Duration.{as_nanos}
 use Rattle.tko_links.specs.declared.exchange_time.ExchangeTime.{ExchangeTime}
 use Rattle.tko_links.specs.declared.tcp_connection.TcpConnection.{TcpConnection}
+use Rattle.tko_links.specs.ExchangeTimes.{left_at}
 
 -- a new connection belongs to the exchange that it was made for, of whose time connecting took its
 -- part; the socket's limits are those of a whole exchange
@@ -19,11 +21,12 @@ pub record Begins (limit : Duration) (old new : TcpConnection) : Type 0 where
   pub limited : new.time.limit ≡ limit
   pub socket : new.socket ≡ old.socket
 
--- what a call may take: the whole limit where no call of the exchange can have waited, and never
--- more than it
-pub record IsAllowed (connection : TcpConnection) (limit : Duration) : Type 0 where
+-- what a call that begins at this moment may take: the whole limit where no call of the exchange can
+-- have waited, and else what is left of it then
+pub record IsAllowed (connection : TcpConnection) (now : Option Instant) (limit : Duration)
+    : Type 0 where
   pub whole : connection.has_waited ≡ false → limit ≡ connection.time.limit
-  pub most : as_nanos limit ≤ as_nanos connection.time.limit
+  pub left : connection.has_waited ≡ true → as_nanos limit ≡ left_at connection.time now
 
 -- the most bytes of a write that does not wait where nothing else is on its way: 16 KiB
 abbrev pub quick_write : ℕ

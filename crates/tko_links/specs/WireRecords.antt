@@ -6,7 +6,7 @@ use Rattle.tko_links.specs.Exchanges.{IsFront}
 use Rattle.tko_links.specs.Links.{LinksItem}
 use Rattle.tko_links.specs.Scripted.{probes_after_all, sends_after_all}
 use Rattle.tko_links.specs.Wired.{WiredState, asked_in, server_of}
-use Rattle.tko_links.specs.Wires.{WireItem, Connected, Unconnected, Wrote, Got, Failed, Shut, Checked}
+use Rattle.tko_links.specs.Wires.{WireItem, Connected, Unconnected, Wrote, Got, Failed, Shut, Checked, Limited}
 
 -- the server of an item
 abbrev pub place_of : WireItem → ℕ
@@ -17,6 +17,7 @@ place_of (Got server bytes) = server
 place_of (Failed server fault) = server
 place_of (Shut server) = server
 place_of (Checked server usable) = server
+place_of (Limited server is_probe) = server
 
 -- all items are at this server
 abbrev pub AreAt : ℕ → List WireItem → Type 0
@@ -32,6 +33,7 @@ bytes_of (Got server bytes) = []
 bytes_of (Failed server fault) = []
 bytes_of (Shut server) = []
 bytes_of (Checked server usable) = []
+bytes_of (Limited server is_probe) = []
 
 abbrev pub written_in : List WireItem → List ℕ
 written_in items = flat_map bytes_of items

@@ -18,6 +18,8 @@ pub data WireItem : Type 0 where
   Shut : (server : ℕ) → WireItem
   -- before an exchange: whether the connection can still be used
   Checked : (server : ℕ) (usable : Bool) → WireItem
+  -- the time limit of the next exchange was set: that of a probe of this server, or the whole one
+  Limited : (server : ℕ) (is_probe : Bool) → WireItem
 
 abbrev pub is_ok : {A E : Type 0} → Result A E → Bool
 is_ok (Ok done) = true

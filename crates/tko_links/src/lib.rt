@@ -6,19 +6,23 @@
 //!   as a `RequestText`.
 //! - `Wire`: the connections to the servers and their bytes; `TcpWire`: those over TCP.
 //! - `Wired`: links over a wire; `TcpLinks`: those over TCP.
+//! - `Names`: the hosts of the servers, which one thread looks up for all workers.
 //! - `IoRuntime`: a runtime that lets a call wait and use the network.
 //! - `raise`: raises a count by 1.
 #![tactic(auto)]
 
+mod addresses;
 mod counting;
 mod exchange_time;
 mod exchanging;
 mod fault;
+mod host_state;
 mod incoming;
 mod io_runtime;
 mod laws;
 mod limited_stream;
 mod links;
+mod names;
 mod probe_time;
 mod read_buffer;
 mod scripted;
@@ -35,6 +39,7 @@ pub use counting::raise;
 pub use io_runtime::IoRuntime;
 pub use laws::{scripted_replays, tcp_counts};
 pub use links::{Links, NoMemory, Outcome};
+pub use names::Names;
 pub use scripted::{RequestText, Script, Scripted};
 pub use tcp_wire::TcpWire;
 pub use wire::{Wire, WireFault};

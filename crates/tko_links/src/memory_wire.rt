@@ -182,7 +182,7 @@ impl Wire for MemoryWire {
         self.peers[server].is_quiet()
     }
 
-    fn set_probing<R: IoRuntime>(&mut self, _rt: &R, _is_probe: bool) {}
+    fn set_probing<R: IoRuntime>(&mut self, _rt: &R, _server: usize, _is_probe: bool) {}
 
     fn is_connected(&self, server: usize) -> bool {
         self.connected[server]

@@ -1,27 +1,53 @@
-//! Connecting to a server by its name, within a time limit.
+//! Connecting to a server by its address, within a time limit.
 
 use crate::exchange_time::ExchangeTime;
 use crate::io_runtime::IoRuntime;
+use crate::names::Names;
 use crate::tcp_address::host_and_port;
 use std::io::{Error, ErrorKind, Result};
-use std::net::{SocketAddr, TcpStream, ToSocketAddrs};
+use std::net::{IpAddr, SocketAddr, TcpStream};
 use std::time::Instant;
 
-/// Connects to one of the addresses that a server's name has, in the order that the system gives
-/// them. Each has an equal part of the time that is left, so that one that does not answer leaves
-/// time for those after it. Looking the name up takes as long as the system's resolver does.
+/// Connects to a server. A host that is a name is one of `names`. It waits for addresses of the
+/// name where none are known, and where it cannot connect to any, it asks for a look-up.
 pub(crate) fn connect<R: IoRuntime>(
     rt: &R,
+    names: &Names,
     address: &str,
     time: &ExchangeTime,
 ) -> Result<TcpStream> {
-    let Some(parts) = host_and_port(address) else {
+    let Some((host, port)) = host_and_port(address) else {
         return Err(Error::from(ErrorKind::InvalidInput));
     };
-    let found = parts.to_socket_addrs(rt)?;
-    let mut untried = found.len();
+    if let Ok(ip) = host.parse::<IpAddr>() {
+        return connect_one(rt, SocketAddr::new(ip, port), time, 1);
+    }
+    let Some(host) = names.host(host) else {
+        return Err(Error::from(ErrorKind::NotFound));
+    };
+    let Some(addresses) = names.addresses(rt, host, time) else {
+        return Err(Error::from(ErrorKind::AddrNotAvailable));
+    };
+    let connected = connect_any(rt, addresses.as_slice(), port, time);
+    if connected.is_err() {
+        names.ask(rt, host);
+    }
+    connected
+}
+
+/// Connects to one of these addresses, in order. Each has an equal part of the time that is left,
+/// so that one that does not answer leaves time for those after it.
+fn connect_any<R: IoRuntime>(
+    rt: &R,
+    addresses: &[SocketAddr],
+    port: u16,
+    time: &ExchangeTime,
+) -> Result<TcpStream> {
     let mut last = Error::from(ErrorKind::AddrNotAvailable);
-    for address in found {
+    let mut untried = u32::try_from(addresses.len()).unwrap_or(u32::MAX);
+    for address in addresses {
+        let mut address = *address;
+        address.set_port(port);
         match connect_one(rt, address, time, untried) {
             Ok(stream) => return Ok(stream),
             Err(error) => last = error,
@@ -36,11 +62,10 @@ fn connect_one<R: IoRuntime>(
     rt: &R,
     address: SocketAddr,
     time: &ExchangeTime,
-    parts: usize,
+    parts: u32,
 ) -> Result<TcpStream> {
-    let Some(left) = time.left(Instant::now(rt).ok()) else {
+    let Some(limit) = time.share(Instant::now(rt).ok(), parts) else {
         return Err(Error::from(ErrorKind::TimedOut));
     };
-    let parts = u32::try_from(parts).unwrap_or(u32::MAX);
-    TcpStream::connect_timeout(rt, &address, left.checked_div(parts).unwrap_or(left))
+    TcpStream::connect_timeout(rt, &address, limit)
 }

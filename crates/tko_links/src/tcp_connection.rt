@@ -4,13 +4,13 @@
 //! and then needs neither the clock nor another limit of the socket. Each later call has what is
 //! left.
 ghost use Rattle.std.specs.Prelude.{◌≡◌, ◌≤◌, ◌↔◌, true, false, IfErr, IfOk, length};
-ghost use Rattle.std.specs.Duration.{as_nanos};
 ghost use Rattle.tko_links.specs.ExchangeTimes.{left_at};
 ghost use Rattle.tko_links.specs.TcpConnections.{Begins, IsAllowed, IsOpened, IsQuick};
 
 use crate::exchange_time::ExchangeTime;
 use crate::io_runtime::IoRuntime;
 use crate::limited_stream::LimitedStream;
+use crate::names::Names;
 use crate::tcp_connect::connect;
 use crate::wire::WireFault;
 use std::io;
@@ -33,12 +33,13 @@ impl TcpConnection {
     /// Connects to a server, in an exchange that has begun: connecting takes its part of the time.
     pub(crate) fn open<R: IoRuntime>(
         rt: &R,
+        names: &Names,
         address: &str,
         time: ExchangeTime,
     ) -> Result<TcpConnection, WireFault>
         ensures { IfOk result (λ connection. IsOpened time connection) }
     {
-        let stream = connect(rt, address, &time).map_err(fault_of)?;
+        let stream = connect(rt, names, address, &time).map_err(fault_of)?;
         stream.set_nodelay(true).map_err(fault_of)?;
         let socket = LimitedStream::new(stream, time.limit).map_err(fault_of)?;
         Ok(TcpConnection {
@@ -63,7 +64,8 @@ impl TcpConnection {
         ensures time { self.new.time ≡ self.old.time }
     {
         for _ in rt.forever() {
-            match self.try_write(rt, bytes) {
+            let now = self.moment(rt);
+            match self.try_write(now, bytes) {
                 Err(error) if error.kind() == ErrorKind::Interrupted => {}
                 written => return written.map_err(fault_of),
             }
@@ -81,7 +83,8 @@ impl TcpConnection {
         ensures time { self.new.time ≡ self.old.time }
     {
         for _ in rt.forever() {
-            match self.try_read(rt, buffer) {
+            let now = self.moment(rt);
+            match self.try_read(now, buffer) {
                 Err(error) if error.kind() == ErrorKind::Interrupted => {}
                 read => return read.map_err(fault_of),
             }
@@ -89,16 +92,16 @@ impl TcpConnection {
         unreachable!()
     }
 
-    /// A write that a signal may interrupt.
-    fn try_write<R: IoRuntime>(&mut self, rt: &R, bytes: &[u8]) -> io::Result<usize>
+    /// A write that begins at this moment, and that a signal may interrupt.
+    fn try_write(&mut self, now: Option<Instant>, bytes: &[u8]) -> io::Result<usize>
         ensures count { IfOk result (λ count. count ≤ length bytes.now) }
-        ensures limit { IfOk result (λ count. IsAllowed self.old self.new.socket.write_limit) }
+        ensures limit { IfOk result (λ count. IsAllowed self.old now self.new.socket.write_limit) }
         ensures quick { IfOk result (λ count. (self.new.has_waited ≡ false)
             ↔ IsQuick self.old bytes.now count) }
         ensures interrupted { IfErr result (λ error. self.new.has_waited ≡ true) }
         ensures time { self.new.time ≡ self.old.time }
     {
-        let limit = self.allowance(self.moment(rt))?;
+        let limit = self.allowance(now)?;
         let is_slow = self.has_waited || bytes.len() > QUICK_WRITE;
         self.has_waited = true;
         let count = self.socket.write(limit, bytes)?;
@@ -106,14 +109,14 @@ impl TcpConnection {
         Ok(count)
     }
 
-    /// A read that a signal may interrupt.
-    fn try_read<R: IoRuntime>(&mut self, rt: &R, buffer: &mut [u8]) -> io::Result<usize>
+    /// A read that begins at this moment, and that a signal may interrupt.
+    fn try_read(&mut self, now: Option<Instant>, buffer: &mut [u8]) -> io::Result<usize>
         ensures count { IfOk result (λ count. count ≤ length buffer.new) }
-        ensures limit { IfOk result (λ count. IsAllowed self.old self.new.socket.read_limit) }
+        ensures limit { IfOk result (λ count. IsAllowed self.old now self.new.socket.read_limit) }
         ensures waited { self.new.has_waited ≡ true }
         ensures time { self.new.time ≡ self.old.time }
     {
-        let limit = self.allowance(self.moment(rt))?;
+        let limit = self.allowance(now)?;
         self.has_waited = true;
         self.socket.read(limit, buffer)
     }
@@ -129,9 +132,7 @@ impl TcpConnection {
 
     /// How long a call of the exchange may take at this moment.
     fn allowance(&self, now: Option<Instant>) -> io::Result<Duration>
-        ensures ok { IfOk result (λ limit. IsAllowed self.now limit) }
-        ensures left { IfOk result (λ limit. self.now.has_waited ≡ true
-            → as_nanos limit ≡ left_at self.now.time now) }
+        ensures ok { IfOk result (IsAllowed self.now now) }
         ensures over { IfErr result (λ error.
             (self.now.has_waited ≡ true) × (left_at self.now.time now ≡ 0)) }
     {

@@ -1,12 +1,14 @@
 //! A server, and the connection to it.
-ghost use Rattle.std.specs.Prelude.{◌≡◌, ◌≤◌, false, IfOk, IfSome, OnOk, length};
+ghost use Rattle.std.specs.Prelude.{◌≡◌, ◌≤◌, false, true, IfOk, IfSome, None, OnOk, Some, length, string_bytes};
+ghost use Rattle.std.specs.Duration.{as_nanos};
 ghost use Rattle.tko_links.specs.declared.exchange_time.ExchangeTime.{ExchangeTime};
 ghost use Rattle.tko_links.specs.TcpConnections.{IsOpened};
-ghost use Rattle.tko_links.specs.TcpWires.{is_open};
+ghost use Rattle.tko_links.specs.TcpWires.{address_of, is_open, limit_of};
 ghost use Rattle.tko_links.specs.Wires.{is_ok};
 
 use crate::exchange_time::ExchangeTime;
 use crate::io_runtime::IoRuntime;
+use crate::names::Names;
 use crate::tcp_connection::TcpConnection;
 use crate::wire::WireFault;
 use std::time::Duration;
@@ -20,7 +22,8 @@ pub(crate) struct TcpServer {
 
 impl TcpServer {
     pub(crate) fn new(address: String) -> TcpServer
-        ensures { is_open result ≡ false }
+        ensures closed { result.connection ≡ None }
+        ensures address { address_of result ≡ string_bytes address }
     {
         TcpServer {
             address,
@@ -35,14 +38,21 @@ impl TcpServer {
     }
 
     /// Begins an exchange by connecting. A connection that was there is given up.
-    pub(crate) fn connect<R: IoRuntime>(&mut self, rt: &R, limit: Duration) -> Result<(), WireFault>
+    pub(crate) fn connect<R: IoRuntime>(
+        &mut self,
+        rt: &R,
+        names: &Names,
+        limit: Duration,
+    ) -> Result<(), WireFault>
         ensures connected { is_open self.new ≡ is_ok result }
+        ensures limited { OnOk result (limit_of self.new ≡ Some (as_nanos limit)) }
+        ensures address { address_of self.new ≡ address_of self.old }
         ensures opened { OnOk result (IfSome self.new.connection (λ connection.
             (time : ExchangeTime) × (time.limit ≡ limit) × IsOpened time connection)) }
     {
         self.shut();
         let time = ExchangeTime::begin(rt, limit);
-        let connection = TcpConnection::open(rt, self.address.as_str(), time)?;
+        let connection = TcpConnection::open(rt, names, self.address.as_str(), time)?;
         self.connection = Some(connection);
         Ok(())
     }
@@ -50,6 +60,7 @@ impl TcpServer {
     pub(crate) fn write<R: IoRuntime>(&mut self, rt: &R, bytes: &[u8]) -> Result<usize, WireFault>
         ensures count { IfOk result (λ count. count ≤ length bytes.now) }
         ensures kept { is_open self.new ≡ is_open self.old }
+        ensures address { address_of self.new ≡ address_of self.old }
     {
         match &mut self.connection {
             Some(connection) => connection.write(rt, bytes),
@@ -64,6 +75,7 @@ impl TcpServer {
     ) -> Result<usize, WireFault>
         ensures count { IfOk result (λ count. count ≤ length buffer.new) }
         ensures kept { is_open self.new ≡ is_open self.old }
+        ensures address { address_of self.new ≡ address_of self.old }
     {
         match &mut self.connection {
             Some(connection) => connection.read(rt, buffer),
@@ -73,7 +85,9 @@ impl TcpServer {
 
     /// Begins an exchange: whether the connection can be used for it.
     pub(crate) fn begin<R: IoRuntime>(&mut self, rt: &R, limit: Duration) -> bool
-        ensures { is_open self.new ≡ is_open self.old }
+        ensures kept { is_open self.new ≡ is_open self.old }
+        ensures limited { is_open self.old ≡ true → limit_of self.new ≡ Some (as_nanos limit) }
+        ensures address { address_of self.new ≡ address_of self.old }
     {
         match &mut self.connection {
             Some(connection) => connection.begin(rt, limit),
@@ -83,6 +97,7 @@ impl TcpServer {
 
     pub(crate) fn shut(&mut self)
         ensures closed { is_open self.new ≡ false }
+        ensures address { address_of self.new ≡ address_of self.old }
     {
         self.connection = None;
     }

@@ -1,8 +1,8 @@
 //! Connections over TCP to a listener on loopback.
-ghost use Rattle.std.specs.Prelude.{◌≡◌, [], ◌∷◌, false, IfOk};
+ghost use Rattle.std.specs.Prelude.{◌≡◌, [], ◌∷◌, None, false, IfOk, string_bytes};
 
 use crate::tcp_address::host_and_port;
-use crate::{TcpWire, Wire, WireFault};
+use crate::{Names, TcpWire, Wire, WireFault};
 use std::alloc::Global;
 use std::net::{Ipv4Addr, SocketAddr, TcpListener};
 use std::test::Fail;
@@ -26,12 +26,21 @@ fn addresses_are_parted_at_the_last_colon(rt: HostRuntime) {
 
 /// A wire to the server with this address.
 fn wire_to(alloc: Global, address: String) -> Result<TcpWire, NoMemory>
-    ensures { IfOk result (λ wire. wire ≡ record { connected = false ∷ []; failures = 0 }) }
+    ensures { IfOk result (λ wire. wire ≡ record {
+      addresses = string_bytes address ∷ [];
+      connected = false ∷ [];
+      limits = None ∷ [];
+      failures = 0;
+      limit = 50000000;
+      whole = 50000000;
+    }) }
 {
-    TcpWire::new(alloc, &[address], 50)
+    let addresses = [address];
+    let names = Names::open(alloc, &addresses)?;
+    TcpWire::new(alloc, &addresses, names, 50)
 }
 
-/// A name that cannot be looked up, and a listener that answers nothing.
+/// A name that nobody looks up, and a listener that answers nothing.
 #[test]
 fn faults_of_a_socket(rt: HostRuntime) -> Result<(), Fail> {
     let alloc = rt.alloc();

@@ -1,13 +1,16 @@
 //! The connections to the servers over the system's sockets.
 //!
 //! Of a socket nothing is known but counts: which bytes it takes and gives, and when it fails, no
-//! contract says. What contracts see is which servers are connected, and how often calls failed.
-ghost use Rattle.std.specs.Prelude.{◌≡◌, ◌+◌, ◌<◌, false, IfOk, get_or, length, replicate};
+//! contract says. What contracts see is the servers' addresses, which of them are connected, how
+//! often calls failed, and the time limits that exchanges begin with.
+ghost use Rattle.std.specs.Prelude.{◌≡◌, ◌+◌, ◌*◌, ◌<◌, None, false, IfOk, get_or, length, map, replicate, string_bytes};
+ghost use Rattle.tko_links.specs.ProbeTimes.{nanos_in_milli};
 ghost use Rattle.tko_links.specs.TcpWires.{IsTcpStep};
 ghost use Rattle.tko_links.specs.Wires.{faults_in, refusals_in};
 
 use crate::counting::{counted, counted_write};
 use crate::io_runtime::IoRuntime;
+use crate::names::Names;
 use crate::probe_time::ProbeTime;
 use crate::tcp_server::TcpServer;
 use crate::wire::{Wire, WireFault};
@@ -20,6 +23,7 @@ use tko_bytes::NoMemory;
 #[derive(Drop)]
 pub struct TcpWire {
     servers: Vec<TcpServer>,
+    names: Names,
     failures: u64,
     /// The time limit of the next exchange.
     limit: Duration,
@@ -27,24 +31,41 @@ pub struct TcpWire {
 }
 
 impl Model for TcpWire {
-    ghost use Rattle.std.specs.Prelude.{map};
-    ghost use Rattle.tko_links.specs.TcpWires.{TcpState, is_open};
+    ghost use Rattle.std.specs.Prelude.{◌*◌, map};
+    ghost use Rattle.std.specs.Duration.{as_nanos};
+    ghost use Rattle.tko_links.specs.ProbeTimes.{nanos_in_milli};
+    ghost use Rattle.tko_links.specs.TcpWires.{TcpState, address_of, is_open, limit_of};
 
     ghost Value = { TcpState };
 
     ghost view = { λ wire. record {
+      addresses = map address_of wire.servers.items;
       connected = map is_open wire.servers.items;
+      limits = map limit_of wire.servers.items;
       failures = wire.failures;
+      limit = as_nanos wire.limit;
+      whole = wire.probe_time.whole * nanos_in_milli;
     } };
 }
 
 impl TcpWire {
-    /// Connections to the servers with these addresses, none of which is connected yet. An exchange
-    /// may take `time_limit_ms` milliseconds, of which connecting is a part; probes share that
-    /// time.
-    pub fn new(alloc: Global, addresses: &[String], time_limit_ms: u32) -> Result<TcpWire, NoMemory>
-        ensures { IfOk result (λ wire. wire
-            ≡ record { connected = replicate (length addresses.now) false; failures = 0 }) }
+    /// Connections to the servers with these addresses, whose hosts `names` has, none of which is
+    /// connected yet. An exchange may take `time_limit_ms` milliseconds, of which connecting is a
+    /// part; probes share that time.
+    pub fn new(
+        alloc: Global,
+        addresses: &[String],
+        names: Names,
+        time_limit_ms: u32,
+    ) -> Result<TcpWire, NoMemory>
+        ensures { IfOk result (λ wire. wire ≡ record {
+          addresses = map string_bytes addresses.now;
+          connected = replicate (length addresses.now) false;
+          limits = replicate (length addresses.now) None;
+          failures = 0;
+          limit = time_limit_ms * nanos_in_milli;
+          whole = time_limit_ms * nanos_in_milli;
+        }) }
     {
         let mut servers = Vec::new(alloc);
         for address in addresses {
@@ -54,6 +75,7 @@ impl TcpWire {
         let probe_time = ProbeTime::new(time_limit_ms);
         Ok(TcpWire {
             servers,
+            names,
             failures: 0,
             limit: probe_time.whole(),
             probe_time,
@@ -71,7 +93,7 @@ impl Wire for TcpWire {
     ghost steps = { λ old it new. IsTcpStep old it new };
 
     fn connect<R: IoRuntime>(&mut self, rt: &R, server: usize) -> Result<(), WireFault> {
-        let connected = self.servers[server].connect(rt, self.limit);
+        let connected = self.servers[server].connect(rt, &self.names, self.limit);
         counted(rt, &mut self.failures, connected)
     }
 
@@ -103,7 +125,7 @@ impl Wire for TcpWire {
         self.servers[server].begin(rt, self.limit)
     }
 
-    fn set_probing<R: IoRuntime>(&mut self, rt: &R, is_probe: bool) {
+    fn set_probing<R: IoRuntime>(&mut self, rt: &R, _server: usize, is_probe: bool) {
         if is_probe {
             self.limit = self.probe_time.begin(rt);
         } else {

@@ -1,6 +1,6 @@
 //! The connections to the servers, one each, and their bytes.
 ghost use Rattle.std.specs.Prelude.{◌≡◌, ◌+◌, ◌<◌, ◌≤◌, true, false, IfOk, length};
-ghost use Rattle.tko_links.specs.Wires.{AllSame, OthersSame, Checked, Shut, connect_item, faults_in, is_ok, read_item, refusals_in, write_item};
+ghost use Rattle.tko_links.specs.Wires.{AllSame, OthersSame, Checked, Limited, Shut, connect_item, faults_in, is_ok, read_item, refusals_in, write_item};
 
 use crate::io_runtime::IoRuntime;
 
@@ -92,10 +92,14 @@ pub trait Wire {
         ensures failures { failures self.new ≡ failures self.old }
         ensures servers { servers self.new ≡ servers self.old };
 
-    /// The next exchange is a probe, or one that is none. A probe may have a shorter time limit,
-    /// which contracts do not see. It is called before a probe and after it.
-    fn set_probing<R: IoRuntime>(&mut self, rt: &R, is_probe: bool)
-        ensures { self.new ≡ self.old };
+    /// The next exchange is a probe of this server, or the probe of it has ended. A probe may have a
+    /// shorter time limit than other exchanges.
+    fn set_probing<R: IoRuntime>(&mut self, rt: &R, server: usize, is_probe: bool)
+        requires { server < servers self.old }
+        ensures record { steps self.old (Limited server is_probe) self.new }
+        ensures kept { AllSame (is_connected self.old) (is_connected self.new) }
+        ensures failures { failures self.new ≡ failures self.old }
+        ensures servers { servers self.new ≡ servers self.old };
 
     /// Whether a server is connected.
     fn is_connected(&self, server: usize) -> bool

@@ -1,6 +1,6 @@
 //! Links over a wire.
 ghost use Rattle.std.specs.Prelude.{◌≡◌, ◌<◌, ◌+◌, ◌↔◌, ℕ, true, IfOk, length, replicate, slice_index};
-ghost use Rattle.tko_links.specs.Exchanges.{IsExchange};
+ghost use Rattle.tko_links.specs.Exchanges.{IsExchange, IsProbing};
 ghost use Rattle.tko_links.specs.Links.{Exchanged, WasProbed, is_counted, most_sends, outcome_in, part_of};
 ghost use Rattle.tko_links.specs.Wired.{IsWired};
 
@@ -102,14 +102,14 @@ impl<W: Wire> Wired<W> {
     /// Sends a probe that was counted, under the time limit of probes.
     fn probe_counted<R: IoRuntime>(&mut self, rt: &R, server: usize) -> Result<Outcome, NoMemory>
         requires { server < W.servers self.old.wire }
-        ensures exchange { IsExchange W.servers W.is_connected W.failures W.steps server
-            Request.Version self.old.wire (outcome_in result) self.new.wire }
+        ensures probe { IsProbing W.servers W.is_connected W.failures W.steps server
+            self.old.wire (outcome_in result) self.new.wire }
         ensures counts { self.new ≡ record self.old { wire = self.new.wire } }
         ensures counted { is_counted result ≡ true }
     {
-        self.wire.set_probing(rt, true);
+        self.wire.set_probing(rt, server, true);
         let came = self.exchange_counted(rt, server, &Request::Version);
-        self.wire.set_probing(rt, false);
+        self.wire.set_probing(rt, server, false);
         came
     }
 }

@@ -1,0 +1,61 @@
+//! The addresses of a host.
+ghost use Rattle.std.specs.Prelude.{◌≡◌, [], IfOk};
+
+use std::io::Result;
+use std::marker::Model;
+use std::net::{Ipv4Addr, Net, SocketAddr};
+
+/// The most addresses of one host that are kept.
+const MOST: usize = 32;
+
+/// The addresses of a host, in the order that the resolver gave them, with no port. There are at
+/// most 32. Contracts see their list.
+#[derive(Drop)]
+pub(crate) struct Addresses {
+    all: [SocketAddr; MOST],
+    count: usize,
+}
+
+impl Model for Addresses {
+    ghost use Rattle.std.specs.Prelude.{◌≤◌, List, take};
+    ghost use Rattle.std.specs.declared.net.socket_addr.SocketAddr.{SocketAddr};
+
+    ghost Value = { List SocketAddr };
+
+    ghost view = { λ addresses. take addresses.count addresses.all };
+
+    ghost invariant = { λ addresses. addresses.count ≤ 32 };
+}
+
+impl Addresses {
+    pub(crate) fn none() -> Addresses
+        ensures { result ≡ [] }
+    {
+        Addresses {
+            all: [SocketAddr::from((Ipv4Addr::UNSPECIFIED, 0)); MOST],
+            count: 0,
+        }
+    }
+
+    /// Asks the system's resolver for the addresses of a host, which takes as long as it takes.
+    pub(crate) fn look_up<N: Net>(net: &N, host: &str) -> Result<Addresses> {
+        let mut all = [SocketAddr::from((Ipv4Addr::UNSPECIFIED, 0)); MOST];
+        let count = net.lookup_host(host, 0, &mut all)?;
+        Ok(Addresses { all, count })
+    }
+
+    pub(crate) fn as_slice(&self) -> &[SocketAddr]
+        ensures { result.now ≡ self.now }
+    {
+        &self.all[..self.count]
+    }
+
+    pub(crate) fn copy(&self) -> Addresses
+        ensures { result ≡ self.now }
+    {
+        Addresses {
+            all: self.all,
+            count: self.count,
+        }
+    }
+}
