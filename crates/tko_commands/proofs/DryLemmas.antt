@@ -133,7 +133,7 @@ module _ {I O : Type 0} (inlet : InletGhosts I) (outlet : OutletGhosts O) where
   not_configured options here scripts (fault.Line number) asked none = absurd none
   not_configured options here scripts fault.Check asked none = absurd none
   not_configured options here scripts fault.Delays asked none = absurd none
-  not_configured options here scripts fault.Listen asked none = absurd none
+  not_configured options here scripts (fault.Listen cause) asked none = absurd none
   not_configured options here scripts fault.Metrics asked none = absurd none
   not_configured options here scripts fault.Accept asked none = absurd none
 
@@ -161,7 +161,7 @@ module _ {I O : Type 0} (inlet : InletGhosts I) (outlet : OutletGhosts O) where
   not_set options here scripts config (fault.Line number) asked configured none = absurd none
   not_set options here scripts config fault.Check asked configured none = absurd none
   not_set options here scripts config fault.Delays asked configured none = absurd none
-  not_set options here scripts config fault.Listen asked configured none = absurd none
+  not_set options here scripts config (fault.Listen cause) asked configured none = absurd none
   not_set options here scripts config fault.Metrics asked configured none = absurd none
   not_set options here scripts config fault.Accept asked configured none = absurd none
 

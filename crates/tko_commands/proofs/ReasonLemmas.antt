@@ -3,8 +3,9 @@ use Rattle.std.proofs.Common.{◌≡◌, ℕ, ◌<◌, List, Err, Ok, OnErr, OnO
 use Rattle.tko_explain.specs.Reasons.{IsReasonOf}
 use Rattle.tko_pools.specs.declared.fault.ConfigFault.{ConfigFault}
 use Rattle.tko_commands.specs.FaultLines.{IsFaultWritten, IsReasonTold}
-use Rattle.tko_commands.specs.Reasons.{HasLineOf, Written, LeftOut, Failed, IsFileReason, IsReasonFor}
+use Rattle.tko_commands.specs.Reasons.{HasLineOf, Written, LeftOut, Failed, IsFileReason, IsListenReason, IsReasonFor}
 use Rattle.tko_commands.specs.declared.fault.Fault.{Fault}
+use Rattle.tko_commands.specs.declared.listen_fault.ListenFault.{ListenFault}
 use Rattle.tko_commands.specs.declared.fault.Fault.TheVariants as fault
 
 pub has_line : {O T E : Type 0} (takes : O → List ℕ → O → Type 0) (failures : O → ℕ) (is : List ℕ → Type 0)
@@ -36,6 +37,14 @@ pub file_reason : {O : Type 0} (takes : O → List ℕ → O → Type 0) (failur
 file_reason takes failures path old new it =
     line_as takes failures (IsFileReason path) (IsReasonFor fault.ConfigFile) old new
     (λ line good. (path, good)) it
+
+-- why nothing can listen
+pub listen_reason : {O : Type 0} (takes : O → List ℕ → O → Type 0) (failures : O → ℕ) (cause : ListenFault)
+    (address : List ℕ) (old new : O) → HasLineOf takes failures (IsListenReason cause address) old new
+    → HasLineOf takes failures (IsReasonFor (fault.Listen cause)) old new
+listen_reason takes failures cause address old new it =
+    line_as takes failures (IsListenReason cause address) (IsReasonFor (fault.Listen cause)) old new
+    (λ line good. (address, good)) it
 
 -- the reason and then the fault
 pub told_with : {F : Type 0} (notes : F → List ℕ → F → Type 0) (faults : F → ℕ) (reason : Fault) (old middle new : F)

@@ -162,6 +162,6 @@ module _ {I O : Type 0} (inlet : InletGhosts I) (outlet : OutletGhosts O) where
   DryFails options old new fault.Check = ⊥
   DryFails options old new fault.ConfigFile = ⊥
   DryFails options old new fault.Delays = ⊥
-  DryFails options old new fault.Listen = ⊥
+  DryFails options old new (fault.Listen cause) = ⊥
   DryFails options old new fault.Metrics = ⊥
   DryFails options old new fault.Accept = ⊥

@@ -1,5 +1,5 @@
 -- The line that reports each fault, and which fault of the program each cause is.
-use Rattle.std.specs.Prelude.{ℕ, List, ◌++◌, codes, decimal}
+use Rattle.std.specs.Prelude.{ℕ, List, ◌++◌, codes, decimal, string_bytes}
 use Rattle.tko_model.specs.declared.plain.OpenFault.{OpenFault}
 use Rattle.tko_model.specs.declared.plain.OpenFault.TheVariants as open_fault
 use Rattle.tko_model.specs.declared.settings.SettingsFault.{SettingsFault}
@@ -14,6 +14,8 @@ use Rattle.tko_pools.specs.declared.fault.ConfigFault.{ConfigFault}
 use Rattle.tko_pools.specs.declared.fault.ConfigFault.TheVariants as config_fault
 use Rattle.tko_commands.specs.declared.fault.Fault.{Fault}
 use Rattle.tko_commands.specs.declared.fault.Fault.TheVariants as fault
+use Rattle.tko_commands.specs.declared.listen_fault.ListenFault.{ListenFault}
+use Rattle.tko_commands.specs.declared.listen_fault.ListenFault.TheVariants as listen_fault
 use Rattle.tko_commands.specs.declared.outcomes.OutcomesFault.{OutcomesFault}
 use Rattle.tko_commands.specs.declared.outcomes.OutcomesFault.TheVariants as outcomes_fault
 use Rattle.tko_commands.specs.declared.reading.ReadFault.{ReadFault}
@@ -41,6 +43,11 @@ config_name (config_fault.NoSuchPool name) = codes "no-such-pool"
 config_name config_fault.TooManyServers = codes "too-many-servers"
 config_name config_fault.Memory = codes "memory"
 
+-- why nothing can listen at an address, in words
+abbrev pub listen_words : ListenFault → List ℕ
+listen_words listen_fault.NoAddress = codes "no address <host>:<port>"
+listen_words (listen_fault.System words) = string_bytes words
+
 -- the line of a fault, without its LF
 abbrev pub fault_line : Fault → List ℕ
 fault_line fault.Read = codes "fault: read"
@@ -54,7 +61,7 @@ fault_line (fault.Outcomes number) = codes "fault: outcomes " ++ decimal number
 fault_line (fault.Line number) = codes "fault: schedule line " ++ decimal number
 fault_line fault.Check = codes "fault: check"
 fault_line fault.Delays = codes "fault: delays"
-fault_line fault.Listen = codes "fault: listen"
+fault_line (fault.Listen cause) = codes "fault: listen"
 fault_line fault.Metrics = codes "fault: metrics"
 fault_line fault.Accept = codes "fault: accept"
 

@@ -2,8 +2,10 @@
 use Rattle.std.specs.Prelude.{◌≡◌, ◌<◌, ℕ, List, ◌++◌, None, codes}
 use Rattle.tko_explain.specs.Reasons.{IsReasonOf}
 use Rattle.tko_pools.specs.declared.fault.ConfigFault.{ConfigFault}
+use Rattle.tko_commands.specs.Faults.{listen_words}
 use Rattle.tko_commands.specs.declared.fault.Fault.{Fault}
 use Rattle.tko_commands.specs.declared.fault.Fault.TheVariants as fault
+use Rattle.tko_commands.specs.declared.listen_fault.ListenFault.{ListenFault}
 use Rattle.tko_options.specs.declared.check_options.CheckOptions.{CheckOptions}
 use Rattle.tko_options.specs.declared.dry_options.DryOptions.{DryOptions}
 use Rattle.tko_options.specs.declared.serve_options.ServeOptions.{ServeOptions}
@@ -13,11 +15,17 @@ pub record IsFileReason (path line : List ℕ) : Type 0 where
   pub detail : List ℕ
   pub is : line ≡ codes "config: " ++ path ++ codes ": " ++ detail ++ codes "\n"
 
--- a line that says why a command ends with a fault: of which text the configuration is to be, or
--- which file cannot be read. No other fault has one.
+-- nothing can listen at an address, for this cause
+abbrev pub IsListenReason : ListenFault → List ℕ → List ℕ → Type 0
+IsListenReason cause address line =
+    line ≡ codes "listen: " ++ address ++ codes ": " ++ listen_words cause ++ codes "\n"
+
+-- a line that says why a command ends with a fault: of which text the configuration is to be, which
+-- file cannot be read, or why nothing can listen at which address. No other fault has one.
 abbrev pub IsReasonFor : Fault → List ℕ → Type 0
 IsReasonFor (fault.Config cause) line = (json : List ℕ) × IsReasonOf json cause line
 IsReasonFor fault.ConfigFile line = (path : List ℕ) × IsFileReason path line
+IsReasonFor (fault.Listen cause) line = (address : List ℕ) × IsListenReason cause address line
 IsReasonFor other line = ⊥
 
 -- such a line was written, or nothing, or the outlet failed

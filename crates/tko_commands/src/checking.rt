@@ -21,7 +21,7 @@ pub(crate) fn check<R: IoRuntime, O: Outlet>(
         (HasChecked O.takes json.now (map string_bytes keys.now) output.old output.new) }
     ensures err { IfErr result (CheckFails O.failures json.now output.old output.new) }
 {
-    let text = report(alloc, json.as_bytes(), keys)?;
+    let text = report(alloc, json, keys)?;
     write_text(rt, output, &text)?;
     Ok(())
 }

@@ -2,6 +2,7 @@
 ghost use Rattle.std.specs.Prelude.{◌≡◌};
 ghost use Rattle.tko_commands.specs.Faults.{config_name, setting_name};
 
+use crate::ListenFault;
 use std::error::Error;
 use std::fmt;
 use tko_model::SettingsFault;
@@ -27,8 +28,8 @@ pub enum Fault {
     Check,
     /// The first delay of probes is 0 or above the greatest.
     Delays,
-    /// The address to listen on is no address, or nothing can listen there.
-    Listen,
+    /// Why nothing can listen at the address that clients are to connect to.
+    Listen(ListenFault),
     /// The address of the metrics is no address, or nothing can listen there.
     Metrics,
     /// The listener failed.
@@ -60,7 +61,7 @@ impl fmt::Display for Fault {
             Fault::Line(number) => write!(f, "fault: schedule line {number}"),
             Fault::Check => f.write_str("fault: check"),
             Fault::Delays => f.write_str("fault: delays"),
-            Fault::Listen => f.write_str("fault: listen"),
+            Fault::Listen(_) => f.write_str("fault: listen"),
             Fault::Metrics => f.write_str("fault: metrics"),
             Fault::Accept => f.write_str("fault: accept"),
         }

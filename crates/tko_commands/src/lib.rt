@@ -1,7 +1,7 @@
 //! The commands that need no server, and what all commands share: faults, files and texts.
 //!
-//! - `Fault`: why a command ended with status 1; it prints as the line on standard error. `fail`
-//!   and `refuse_config` report it.
+//! - `Fault`: why a command ended with status 1; it prints as the line on standard error. `fail`,
+//!   `refuse_config` and `refuse_listen` report it.
 //! - `run_dry`, `run_replay`, `run_check`: each runs a command and returns its status.
 //! - `loaded_server`, `settings_over`, `write_text`: what `serve` shares with them.
 #![tactic(auto)]
@@ -12,6 +12,7 @@ mod configured;
 mod dry;
 mod fault;
 mod grouped;
+mod listen_fault;
 mod loading;
 mod outcomes;
 mod reading;
@@ -23,6 +24,9 @@ mod writing;
 
 pub use fault::Fault;
 pub use grouped::settings_over;
+pub use listen_fault::ListenFault;
 pub use loading::loaded_server;
-pub use status::{DONE, fail, refuse_config, run_check, run_dry, run_replay, status_of};
+pub use status::{
+    DONE, fail, refuse_config, refuse_listen, run_check, run_dry, run_replay, status_of,
+};
 pub use writing::{WriteFault, write_text};

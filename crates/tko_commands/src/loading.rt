@@ -1,13 +1,13 @@
 //! The file of a configuration.
-ghost use Rattle.std.specs.Prelude.{◌≡◌, ◌++◌, None, Ok, IfOk, IfErr, OnOk, codes};
+ghost use Rattle.std.specs.Prelude.{◌≡◌, None, Ok, IfOk, IfErr, OnOk};
 ghost use Rattle.tko_commands.specs.Reasons.{HasLineOf, IsFileFault, IsFileReason, IsLoadedCheck, IsLoadedDry, IsLoadedServer, IsReasonFor};
 
 use crate::Fault;
+use crate::reasons::reason_line;
 use crate::writing::write_text;
 use std::alloc::Global;
 use std::fs::{File, Files};
 use std::io;
-use tko_bytes::NoMemory;
 use tko_io::Outlet;
 use tko_links::IoRuntime;
 use tko_options::{CheckOptions, DryOptions, ServeOptions};
@@ -114,19 +114,7 @@ fn write_reason<R: IoRuntime, F: Outlet>(
     let Ok(detail) = format!(in alloc; "{error}") else {
         return;
     };
-    if let Ok(line) = reason_line(alloc, path, detail.as_str()) {
+    if let Ok(line) = reason_line(alloc, b"config: ", path, detail.as_str()) {
         let _ = write_text(rt, faults, &line);
     }
-}
-
-fn reason_line(alloc: Global, path: &str, detail: &str) -> Result<Vec<u8>, NoMemory>
-    ensures { IfOk result (λ line. line.items
-        ≡ codes "config: " ++ path.now ++ codes ": " ++ detail.now ++ codes "\n") }
-{
-    let mut line = Vec::from_slice(alloc, b"config: ")?;
-    line.extend_from_slice(path.as_bytes())?;
-    line.extend_from_slice(b": ")?;
-    line.extend_from_slice(detail.as_bytes())?;
-    line.extend_from_slice(b"\n")?;
-    Ok(line)
 }

@@ -1,10 +1,12 @@
-//! Why a text is no configuration, before the line of the fault.
-ghost use Rattle.std.specs.Prelude.{◌≡◌};
+//! Why there is a fault, in a line before that of the fault.
+ghost use Rattle.std.specs.Prelude.{◌++◌, ◌≡◌, IfOk, codes};
 ghost use Rattle.tko_explain.specs.Reasons.{IsReasonOf};
-ghost use Rattle.tko_commands.specs.Reasons.{HasLineOf};
+ghost use Rattle.tko_commands.specs.Reasons.{HasLineOf, IsListenReason};
 
+use crate::ListenFault;
 use crate::writing::write_text;
 use std::alloc::Global;
+use tko_bytes::NoMemory;
 use tko_explain::reason;
 use tko_io::Outlet;
 use tko_links::IoRuntime;
@@ -24,4 +26,39 @@ pub(crate) fn write_config_reason<R: IoRuntime, F: Outlet>(
     if let Ok(line) = reason(alloc, json.as_bytes(), cause) {
         let _ = write_text(rt, faults, &line);
     }
+}
+
+/// Writes why nothing can listen at an address. The line is left out where memory runs out for it,
+/// and a failure to write it is not reported.
+pub(crate) fn write_listen_reason<R: IoRuntime, F: Outlet>(
+    rt: &R,
+    alloc: Global,
+    faults: &mut F,
+    address: &str,
+    cause: &ListenFault,
+)
+    ensures { HasLineOf F.takes F.failures (IsListenReason cause.now address.now)
+        faults.old faults.new }
+{
+    if let Ok(line) = reason_line(alloc, b"listen: ", address, cause.words()) {
+        let _ = write_text(rt, faults, &line);
+    }
+}
+
+/// The line that says of a place what is wrong there.
+pub(crate) fn reason_line(
+    alloc: Global,
+    before: &[u8],
+    place: &str,
+    words: &str,
+) -> Result<Vec<u8>, NoMemory>
+    ensures { IfOk result (λ line. line.items
+        ≡ before.now ++ place.now ++ codes ": " ++ words.now ++ codes "\n") }
+{
+    let mut line = Vec::from_slice(alloc, before)?;
+    line.extend_from_slice(place.as_bytes())?;
+    line.extend_from_slice(b": ")?;
+    line.extend_from_slice(words.as_bytes())?;
+    line.extend_from_slice(b"\n")?;
+    Ok(line)
 }

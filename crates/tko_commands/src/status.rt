@@ -2,13 +2,13 @@
 ghost use Rattle.std.specs.Prelude.{◌≡◌, ◌≤◌, ◌<◌, OnOk, OnErr};
 ghost use Rattle.tko_commands.specs.FaultLines.{HasLine, IsFaultWritten, IsReasonTold};
 
-use crate::Fault;
 use crate::checking::check;
 use crate::dry::dry;
 use crate::loading::{loaded_check, loaded_dry};
-use crate::reasons::write_config_reason;
+use crate::reasons::{write_config_reason, write_listen_reason};
 use crate::replay::replay;
 use crate::writing::{WriteFault, write_text};
+use crate::{Fault, ListenFault};
 use std::alloc::Global;
 use std::fs::Files;
 use tko_io::{Inlet, Outlet};
@@ -138,6 +138,21 @@ pub fn refuse_config<R: IoRuntime, F: Outlet>(
 {
     write_config_reason(rt, alloc, faults, json, &cause);
     fail(rt, alloc, faults, Fault::Config(cause))
+}
+
+/// Reports why nothing can listen at an address, and then the fault. Returns its status.
+pub fn refuse_listen<R: IoRuntime, F: Outlet>(
+    rt: &R,
+    alloc: Global,
+    faults: &mut F,
+    address: &str,
+    cause: ListenFault,
+) -> u8
+    ensures status { result ≡ 1 }
+    ensures fault { IsReasonTold F.takes F.failures faults.old faults.new }
+{
+    write_listen_reason(rt, alloc, faults, address, &cause);
+    fail(rt, alloc, faults, Fault::Listen(cause))
 }
 
 /// Reports a fault and returns its status. A failure to report it is not reported.

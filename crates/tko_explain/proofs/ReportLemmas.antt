@@ -1,16 +1,18 @@
 -- What is printed of a configuration.
-use Rattle.std.proofs.Common.{◌≡◌, ℕ, List, Some, sym, subst, ◌∙◌}
+use Rattle.std.proofs.Common.{◌≡◌, ℕ, List, Some, sym, subst, ◌∙◌, ◌++◌}
 use Rattle.serde_json.specs.Data.{Data}
 use Rattle.serde_json.specs.Read.{read}
 use Rattle.tko_pools.specs.Configs.{Configuration, IsMeaning, IsRoot, Means}
 use Rattle.tko_pools.specs.Json.{pools_in}
-use Rattle.tko_explain.specs.Reports.{IsReport, report_text}
+use Rattle.tko_explain.specs.Repeats.{IsKeyText}
+use Rattle.tko_explain.specs.Reports.{IsReport, report_text, values_note}
 
 -- a text has one root
 pub is_report : (json : List ℕ) (keys : List (List ℕ)) (printed : List ℕ) (root pools : Data) (config : Configuration)
-    → Means json config → read json ≡ Some root → pools_in root ≡ Some pools
-    → printed ≡ report_text root pools config keys → IsReport json keys printed
-is_report json keys printed root pools config means reads has prints =
+    (key_text : List ℕ) → Means json config → read json ≡ Some root → pools_in root ≡ Some pools
+    → IsKeyText json key_text → printed ≡ report_text root pools config keys ++ key_text ++ values_note
+    → IsReport json keys printed
+is_report json keys printed root pools config key_text means reads has key prints =
     let both : Some means.root ≡ Some root = sym means.is_root.json ∙ reads in
     let same : means.root ≡ root = cc in
     record {
@@ -20,5 +22,7 @@ is_report json keys printed root pools config means reads has prints =
       is_root = subst (λ it. IsRoot json it) same means.is_root;
       meaning = subst (λ it. IsMeaning it config) same means.meaning;
       has_pools = has;
+      key_text = key_text;
+      key = key;
       prints = prints;
     }

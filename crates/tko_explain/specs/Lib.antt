@@ -1,5 +1,6 @@
 pub mod Parts
 pub mod Printing
 pub mod Reasons
+pub mod Repeats
 pub mod Reports
 pub mod Warnings

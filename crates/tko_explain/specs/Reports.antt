@@ -6,6 +6,7 @@ use Rattle.tko_pools.specs.Json.{pools_in}
 use Rattle.tko_pools.specs.SoftLimits.{soft_limit_named}
 use Rattle.tko_explain.specs.Parts.{names_in}
 use Rattle.tko_explain.specs.Printing.{named_line}
+use Rattle.tko_explain.specs.Repeats.{IsKeyText, repeats_text}
 use Rattle.tko_explain.specs.Warnings.{warnings_text}
 
 -- the addresses, which have the numbers from this one on
@@ -50,8 +51,15 @@ targets_text config keys = expiry_text config.failover_exptime ++ keys_text conf
 abbrev pub report_text : Data → Data → Configuration → List (List ℕ) → List ℕ
 report_text root pools config keys =
     config_text root pools config ++ targets_text config keys ++ warnings_text root
+    ++ repeats_text root
 
--- a text means a configuration, and this is what is printed of it and of these keys
+-- what no configuration tells of its servers
+abbrev pub values_note : List ℕ
+values_note =
+    codes "note: no server may hold a value above 1 MiB (memcached -I above 1m): it would be marked\n"
+
+-- a text means a configuration, and this is what is printed of it and of these keys, with whether
+-- an object of the text has a key twice, and then the note
 pub record IsReport (json : List ℕ) (keys : List (List ℕ)) (printed : List ℕ) : Type 0 where
   pub root : Data
   pub pools : Data
@@ -59,4 +67,6 @@ pub record IsReport (json : List ℕ) (keys : List (List ℕ)) (printed : List �
   pub is_root : IsRoot json root
   pub meaning : IsMeaning root config
   pub has_pools : pools_in root ≡ Some pools
-  pub prints : printed ≡ report_text root pools config keys
+  pub key_text : List ℕ
+  pub key : IsKeyText json key_text
+  pub prints : printed ≡ report_text root pools config keys ++ key_text ++ values_note

@@ -1,12 +1,13 @@
 //! What a configuration's text says, for an operator to read.
 //!
-//! - `report`: what a configuration means, and what in it has no effect.
+//! - `report`: what a configuration means, and what in it has no effect or is named twice.
 //! - `reason`: why a text is no configuration.
 #![tactic(auto)]
 
 mod parts;
 mod printing;
 mod reasons;
+mod repeats;
 mod reporting;
 mod warnings;
 

@@ -3,7 +3,7 @@ ghost use Rattle.std.specs.Prelude.{◌≡◌, ◌++◌, IfOk, IfErr, OnOk, map,
 ghost use Rattle.std.specs.List.{position};
 ghost use Rattle.std.specs.Str.{bytes_eq};
 ghost use Rattle.serde_json.specs.View.{items_view, view};
-ghost use Rattle.tko_explain.specs.Reports.{IsReport, children_text, config_text, expiry_text, keys_text, limit_text, report_text, servers_text, targets_text};
+ghost use Rattle.tko_explain.specs.Reports.{IsReport, children_text, config_text, expiry_text, keys_text, limit_text, report_text, servers_text, targets_text, values_note};
 ghost use Rattle.tko_pools.specs.Configs.{Refuses, child_of};
 ghost use Rattle.tko_pools.specs.Json.{texts_of};
 ghost use Rattle.tko_pools.specs.Numbering.{number_in};
@@ -11,6 +11,7 @@ ghost use Rattle.tko_pools.specs.SoftLimits.{soft_limit_named};
 
 use crate::parts::{list_in, names_in, pools_in, text_of};
 use crate::printing::append_named;
+use crate::repeats::{append_repeats, key_text};
 use crate::warnings::append_warnings;
 use serde_json::Value;
 use std::alloc::Global;
@@ -18,21 +19,28 @@ use tko_bytes::NoMemory;
 use tko_model::append_number;
 use tko_pools::{Config, ConfigFault, soft_limit_named};
 
+const VALUES_NOTE: &[u8] =
+    b"note: no server may hold a value above 1 MiB (memcached -I above 1m): it would be marked\n";
+
 /// The servers by their numbers, the pools of the route with the numbers of their servers and with
 /// their soft limits, the greatest expiry after the first target, the targets of each of the keys,
-/// and a warning for whatever has no effect, a line each.
-pub fn report(alloc: Global, json: &[u8], keys: &[String]) -> Result<Vec<u8>, ConfigFault>
+/// a warning for whatever has no effect or is named twice, and what no configuration tells of its
+/// servers, a line each.
+pub fn report(alloc: Global, json: &str, keys: &[String]) -> Result<Vec<u8>, ConfigFault>
     ensures ok { IfOk result (λ text. IsReport json.now (map string_bytes keys.now) text.items) }
     ensures err { IfErr result (λ fault. Refuses json.now fault) }
 {
-    let config = Config::read(alloc, json)?;
-    let Ok(root) = Value::from_slice(alloc, json) else {
+    let config = Config::read(alloc, json.as_bytes())?;
+    let Ok(root) = Value::from_str(alloc, json) else {
         return Err(ConfigFault::Memory);
     };
     let Some(pools) = pools_in(&root) else {
         return Err(ConfigFault::Memory);
     };
-    match report_of(alloc, &root, pools, &config, keys) {
+    let Ok(key_text) = key_text(alloc, json) else {
+        return Err(ConfigFault::Memory);
+    };
+    match report_of(alloc, &root, pools, &config, keys, key_text) {
         Ok(text) => Ok(text),
         Err(NoMemory) => Err(ConfigFault::Memory),
     }
@@ -44,14 +52,19 @@ fn report_of(
     pools: &Value,
     config: &Config,
     keys: &[String],
+    key_text: &str,
 ) -> Result<Vec<u8>, NoMemory>
     ensures { IfOk result (λ text. text.items
-        ≡ report_text (view root.now) (view pools.now) config.now (map string_bytes keys.now)) }
+        ≡ report_text (view root.now) (view pools.now) config.now (map string_bytes keys.now)
+        ++ key_text.now ++ values_note) }
 {
     let mut out = Vec::new(alloc);
     append_config(alloc, &mut out, root, pools, config)?;
     append_targets(alloc, &mut out, config, keys)?;
     append_warnings(alloc, &mut out, root)?;
+    append_repeats(alloc, &mut out, root)?;
+    out.extend_from_slice(key_text.as_bytes())?;
+    out.extend_from_slice(VALUES_NOTE)?;
     Ok(out)
 }
 

@@ -158,7 +158,7 @@ fn append_unnamed(
     )
 }
 
-fn is_among(names: &[&str], name: &str) -> bool
+pub(crate) fn is_among(names: &[&str], name: &str) -> bool
     ensures { result ≡ is_among (map (λ name. name.now) names.now) name.now }
 {
     for other in names {

@@ -1,1 +1,3 @@
 pub mod Marks
+pub mod Pages
+pub mod Visits

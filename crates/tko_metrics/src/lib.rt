@@ -5,19 +5,22 @@
 //!   off keeps nothing. `WorkerMeter` is one worker's part of it.
 //! - `Ending`: how a session ended; `Marking`: the mark that a worker set.
 //! - `Process`: what the system says of the process: its memory and its descriptors.
-//! - `Scrapes`: answers `GET /metrics` on one thread, one client at a time, until the meter ends.
+//! - `Scrapes`: answers `GET /metrics` on one thread, several clients at once, until the meter ends.
 #![tactic(auto)]
 
+mod answer;
 mod counter;
+mod guest;
+mod guests;
 mod meter;
 mod metrics;
 mod page;
 mod pages;
-mod patient;
 mod process;
 mod reading;
 mod sample;
 mod scrapes;
+mod visit;
 mod worker_meter;
 
 pub use meter::Meter;

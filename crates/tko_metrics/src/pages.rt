@@ -1,16 +1,17 @@
 //! What the metrics' own server answers.
+ghost use Rattle.std.specs.Prelude.{◌≡◌, ◌++◌, ◌∷◌, [], OnOk};
+ghost use Rattle.http_server.specs.Response.{fields_of};
+ghost use Rattle.tko_metrics.specs.Pages.{allow_field, close_field, type_field};
 
+use crate::answer::Answer;
 use crate::meter::Shared;
 use crate::page::Page;
 use crate::process::Process;
 use crate::reading::{ServerReading, Sums};
 use bytes::{BufMut, Bytes};
-use http::{HeaderName, HeaderValue, Method, Request, StatusCode, header};
+use http::{HeaderValue, Request, header};
 use http_server::{Response, Service};
 use std::alloc::{AllocError, Global};
-
-/// The path of the metrics.
-const PATH: &str = "/metrics";
 
 /// Answers each request, and closes its connection.
 #[derive(Drop)]
@@ -23,30 +24,34 @@ pub(crate) struct Pages<'a> {
 }
 
 impl Service for Pages<'_> {
-    ghost answers = { λ old request response new. Unit {0} };
+    ghost use Rattle.tko_metrics.specs.Pages.{Answers};
+
+    ghost answers = { λ old request response new. Answers request response };
 
     fn call(
         &mut self,
         request: &Request<Bytes>,
         response: &mut Response,
     ) -> Result<(), AllocError> {
-        response.add_header(header::CONNECTION, HeaderValue::from_static("close"))?;
-        response.status = status_for(request.method(), request.uri().path());
-        if response.status == StatusCode::METHOD_NOT_ALLOWED {
-            response.add_header(header::ALLOW, HeaderValue::from_static("GET"))?;
+        let answer = Answer::to(request.method(), request.uri().path());
+        response.status = answer.status();
+        add_close(response)?;
+        match answer {
+            Answer::Page => self.fill(response),
+            Answer::NotAllowed => add_allowed(response),
+            Answer::NotFound => Ok(()),
         }
-        if response.status == StatusCode::OK {
-            return self.fill(response);
-        }
-        Ok(())
     }
 }
 
 impl Pages<'_> {
     /// Fills the response with the metrics at this moment.
-    fn fill(&self, response: &mut Response) -> Result<(), AllocError> {
-        let kind = HeaderValue::from_static("text/plain; version=0.0.4; charset=utf-8");
-        response.add_header(header::CONTENT_TYPE, kind)?;
+    fn fill(&self, response: &mut Response) -> Result<(), AllocError>
+        ensures fields { OnOk result (fields_of response.new
+            ≡ fields_of response.old ++ type_field ∷ []) }
+        ensures status { response.new.status ≡ response.old.status }
+    {
+        add_type(response)?;
         let text = self.page()?.text(self.alloc)?;
         response.body.put_slice(text.as_bytes())
     }
@@ -68,13 +73,33 @@ impl Pages<'_> {
     }
 }
 
-/// The status of the answer to a request of this method for this path.
-fn status_for(method: &Method, path: &str) -> StatusCode {
-    if path != PATH {
-        return StatusCode::NOT_FOUND;
-    }
-    if *method != Method::GET {
-        return StatusCode::METHOD_NOT_ALLOWED;
-    }
-    StatusCode::OK
+/// Adds what a page is.
+fn add_type(response: &mut Response) -> Result<(), AllocError>
+    ensures fields { OnOk result (fields_of response.new
+        ≡ fields_of response.old ++ type_field ∷ []) }
+    ensures status { response.new.status ≡ response.old.status }
+    ensures body { response.new.body ≡ response.old.body }
+{
+    let kind = HeaderValue::from_static("text/plain; version=0.0.4; charset=utf-8");
+    response.add_header(header::CONTENT_TYPE, kind)
+}
+
+/// Adds which methods there are.
+fn add_allowed(response: &mut Response) -> Result<(), AllocError>
+    ensures fields { OnOk result (fields_of response.new
+        ≡ fields_of response.old ++ allow_field ∷ []) }
+    ensures status { response.new.status ≡ response.old.status }
+    ensures body { response.new.body ≡ response.old.body }
+{
+    response.add_header(header::ALLOW, HeaderValue::from_static("GET, HEAD"))
+}
+
+/// Adds that nothing follows the answer.
+fn add_close(response: &mut Response) -> Result<(), AllocError>
+    ensures fields { OnOk result (fields_of response.new
+        ≡ fields_of response.old ++ close_field ∷ []) }
+    ensures status { response.new.status ≡ response.old.status }
+    ensures body { response.new.body ≡ response.old.body }
+{
+    response.add_header(header::CONNECTION, HeaderValue::from_static("close"))
 }

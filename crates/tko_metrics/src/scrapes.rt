@@ -1,44 +1,26 @@
 //! The thread that answers for the metrics.
 
+use crate::guest::Guest;
+use crate::guests::Guests;
 use crate::meter::{Meter, Shared};
 use crate::pages::Pages;
-use crate::patient::{Patient, set_up};
 use crate::process::Process;
 use crate::sample::escaped;
-use http_server::{Config, Connection, serve};
 use std::alloc::{AllocError, Global};
-use std::hash::RandomState;
-use std::io;
-use std::net::{TcpListener, TcpStream};
-use std::random::RandomSource;
+use std::net::TcpListener;
 use std::sync::Wait;
+use std::time::{Clock, Instant};
 
-/// How many milliseconds it waits for the next client.
+/// How many milliseconds it waits where no client came and none moved anything.
 const PAUSE: u64 = 50;
 
-/// How often a client may be read from, which is 3 seconds at most.
-const READS: u32 = 30;
-
-/// How often a client may be written to, which is 5 seconds at most.
-const WRITES: u32 = 50;
-
-/// Answers one client after another.
+/// Answers several clients at once, on one thread.
 #[derive(Drop)]
 pub struct Scrapes {
     listener: TcpListener,
     meter: Meter,
     process: Process,
     names: Vec<String>,
-}
-
-/// Keys for the tables of a request's headers. A request has few headers, so it does not matter
-/// that its sender knows them.
-struct KnownKeys;
-
-impl RandomSource for KnownKeys {
-    fn fill_bytes(&self, _buf: &mut [u8]) -> io::Result<()> {
-        Ok(())
-    }
 }
 
 impl Scrapes {
@@ -69,41 +51,58 @@ impl Scrapes {
 
     /// Answers until the meter ends. A client for which there is no memory, or that takes too long,
     /// is closed.
-    pub fn answer_all<R: Wait>(&self, rt: &R, alloc: Global) {
+    pub fn answer_all<R: Wait + Clock>(&self, rt: &R, alloc: Global) {
         let Some(shared) = self.meter.shared() else {
             return;
         };
         if self.listener.set_nonblocking(true).is_err() {
             return;
         }
+        let mut guests = Guests::new(alloc);
         for _ in rt.forever() {
             if shared.has_ended() {
                 return;
             }
-            match self.listener.accept() {
-                Ok((stream, _)) => self.answer(alloc, shared, &stream),
-                Err(_) => shared.wait(rt, PAUSE),
+            if !self.serve_once(rt, alloc, shared, &mut guests) {
+                shared.wait(rt, PAUSE);
             }
         }
     }
 
-    /// Answers one client.
-    fn answer(&self, alloc: Global, shared: &Shared, stream: &TcpStream) {
-        let Ok(keys) = RandomState::new(&KnownKeys) else {
-            return;
+    /// Takes in one client, if one waits, and gives each a turn. Returns whether there may be more
+    /// to do at once.
+    fn serve_once<R: Clock>(
+        &self,
+        rt: &R,
+        alloc: Global,
+        shared: &Shared,
+        guests: &mut Guests,
+    ) -> bool {
+        let Ok(now) = Instant::now(rt) else {
+            return false;
         };
-        if set_up(stream).is_err() {
-            return;
-        }
+        let has_come = self.take_in(alloc, guests, now);
         let mut pages = Pages {
             alloc,
             shared,
             names: &self.names,
             process: &self.process,
         };
-        let mut connection = Connection::new(alloc, keys, Config::default());
-        let mut reader = Patient::new(stream, shared, READS);
-        let mut writer = Patient::new(stream, shared, WRITES);
-        let _ended = serve(&mut connection, &mut pages, &mut reader, &mut writer);
+        guests.turn_all(&mut pages, now) || has_come
+    }
+
+    /// Takes in one client, if there is room and one waits. One for which there is no memory is
+    /// closed.
+    fn take_in(&self, alloc: Global, guests: &mut Guests, now: Instant) -> bool {
+        if !guests.has_room(now) {
+            return false;
+        }
+        let Ok((stream, _)) = self.listener.accept() else {
+            return false;
+        };
+        if let Ok(guest) = Guest::new(alloc, stream, now) {
+            guests.add(guest);
+        }
+        true
     }
 }

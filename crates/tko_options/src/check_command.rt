@@ -4,8 +4,8 @@ ghost use Rattle.clap.specs.Words.{App, rule_of};
 ghost use Rattle.tko_options.specs.CheckCommand.{check_command, key_option};
 ghost use Rattle.tko_options.specs.CommandLine.{ReadsAs};
 
-use crate::command_line::{config_file, text};
-use crate::serve_command::config;
+use crate::command_line::text;
+use crate::serve_command::{config, required_file};
 use clap::{Arg, ArgAction, Command};
 use std::alloc::{AllocError, Global};
 
@@ -25,7 +25,7 @@ pub(crate) fn check<'a>(alloc: Global) -> Result<Command<'a>, AllocError>
         .about("Checks a configuration and prints its servers, its pools and its route")
         .after_help(CHECK_HELP)
         .arg(config(alloc)?)?
-        .arg(config_file(alloc)?)?
+        .arg(required_file(alloc)?)?
         .arg(key(alloc))
 }
 

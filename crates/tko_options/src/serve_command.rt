@@ -1,10 +1,10 @@
 //! The command `serve` as clap reads it.
 ghost use Rattle.std.specs.Prelude.{◌≡◌, false, IfOk, codes};
 ghost use Rattle.clap.specs.Words.{App, rule_of};
-ghost use Rattle.tko_options.specs.CommandLine.{IsOption, ReadsAs, number_option, required_config};
+ghost use Rattle.tko_options.specs.CommandLine.{IsOption, ReadsAs, config_file_option, number_option, required_config};
 ghost use Rattle.tko_options.specs.ServeCommand.{connections_option, default_timeout, limit_option, listen_option, log_option, metrics_option, serve_command, with_clients, with_ends, with_patience, with_reports, with_times};
 
-use crate::command_line::{config_file, number, text, with_tracker};
+use crate::command_line::{number, text, with_tracker};
 use clap::builder::ValueParser;
 use clap::{Arg, Command, value_parser};
 use std::alloc::{AllocError, Global};
@@ -60,7 +60,7 @@ fn with_ends<'a>(alloc: Global, command: Command<'a>) -> Result<Command<'a>, All
     command
         .arg(listen(alloc))?
         .arg(config(alloc)?)?
-        .arg(config_file(alloc)?)
+        .arg(required_file(alloc)?)
 }
 
 /// With the options of the clients.
@@ -77,8 +77,9 @@ fn with_clients<'a>(alloc: Global, command: Command<'a>) -> Result<Command<'a>, 
 fn with_patience<'a>(alloc: Global, command: Command<'a>) -> Result<Command<'a>, AllocError>
     ensures { (app : App) → ReadsAs app command.entry → IfOk result (ReadsAs (with_patience app)) }
 {
-    let write = "How long a write to a client may make no progress, in milliseconds, from 1";
-    let idle = "How long a client may send nothing, in milliseconds; 0 for no limit";
+    let write =
+        "In how long a client must take 64 KiB of its replies or all, in milliseconds, from 1";
+    let idle = "How long a client may complete no request, in milliseconds; 0 for no limit";
     command
         .arg(limit(alloc, "write-timeout", DEFAULT_WRITE_TIMEOUT, write))?
         .arg(delay(alloc, "idle-timeout", DEFAULT_IDLE_TIMEOUT, idle))
@@ -141,6 +142,18 @@ pub(crate) fn config<'a>(alloc: Global) -> Result<Arg<'a>, AllocError>
         .value_name("JSON")
         .help("The pools and the route, as text")
         .required_unless_present("config-file")
+}
+
+/// `--config-file PATH`, without which `--config` is wanted. So clap names both where there is none.
+pub(crate) fn required_file<'a>(alloc: Global) -> Result<Arg<'a>, AllocError>
+    ensures { IfOk result (IsOption config_file_option) }
+{
+    Arg::new(alloc, "config-file")
+        .long("config-file")
+        .value_name("PATH")
+        .help("The file of the configuration, in place of --config")
+        .required_unless_present("config")?
+        .conflicts_with("config")
 }
 
 fn connections<'a>(alloc: Global) -> Arg<'a>

@@ -24,9 +24,9 @@ pub struct ServeOptions {
     pub connections: u64,
     /// How long an exchange may take, in milliseconds.
     pub timeout: u32,
-    /// How long a write to a client may make no progress, in milliseconds.
+    /// In how long a client must take 64 KiB of its replies, or all of them, in milliseconds.
     pub write_timeout: u32,
-    /// How long a client may send nothing, in milliseconds; 0 for ever.
+    /// How long a client may complete no request, in milliseconds; 0 for ever.
     pub idle_timeout: u32,
     /// How long the first probe waits, in milliseconds.
     pub first_delay: u32,

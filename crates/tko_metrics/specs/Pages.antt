@@ -1,0 +1,54 @@
+-- What is answered to a request for the metrics.
+use Rattle.std.specs.Prelude.{◌≡◌, ◌≢◌, ℕ, List, [], ◌∷◌, ◌||◌, not, if◌then◌else◌, codes}
+use Rattle.std.specs.Str.{bytes_eq}
+use Rattle.http.specs.declared.request.Request.{Request}
+use Rattle.http.specs.Request.{head_of}
+use Rattle.http1.specs.Fields.{Header}
+use Rattle.http_server.specs.declared.response.Response.{Response}
+use Rattle.http_server.specs.Exchange.{Call}
+use Rattle.http_server.specs.Response.{fields_of}
+use Rattle.http_uri.specs.Uri.{uri_path}
+use Rattle.tko_metrics.specs.declared.answer.Answer.{Answer}
+use Rattle.tko_metrics.specs.declared.answer.Answer.TheVariants.{Page, NotAllowed, NotFound}
+
+-- what is answered to this method and this path
+abbrev pub answer_to : List ℕ → List ℕ → Answer
+answer_to method path =
+    if not (bytes_eq path (codes "/metrics")) then NotFound
+    else if bytes_eq method (codes "GET") || bytes_eq method (codes "HEAD") then Page
+    else NotAllowed
+
+abbrev pub status_of : Answer → ℕ
+status_of Page = 200
+status_of NotAllowed = 405
+status_of NotFound = 404
+
+abbrev pub close_field : Header
+close_field = (codes "connection", codes "close")
+
+abbrev pub type_field : Header
+type_field = (codes "content-type", codes "text/plain; version=0.0.4; charset=utf-8")
+
+abbrev pub allow_field : Header
+allow_field = (codes "allow", codes "GET, HEAD")
+
+-- the header fields of an answer
+abbrev pub fields_for : Answer → List Header
+fields_for Page = close_field ∷ type_field ∷ []
+fields_for NotAllowed = close_field ∷ allow_field ∷ []
+fields_for NotFound = close_field ∷ []
+
+-- the response is this answer; nothing but a page has a body
+pub record IsAnswer (answer : Answer) (response : Response) : Type 0 where
+  pub status : response.status ≡ status_of answer
+  pub fields : fields_of response ≡ fields_for answer
+  pub body : answer ≢ Page → response.body.items ≡ []
+
+-- the response is the answer to the method and the path of the request
+abbrev pub Answers : Request (List ℕ) → Response → Type 0
+Answers request response =
+    IsAnswer (answer_to (head_of request).method (uri_path (head_of request).uri)) response
+
+-- the same of a request and its response
+abbrev pub IsAnswered : Call → Type 0
+IsAnswered call = Answers call.0 call.1

@@ -1,0 +1,99 @@
+//! A client of the metrics over its socket.
+ghost use Rattle.std.specs.Prelude.{◌↔◌, ◌-◌, ◌*◌, ◌≤◌, IsTrue};
+ghost use Rattle.std.specs.Time.{instant_nanos};
+
+use crate::pages::Pages;
+use crate::visit::{Turn, Visit, after};
+use std::alloc::Global;
+use std::io;
+use std::io::Read;
+use std::net::{Shutdown, TcpStream};
+use std::time::{Duration, Instant};
+
+/// How many milliseconds a client may stay: to ask, to take its answer, and to close.
+const TIME: u64 = 5000;
+
+/// How many milliseconds a client stays at least where another one waits for its place.
+const GRACE: u64 = 100;
+
+/// Where a client stands.
+#[derive(Drop)]
+enum Stage {
+    Asks(Visit),
+    /// It has its answer. What it still sends is read, since a connection that is closed with
+    /// unread bytes is reset, and a reset may overtake the answer.
+    Leaves,
+}
+
+/// A client, its socket, and the moment at which it came.
+#[derive(Drop)]
+pub(crate) struct Guest {
+    stream: TcpStream,
+    came: Instant,
+    stage: Stage,
+}
+
+impl Guest {
+    pub(crate) fn new(alloc: Global, stream: TcpStream, came: Instant) -> io::Result<Guest> {
+        stream.set_nonblocking(true)?;
+        stream.set_nodelay(true)?;
+        Ok(Guest {
+            stream,
+            came,
+            stage: Stage::Asks(Visit::new(alloc)?),
+        })
+    }
+
+    /// Whether its time is over.
+    pub(crate) fn is_late(&self, now: Instant) -> bool
+        ensures { IsTrue result
+            ↔ (5_000_000_000 ≤ instant_nanos now - instant_nanos self.now.came) }
+    {
+        has_passed(TIME, self.came, now)
+    }
+
+    /// Whether it may be closed for another client.
+    pub(crate) fn may_go(&self, now: Instant) -> bool
+        ensures { IsTrue result
+            ↔ (100_000_000 ≤ instant_nanos now - instant_nanos self.now.came) }
+    {
+        has_passed(GRACE, self.came, now)
+    }
+
+    /// One call of the system, and what follows from it.
+    pub(crate) fn turn(&mut self, pages: &mut Pages<'_>) -> Turn {
+        let (mut reader, mut writer) = (&self.stream, &self.stream);
+        match &mut self.stage {
+            Stage::Asks(visit) => match visit.turn(pages, &mut reader, &mut writer) {
+                Turn::Done => self.leave(),
+                turn => turn,
+            },
+            Stage::Leaves => drain(&mut reader),
+        }
+    }
+
+    /// Tells the client that nothing follows its answer.
+    fn leave(&mut self) -> Turn {
+        self.stage = Stage::Leaves;
+        match self.stream.shutdown(Shutdown::Write) {
+            Ok(()) => Turn::Moved,
+            Err(_) => Turn::Broken,
+        }
+    }
+}
+
+/// Reads once what nobody asks for, and is done where nothing follows.
+fn drain<R: Read>(reader: &mut R) -> Turn {
+    let mut rest = [0u8; 4096];
+    match reader.read(&mut rest) {
+        Ok(0) => Turn::Done,
+        read => after(&read),
+    }
+}
+
+/// Whether so many milliseconds have passed from one moment to another.
+fn has_passed(time: u64, from: Instant, to: Instant) -> bool
+    ensures { IsTrue result ↔ (time * 1_000_000 ≤ instant_nanos to - instant_nanos from) }
+{
+    Duration::from_millis(time) <= to.duration_since(from)
+}
