@@ -1,4 +1,5 @@
 pub mod EndingLemmas
+mod LimitLemmas
 pub mod NoticeLemmas
 pub mod PlannedLemmas
 pub mod ServingLemmas

@@ -32,6 +32,6 @@ no_settings options config (fault.Outcomes number) means none = absurd none
 no_settings options config (fault.Line number) means none = absurd none
 no_settings options config fault.Check means none = absurd none
 no_settings options config fault.Delays means none = absurd none
-no_settings options config fault.Listen means none = absurd none
+no_settings options config (fault.Listen cause) means none = absurd none
 no_settings options config fault.Metrics means none = absurd none
 no_settings options config fault.Accept means none = absurd none

@@ -1,5 +1,5 @@
 -- What `serve` writes, and why it fails.
-use Rattle.std.proofs.Common.{◌≡◌, ◌<◌, ℕ, List, Option, Some, inl, inr, refl, subst, sym}
+use Rattle.std.proofs.Common.{◌≡◌, ◌<◌, ℕ, List, Option, Some, Ok, Err, IfErr, OnErr, OnOk, Result, inl, inr, refl, subst, sym}
 use Rattle.tko_model.specs.Ranges.{IsWithinRanges, first_fault}
 use Rattle.tko_model.specs.Settings.{Settings}
 use Rattle.tko_model.specs.declared.settings.SettingsFault.{SettingsFault}
@@ -11,10 +11,21 @@ use Rattle.tko_commands.proofs.GroupedLemmas.{no_fault}
 use Rattle.tko_commands.specs.declared.fault.Fault.{Fault}
 use Rattle.tko_commands.specs.declared.fault.Fault.TheVariants as fault
 use Rattle.tko_cli.specs.Planned.{IsPlanned, IsServerOf}
-use Rattle.tko_cli.specs.Serving.{HasBegun, HasNoMetrics, HasPlan, IsConfig, IsPrepared, IsRunnable, IsUnprepared, NotWritten, PreparedFails, Ready, ServeFails, TotalsFail, fault_of_server, ready_text}
+use Rattle.tko_cli.specs.Serving.{HasBegun, HasNoListener, HasNoMetrics, HasPlan, IsExplained, IsPrepared, IsRunnable, IsUnprepared, NotWritten, PreparedFails, Ready, ServeFails, TotalsFail, fault_of_server, ready_text}
 use Rattle.tko_cli.specs.declared.planned.Plan.{Plan}
 use Rattle.tko_cli.specs.declared.serving.Prepared.{Prepared}
 use Rattle.tko_options.specs.declared.serve_options.ServeOptions.{ServeOptions}
+
+-- what holds in any case, where it is Ok
+pub in_any_case : {T E P : Type 0} (result : Result T E) → P → OnOk result P
+in_any_case (Ok value) holds = holds
+in_any_case (Err error) holds = tt
+
+-- what follows from an error
+pub from_err : {T E P : Type 0} {Q : E → Type 0} (result : Result T E) → IfErr result Q → ((error : E) → Q error → P)
+    → OnErr result P
+from_err (Ok value) is next = tt
+from_err (Err error) is next = next error is
 
 -- the tracker of a planned server has the plan's settings
 settings_of_plan : (options : ServeOptions) (plan : Plan) (open_files : Option ℕ) (server : Server)
@@ -61,7 +72,7 @@ totals_fail takes failures from middle to (fault.Outcomes number) ready calm is 
 totals_fail takes failures from middle to (fault.Line number) ready calm is = absurd is
 totals_fail takes failures from middle to fault.Check ready calm is = absurd is
 totals_fail takes failures from middle to fault.Delays ready calm is = absurd is
-totals_fail takes failures from middle to fault.Listen ready calm is = absurd is
+totals_fail takes failures from middle to (fault.Listen cause) ready calm is = absurd is
 totals_fail takes failures from middle to fault.Metrics ready calm is = absurd is
 totals_fail takes failures from middle to fault.Accept ready calm is = absurd is
 
@@ -80,13 +91,31 @@ no_metrics options (fault.Outcomes number) plan none = absurd none
 no_metrics options (fault.Line number) plan none = absurd none
 no_metrics options fault.Check plan none = absurd none
 no_metrics options fault.Delays plan none = absurd none
-no_metrics options fault.Listen plan none = absurd none
+no_metrics options (fault.Listen cause) plan none = absurd none
 no_metrics options fault.Accept plan none = absurd none
+
+-- where nothing can listen, nothing can run
+pub no_listener : (options : ServeOptions) (reason : Fault) → HasPlan options → HasNoListener reason
+    → IsUnprepared options reason
+no_listener options (fault.Listen cause) plan none = inr (plan, none)
+no_listener options fault.Memory plan none = tt
+no_listener options fault.Metrics plan none = absurd none
+no_listener options fault.Read plan none = absurd none
+no_listener options fault.Write plan none = absurd none
+no_listener options fault.LineTooLong plan none = absurd none
+no_listener options (fault.Settings name) plan none = absurd none
+no_listener options (fault.Config cause) plan none = absurd none
+no_listener options fault.ConfigFile plan none = absurd none
+no_listener options (fault.Outcomes number) plan none = absurd none
+no_listener options (fault.Line number) plan none = absurd none
+no_listener options fault.Check plan none = absurd none
+no_listener options fault.Delays plan none = absurd none
+no_listener options fault.Accept plan none = absurd none
 
 -- where nothing can run, nothing was written
 pub unprepared_fails : {O : Type 0} (takes : O → List ℕ → O → Type 0) (failures : O → ℕ) (options : ServeOptions)
     (from : O) (reason : Fault) → IsUnprepared options reason → ServeFails takes failures options from from reason
-unprepared_fails takes failures options from fault.Listen is = (is, refl)
+unprepared_fails takes failures options from (fault.Listen cause) is = (is, refl)
 unprepared_fails takes failures options from fault.Metrics is = (is.0, is.1, refl)
 unprepared_fails takes failures options from fault.Memory is = inl refl
 unprepared_fails takes failures options from fault.Write is = absurd is
@@ -117,7 +146,7 @@ prepared_fails takes failures options from to (fault.Outcomes number) plan is = 
 prepared_fails takes failures options from to (fault.Line number) plan is = absurd is
 prepared_fails takes failures options from to fault.Check plan is = absurd is
 prepared_fails takes failures options from to fault.Delays plan is = absurd is
-prepared_fails takes failures options from to fault.Listen plan is = absurd is
+prepared_fails takes failures options from to (fault.Listen cause) plan is = absurd is
 prepared_fails takes failures options from to fault.Metrics plan is = absurd is
 
 -- such a server had begun
@@ -135,23 +164,23 @@ has_begun takes failures from to (fault.Outcomes number) is = absurd is
 has_begun takes failures from to (fault.Line number) is = absurd is
 has_begun takes failures from to fault.Check is = absurd is
 has_begun takes failures from to fault.Delays is = absurd is
-has_begun takes failures from to fault.Listen is = absurd is
+has_begun takes failures from to (fault.Listen cause) is = absurd is
 has_begun takes failures from to fault.Metrics is = absurd is
 
--- and its fault is none of the configuration
-pub never_config : {O : Type 0} (takes : O → List ℕ → O → Type 0) (failures : O → ℕ) (from to : O) (reason : Fault)
-    → PreparedFails takes failures from to reason → IsConfig reason → ⊥
-never_config takes failures from to fault.Read is config = absurd config
-never_config takes failures from to fault.LineTooLong is config = absurd config
-never_config takes failures from to (fault.Settings name) is config = absurd config
-never_config takes failures from to (fault.Config cause) is config = absurd is
-never_config takes failures from to fault.ConfigFile is config = absurd config
-never_config takes failures from to (fault.Outcomes number) is config = absurd config
-never_config takes failures from to (fault.Line number) is config = absurd config
-never_config takes failures from to fault.Check is config = absurd config
-never_config takes failures from to fault.Delays is config = absurd config
-never_config takes failures from to fault.Listen is config = absurd config
-never_config takes failures from to fault.Metrics is config = absurd config
-never_config takes failures from to fault.Accept is config = absurd config
-never_config takes failures from to fault.Write is config = absurd config
-never_config takes failures from to fault.Memory is config = absurd config
+-- and no line says why there is its fault
+pub never_explained : {O : Type 0} (takes : O → List ℕ → O → Type 0) (failures : O → ℕ) (from to : O) (reason : Fault)
+    → PreparedFails takes failures from to reason → IsExplained reason → ⊥
+never_explained takes failures from to fault.Read is config = absurd config
+never_explained takes failures from to fault.LineTooLong is config = absurd config
+never_explained takes failures from to (fault.Settings name) is config = absurd config
+never_explained takes failures from to (fault.Config cause) is config = absurd is
+never_explained takes failures from to fault.ConfigFile is config = absurd config
+never_explained takes failures from to (fault.Outcomes number) is config = absurd config
+never_explained takes failures from to (fault.Line number) is config = absurd config
+never_explained takes failures from to fault.Check is config = absurd config
+never_explained takes failures from to fault.Delays is config = absurd config
+never_explained takes failures from to (fault.Listen cause) is config = absurd is
+never_explained takes failures from to fault.Metrics is config = absurd config
+never_explained takes failures from to fault.Accept is config = absurd config
+never_explained takes failures from to fault.Write is config = absurd config
+never_explained takes failures from to fault.Memory is config = absurd config

@@ -17,6 +17,8 @@ notice_line (notice.Descriptors allotment limit) = codes "note: " ++ decimal all
     ++ use_text allotment
 notice_line (notice.UnknownLimit allotment) = codes "note: " ++ decimal allotment.needed
     ++ codes " descriptors needed at most, limit unknown" ++ use_text allotment
+notice_line notice.NoMemoryLimit =
+    codes "note: no limit on memory is set (ulimit -v, LimitAS of the unit)"
 notice_line (notice.Faults faults sessions) = codes "note: " ++ decimal faults ++ codes " of "
     ++ decimal sessions ++ codes " sessions ended by a fault"
 notice_line notice.Memory = codes "note: memory ran out in a session or in a round"

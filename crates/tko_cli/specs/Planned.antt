@@ -14,6 +14,7 @@ use Rattle.tko_commands.specs.Faults.{fault_of_config}
 use Rattle.tko_commands.specs.Grouped.{grouped}
 use Rattle.tko_commands.specs.declared.fault.Fault.{Fault}
 use Rattle.tko_commands.specs.declared.fault.Fault.TheVariants as fault
+use Rattle.tko_commands.specs.declared.listen_fault.ListenFault.TheVariants as listen_fault
 use Rattle.tko_cli.specs.declared.planned.Plan.{Plan}
 use Rattle.tko_options.specs.declared.serve_options.ServeOptions.{ServeOptions}
 
@@ -88,6 +89,7 @@ abbrev pub NoPlan : ServeOptions → Fault → Type 0
 NoPlan options (fault.Config cause) = IsFlawedPlan options cause
 NoPlan options (fault.Settings name) = IsUnsetPlan options name
 NoPlan options fault.Delays = HasBadDelays options
-NoPlan options fault.Listen = HasNoAddress options
+NoPlan options (fault.Listen cause) =
+    HasNoAddress options × (cause ≡ listen_fault.NoAddress)
 NoPlan options fault.Memory = Unit {0}
 NoPlan options _ = ⊥

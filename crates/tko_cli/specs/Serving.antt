@@ -6,6 +6,8 @@ use Rattle.tko_cli.specs.Planned.{IsPlanned, IsServerOf, NoPlan}
 use Rattle.tko_cli.specs.Totals.{totals_text}
 use Rattle.tko_commands.specs.declared.fault.Fault.{Fault}
 use Rattle.tko_commands.specs.declared.fault.Fault.TheVariants as fault
+use Rattle.tko_commands.specs.declared.listen_fault.ListenFault.{ListenFault}
+use Rattle.tko_commands.specs.declared.listen_fault.ListenFault.TheVariants as listen_fault
 use Rattle.tko_cli.specs.declared.planned.Plan.{Plan}
 use Rattle.tko_cli.specs.declared.serving.Prepared.{Prepared}
 use Rattle.tko_model.specs.Ranges.{IsWithinRanges}
@@ -66,10 +68,22 @@ pub data IsSilentOrBegun {O F : Type 0} (takes : O → List ℕ → O → Type 0
   Begun : HasBegun takes failures from to → HasNotices notes faults old new
       → IsSilentOrBegun takes failures notes faults from to old new
 
--- the text is no configuration
-abbrev pub IsConfig : Fault → Type 0
-IsConfig (fault.Config cause) = Unit {0}
-IsConfig other = ⊥
+-- a line of its own says why there is this fault
+abbrev pub IsExplained : Fault → Type 0
+IsExplained (fault.Config cause) = Unit {0}
+IsExplained (fault.Listen cause) = Unit {0}
+IsExplained other = ⊥
+
+-- the system refuses an address
+abbrev pub IsRefused : ListenFault → Type 0
+IsRefused (listen_fault.System words) = Unit {0}
+IsRefused listen_fault.NoAddress = ⊥
+
+-- the system refuses the address, or memory ran out
+abbrev pub HasNoListener : Fault → Type 0
+HasNoListener (fault.Listen cause) = IsRefused cause
+HasNoListener fault.Memory = Unit {0}
+HasNoListener other = ⊥
 
 -- `ready` went out and nothing else
 pub record IsReady {O : Type 0} (takes : O → List ℕ → O → Type 0) (options : ServeOptions)
@@ -83,10 +97,11 @@ HasNoMetrics options fault.Metrics = is_some options.metrics ≡ true
 HasNoMetrics options fault.Memory = Unit {0}
 HasNoMetrics options _ = ⊥
 
--- why nothing can run: the options name nothing to run on, nothing can listen there or where they
--- ask for metrics, or memory ran out
+-- why nothing can run: the options name nothing to run on, the system refuses the address there,
+-- nothing can listen where they ask for metrics, or memory ran out
 abbrev pub IsUnprepared : ServeOptions → Fault → Type 0
-IsUnprepared options fault.Listen = NoPlan options fault.Listen ⊎ HasPlan options
+IsUnprepared options (fault.Listen cause) =
+    NoPlan options (fault.Listen cause) ⊎ (HasPlan options × IsRefused cause)
 IsUnprepared options fault.Metrics = HasPlan options × HasNoMetrics options fault.Metrics
 IsUnprepared options fault.Write = ⊥
 IsUnprepared options fault.Accept = ⊥
@@ -108,12 +123,12 @@ module _ {O : Type 0} (takes : O → List ℕ → O → Type 0) (failures : O �
   PreparedFails from to fault.Memory = takes from ready_text to
   PreparedFails from to _ = ⊥
 
-  -- why it fails: the options name nothing to run on, or nothing can listen there or where the
-  -- metrics are asked for, and then nothing was written; the outlet failed; accepting failed after
-  -- `ready`; or memory ran out, and then `ready` went out or nothing
+  -- why it fails: the options name nothing to run on, the system refuses the address there, or
+  -- nothing can listen where the metrics are asked for, and then nothing was written; the outlet
+  -- failed; accepting failed after `ready`; or memory ran out, and then `ready` went out or nothing
   abbrev pub ServeFails : ServeOptions → O → O → Fault → Type 0
-  ServeFails options from to fault.Listen =
-      (NoPlan options fault.Listen ⊎ HasPlan options) × (to ≡ from)
+  ServeFails options from to (fault.Listen cause) =
+      (NoPlan options (fault.Listen cause) ⊎ (HasPlan options × IsRefused cause)) × (to ≡ from)
   ServeFails options from to fault.Metrics =
       HasPlan options × HasNoMetrics options fault.Metrics × (to ≡ from)
   ServeFails options from to fault.Write = failures from < failures to

@@ -17,6 +17,8 @@ pub(crate) enum Notice {
     Descriptors(Allotment, u64),
     /// The same where it is not known how many it may have open.
     UnknownLimit(Allotment),
+    /// No limit on the memory of the process is set.
+    NoMemoryLimit,
     /// How many sessions ended by a fault, and how many ended.
     Faults(u64, u64),
     /// Memory ran out in a session or in a round.
@@ -49,6 +51,10 @@ fn append_notice(out: &mut Vec<u8>, notice: Notice) -> Result<(), NoMemory>
             append_number(out, b"note: ", allotment.needed)?;
             out.extend_from_slice(b" descriptors needed at most, limit unknown")?;
             append_use(out, allotment)?;
+        }
+        Notice::NoMemoryLimit => {
+            let text = b"note: no limit on memory is set (ulimit -v, LimitAS of the unit)";
+            out.extend_from_slice(text)?;
         }
         Notice::Faults(faults, sessions) => {
             append_number(out, b"note: ", faults)?;

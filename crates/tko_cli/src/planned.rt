@@ -3,7 +3,7 @@ ghost use Rattle.std.specs.Prelude.{◌≡◌, IfOk, IfErr};
 ghost use Rattle.tko_cli.specs.Planned.{IsPlanned, IsServerOf, NoPlan, serve_patience};
 
 use std::alloc::Global;
-use tko_commands::{Fault, settings_over};
+use tko_commands::{Fault, ListenFault, settings_over};
 use tko_model::Settings;
 use tko_options::ServeOptions;
 use tko_pools::{Config, is_address};
@@ -56,7 +56,7 @@ pub(crate) fn plan_of(alloc: Global, options: &ServeOptions) -> Result<Plan, Fau
         return Err(Fault::Delays);
     };
     if !is_address(options.listen.as_bytes()) {
-        return Err(Fault::Listen);
+        return Err(Fault::Listen(ListenFault::NoAddress));
     }
     Ok(Plan {
         config,

@@ -8,8 +8,8 @@ use std::fs::{File, Files};
 use std::net::TcpListener;
 use std::thread::Threads;
 use tko_commands::{
-    DONE, Fault, fail, loaded_server, refuse_config, run_check, run_dry, run_replay, status_of,
-    write_text,
+    DONE, Fault, fail, loaded_server, refuse_config, refuse_listen, run_check, run_dry, run_replay,
+    status_of, write_text,
 };
 use tko_io::{Inlet, Outlet};
 use tko_links::IoRuntime;
@@ -21,7 +21,14 @@ const REFUSED: u8 = 2;
 /// status: 0 where it was done, 1 after a fault, 2 where the words were refused. Replies and runs
 /// go to `output`, and the line of a fault to `faults`.
 pub fn command<
-    R: IoRuntime<Listener = TcpListener> + Threads + Sync + Files<File = File> + Eprint,
+    R: IoRuntime<Listener = TcpListener>
+        + Threads
+        + Sync
+        + Copy
+        + Send
+        + 'static
+        + Files<File = File>
+        + Eprint,
     I: Inlet,
     O: Outlet,
     F: Outlet,
@@ -49,7 +56,14 @@ pub fn command<
 
 /// Serves clients, and returns the status.
 fn run_server<
-    R: IoRuntime<Listener = TcpListener> + Threads + Sync + Files<File = File> + Eprint,
+    R: IoRuntime<Listener = TcpListener>
+        + Threads
+        + Sync
+        + Copy
+        + Send
+        + 'static
+        + Files<File = File>
+        + Eprint,
     O: Outlet,
     F: Outlet,
 >(rt: &R, alloc: Global, options: ServeOptions, output: &mut O, faults: &mut F) -> u8
@@ -67,7 +81,14 @@ fn run_server<
 
 /// Serves clients over the configuration of the options, and returns the status.
 fn serve_loaded<
-    R: IoRuntime<Listener = TcpListener> + Threads + Sync + Files<File = File> + Eprint,
+    R: IoRuntime<Listener = TcpListener>
+        + Threads
+        + Sync
+        + Copy
+        + Send
+        + 'static
+        + Files<File = File>
+        + Eprint,
     O: Outlet,
     F: Outlet,
 >(rt: &R, alloc: Global, options: &ServeOptions, output: &mut O, faults: &mut F) -> u8
@@ -81,6 +102,9 @@ fn serve_loaded<
         Ok(()) => DONE,
         Err(Fault::Config(cause)) => {
             refuse_config(rt, alloc, faults, options.config.as_str(), cause)
+        }
+        Err(Fault::Listen(cause)) => {
+            refuse_listen(rt, alloc, faults, options.listen.as_str(), cause)
         }
         Err(fault) => fail(rt, alloc, faults, fault),
     }

@@ -1,18 +1,18 @@
 //! The command `serve`: a server over TCP, and its totals.
 ghost use Rattle.std.specs.Prelude.{◌≡◌, ◌<◌, IfOk, OnOk, IfErr, OnErr, bytes_eq, codes, is_some, string_bytes};
 ghost use Rattle.tko_cli.specs.Notices.{HasNotices};
-ghost use Rattle.tko_cli.specs.Serving.{HasNoMetrics, HasServed, HasTotals, IsConfig, IsPrepared, IsRunnable, IsSilentOrBegun, IsUnprepared, PreparedFails, ServeFails, TotalsFail, fault_of_server, ready_text};
+ghost use Rattle.tko_cli.specs.Serving.{HasNoListener, HasNoMetrics, HasServed, HasTotals, IsExplained, IsPrepared, IsRunnable, IsSilentOrBegun, IsUnprepared, PreparedFails, ServeFails, TotalsFail, fault_of_server, ready_text};
 ghost use Rattle.tko_cli.specs.Totals.{totals_text};
 
 use crate::notice::{Notice, write_notice, write_notice_if};
-use crate::open_files::open_file_limit;
+use crate::open_files::{has_no_memory_limit, open_file_limit};
 use crate::planned::{Plan, plan_of};
 use crate::totals::totals_lines;
 use std::alloc::{AllocError, Global};
 use std::fs::{File, Files};
 use std::net::TcpListener;
 use std::thread::Threads;
-use tko_commands::{Fault, WriteFault, write_text};
+use tko_commands::{Fault, ListenFault, WriteFault, write_text};
 use tko_desk::Totals;
 use tko_events::What;
 use tko_io::Outlet;
@@ -35,7 +35,14 @@ pub(crate) struct Prepared {
 /// `ready` is printed once clients can connect. Before it a notice says what the server does with
 /// its descriptors, and before the totals notices say what the workers met.
 pub(crate) fn serve<
-    R: IoRuntime<Listener = TcpListener> + Threads + Sync + Files<File = File> + Eprint,
+    R: IoRuntime<Listener = TcpListener>
+        + Threads
+        + Sync
+        + Copy
+        + Send
+        + 'static
+        + Files<File = File>
+        + Eprint,
     O: Outlet,
     F: Outlet,
 >(
@@ -50,9 +57,10 @@ pub(crate) fn serve<
     ensures noted { OnOk result (HasNotices F.takes F.failures faults.old faults.new) }
     ensures told { OnErr result (IsSilentOrBegun O.takes O.failures F.takes F.failures
         output.old output.new faults.old faults.new) }
-    ensures refused { IfErr result (λ fault. IsConfig fault → faults.new ≡ faults.old) }
+    ensures refused { IfErr result (λ fault. IsExplained fault → faults.new ≡ faults.old) }
 {
     let prepared = prepare(rt, alloc, options)?;
+    note_memory(rt, alloc, faults);
     run_prepared(rt, alloc, prepared, output, faults)
 }
 
@@ -68,9 +76,7 @@ fn prepare<R: IoRuntime<Listener = TcpListener> + Files<File = File>>(
 {
     let plan = plan_of(alloc, options)?;
     let logging = logging_of(rt, alloc, options, &plan)?;
-    let Ok(listener) = TcpListener::bind(rt, options.listen.as_str()) else {
-        return Err(Fault::Listen);
-    };
+    let listener = listener_of(rt, alloc, options.listen.as_str())?;
     let limit = open_file_limit(rt, alloc);
     let metering = metering_of(rt, alloc, options, &plan, limit)?;
     let server = plan.server(options, limit);
@@ -84,7 +90,14 @@ fn prepare<R: IoRuntime<Listener = TcpListener> + Files<File = File>>(
 
 /// Runs the server to its end, with `ready` before and the totals after it.
 fn run_prepared<
-    R: IoRuntime<Listener = TcpListener> + Threads + Sync + Files<File = File> + Eprint,
+    R: IoRuntime<Listener = TcpListener>
+        + Threads
+        + Sync
+        + Copy
+        + Send
+        + 'static
+        + Files<File = File>
+        + Eprint,
     O: Outlet,
     F: Outlet,
 >(rt: &R, alloc: Global, prepared: Prepared, output: &mut O, faults: &mut F) -> Result<(), Fault>
@@ -152,6 +165,23 @@ fn fault_of_server(cause: RunFault) -> Fault
         RunFault::Settings(setting) => Fault::Settings(setting),
         RunFault::Memory => Fault::Memory,
         RunFault::Accept => Fault::Accept,
+    }
+}
+
+/// A listener at this address, or what the system says against it.
+fn listener_of<R: IoRuntime<Listener = TcpListener>>(
+    rt: &R,
+    alloc: Global,
+    address: &str,
+) -> Result<TcpListener, Fault>
+    ensures { IfErr result HasNoListener }
+{
+    match TcpListener::bind(rt, address) {
+        Ok(listener) => Ok(listener),
+        Err(error) => {
+            let words = format!(in alloc; "{error}")?;
+            Err(Fault::Listen(ListenFault::System(words)))
+        }
     }
 }
 
@@ -226,6 +256,14 @@ fn note_descriptors<R: IoRuntime, F: Outlet>(
         None => Notice::UnknownLimit(server.allotment()),
     };
     write_notice(rt, alloc, faults, notice);
+}
+
+/// Writes that the process may take all memory, where that is so.
+fn note_memory<R: IoRuntime + Files<File = File>, F: Outlet>(rt: &R, alloc: Global, faults: &mut F)
+    ensures { HasNotices F.takes F.failures faults.old faults.new }
+{
+    let is_told = has_no_memory_limit(rt, alloc);
+    write_notice_if(rt, alloc, faults, is_told, Notice::NoMemoryLimit);
 }
 
 /// Writes what the workers met, where it is worth a notice.

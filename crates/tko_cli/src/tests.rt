@@ -41,6 +41,9 @@ fn came<
         + Clock
         + Threads
         + Sync
+        + Copy
+        + Send
+        + 'static
         + Files<File = File>
         + Eprint,
 >(

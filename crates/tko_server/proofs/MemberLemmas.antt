@@ -4,6 +4,8 @@ use Rattle.std.proofs.lemmas.Grind.{length_at_push}
 use Rattle.std.proofs.lemmas.List.{append_assoc, map-append}
 use Rattle.std.proofs.lemmas.List.Elements.{All-push}
 use Rattle.tko_desk.specs.Ledger.{fresh_share, fresh_shares}
+use Rattle.tko_links.specs.TcpWires.{TcpState}
+use Rattle.tko_links.specs.Wired.{WiredState}
 use Rattle.tko_server.specs.declared.pooling.Member.{Member}
 use Rattle.tko_server.specs.declared.running.Options.{Options}
 use Rattle.tko_server.specs.Workers.{AreReady, HasOptions, IsEquipped, IsReady}
@@ -26,12 +28,13 @@ one_more_ready {C} {P} {S} {L} {M} own seated linked before after member pushed 
     subst (All R) (sym pushed) (All-push R before member ready one)
 
 -- one member more, with what the options ask for
-pub one_more_asked : {C P S L M : Type 0} (options : Options) (before after : List (Member C P S L M))
-    (member : Member C P S L M) → after ≡ before ++ member ∷ []
+pub one_more_asked : {C P S M : Type 0} (options : Options)
+    (before after : List (Member C P S (WiredState TcpState) M))
+    (member : Member C P S (WiredState TcpState) M) → after ≡ before ++ member ∷ []
     → All (λ m. HasOptions options m.parts) before → HasOptions options member.parts
     → All (λ m. HasOptions options m.parts) after
-one_more_asked {C} {P} {S} {L} {M} options before after member pushed asked one =
-    let A : Member C P S L M → Type 0 = λ m. HasOptions options m.parts in
+one_more_asked {C} {P} {S} {M} options before after member pushed asked one =
+    let A : Member C P S (WiredState TcpState) M → Type 0 = λ m. HasOptions options m.parts in
     subst (All A) (sym pushed) (All-push A before member asked one)
 
 -- one member more, and one seat and one share less to come

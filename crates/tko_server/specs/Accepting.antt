@@ -4,11 +4,16 @@ use Rattle.std.specs.IoError.{raw_os_error}
 use Rattle.std.specs.declared.io.Error.{Error}
 use Rattle.std.specs.declared.io.ErrorKind.{ErrorKind}
 use Rattle.std.specs.declared.io.ErrorKind.TheVariants as kind
+use Rattle.tko_bytes.specs.declared.memory.NoMemory.{NoMemory}
 use Rattle.tko_server.specs.declared.accepting.AcceptEnd.{AcceptEnd}
-use Rattle.tko_server.specs.declared.accepting.AcceptEnd.TheVariants.{Enough, Broken}
+use Rattle.tko_server.specs.declared.accepting.AcceptEnd.TheVariants.{Enough, NoWorker, Broken}
+use Rattle.tko_server.specs.declared.accepting.Entrance.{Entrance}
 use Rattle.tko_server.specs.declared.listening.AcceptStop.{AcceptStop}
 use Rattle.tko_server.specs.declared.listening.AcceptStop.TheVariants as stop
 use Rattle.tko_server.specs.declared.listening.Listening.{Listening}
+use Rattle.tko_server.specs.declared.report.WorkerReport.{WorkerReport}
+use Rattle.tko_server.specs.declared.run_fault.RunFault.{RunFault}
+use Rattle.tko_server.specs.declared.run_fault.RunFault.TheVariants as run
 
 -- the error of an accept at what is no listener: no open descriptor, a socket that does not listen,
 -- or no socket
@@ -34,9 +39,19 @@ is_broken (Err stop.Broken) = true
 is_broken (Err _) = false
 
 -- accepting `connections` connections, where 0 is no limit, came to this end
-pub record HasAccepted (connections : ℕ) (listening : Listening) (ended : AcceptEnd) : Type 0 where
+pub record HasAccepted (connections : ℕ) (listening : Listening) (entrance : Entrance)
+    (ended : AcceptEnd) : Type 0 where
   -- all of them were accepted, and none more
   pub enough : ended ≡ Enough → (0 < connections) × (listening.accepted ≡ connections)
   pub within : 0 < connections → listening.accepted ≤ connections
-  -- it ends by a fault exactly where the listener is broken
+  -- it ends for want of a worker exactly where there was none for a connection
+  pub no_worker : (ended ≡ NoWorker) ↔ (entrance.has_worker ≡ false)
+  -- it ends by a fault of its own exactly where the listener is broken
   pub broken : (ended ≡ Broken) ↔ (listening.is_broken ≡ true)
+
+-- what a server came to whose workers met this, and which ended accepting so
+abbrev pub ended_by : Result WorkerReport NoMemory → AcceptEnd → Result WorkerReport RunFault
+ended_by (Ok report) Enough = Ok report
+ended_by (Ok report) NoWorker = Err run.Memory
+ended_by (Ok report) Broken = Err run.Accept
+ended_by (Err none) accepted = Err run.Memory

@@ -1,7 +1,9 @@
 pub mod Accepting
 pub mod Allotments
 pub mod Closing
+pub mod Pacing
 pub mod Reports
 pub mod Rounds
 pub mod Runs
+pub mod Watching
 pub mod Workers

@@ -1,15 +1,16 @@
 //! The thread that accepts connections.
-ghost use Rattle.std.specs.Prelude.{◌≡◌, false};
-ghost use Rattle.tko_server.specs.Accepting.{HasAccepted};
+ghost use Rattle.std.specs.Prelude.{◌≡◌, ◌&&◌, false, true};
+ghost use Rattle.tko_server.specs.Accepting.{HasAccepted, ended_by};
 
-use crate::Patience;
 use crate::clients::Client;
 use crate::listening::{AcceptStop, Listening};
 use crate::room::{Place, Room};
+use crate::{Patience, RunFault, WorkerReport};
 use crossbeam_channel::Sender;
 use std::alloc::{AllocError, Global};
 use std::net::TcpStream;
 use std::sync::{Arc, Wait};
+use tko_bytes::NoMemory;
 use tko_events::Log;
 
 /// Why accepting ended.
@@ -26,10 +27,12 @@ pub(crate) enum AcceptEnd {
 /// The way of a connection to the workers.
 #[derive(Drop)]
 pub(crate) struct Entrance {
-    pub(crate) room: Arc<Room, Global>,
-    pub(crate) clients: Sender<Client>,
-    pub(crate) patience: Patience,
+    room: Arc<Room, Global>,
+    clients: Sender<Client>,
+    patience: Patience,
     pub(crate) log: Log,
+    /// Whether there was a worker for each connection so far.
+    has_worker: bool,
 }
 
 /// Accepts connections while there is room for them, and sends each to the workers, until there
@@ -39,18 +42,16 @@ pub(crate) fn accept_all<R: Wait>(
     rt: &R,
     alloc: Global,
     listening: &mut Listening<'_>,
-    entrance: Entrance,
+    entrance: &mut Entrance,
     connections: u64,
 ) -> AcceptEnd
     requires none { listening.old.accepted ≡ 0 }
     requires whole { listening.old.is_broken ≡ false }
-    ensures { HasAccepted connections listening.new result }
+    requires taken { entrance.old.has_worker ≡ true }
+    ensures { HasAccepted connections listening.new entrance.new result }
 {
     let mut left = connections;
     for _ in rt.forever() {
-        if entrance.room.is_closed() {
-            return AcceptEnd::NoWorker;
-        }
         if !entrance.room.has_place(rt) {
             continue;
         }
@@ -73,15 +74,51 @@ pub(crate) fn accept_all<R: Wait>(
     unreachable!()
 }
 
+/// What a server came to whose workers met this, and which ended accepting so. Its workers end
+/// before it does only where memory runs out.
+pub(crate) fn ended_by(
+    report: Result<WorkerReport, NoMemory>,
+    accepted: AcceptEnd,
+) -> Result<WorkerReport, RunFault>
+    ensures { result ≡ ended_by report accepted }
+{
+    let report = report?;
+    match accepted {
+        AcceptEnd::Enough => Ok(report),
+        AcceptEnd::NoWorker => Err(RunFault::Memory),
+        AcceptEnd::Broken => Err(RunFault::Accept),
+    }
+}
+
 impl Entrance {
+    /// The way into this room, and to the workers that take from this channel.
+    pub(crate) fn new(
+        room: Arc<Room, Global>,
+        clients: Sender<Client>,
+        patience: Patience,
+        log: Log,
+    ) -> Entrance
+        ensures { result.has_worker ≡ true }
+    {
+        Entrance {
+            room,
+            clients,
+            patience,
+            log,
+            has_worker: true,
+        }
+    }
+
     /// Sends a connection to the workers, and returns whether there is one. A connection whose
     /// socket cannot be set up, or for which there is no memory, is closed at once. That is counted
     /// as a session that ended by a fault.
-    fn admit<R: Wait>(&self, rt: &R, alloc: Global, stream: TcpStream) -> bool {
+    fn admit<R: Wait>(&mut self, rt: &R, alloc: Global, stream: TcpStream) -> bool
+        ensures { self.new.has_worker ≡ (self.old.has_worker && result) }
+    {
         match self.client(alloc, stream) {
             Ok(Some(client)) => {
                 self.log.meter().accept_client();
-                self.clients.send(rt, client).is_ok()
+                self.send(rt, client)
             }
             Ok(None) | Err(_) => {
                 self.log.count_session(true);
@@ -89,6 +126,15 @@ impl Entrance {
                 true
             }
         }
+    }
+
+    /// Sends a client to the workers, and returns whether there is one.
+    fn send<R: Wait>(&mut self, rt: &R, client: Client) -> bool
+        ensures { self.new.has_worker ≡ (self.old.has_worker && result) }
+    {
+        let is_sent = self.clients.send(rt, client).is_ok();
+        self.has_worker = self.has_worker && is_sent;
+        is_sent
     }
 
     /// The client at the other end of a connection, which has its place in the room.

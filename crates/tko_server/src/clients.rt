@@ -1,9 +1,9 @@
 //! Clients over TCP.
 ghost use Rattle.std.specs.Prelude.{◌≡◌};
 
+use crate::first_asks::FirstAsk;
 use crate::patience::IDLE;
 use crate::room::Place;
-use crate::silence::Silence;
 use crate::{Next, Patience, Source};
 use crossbeam_channel::{Receiver, RecvTimeoutError};
 use std::alloc::{AllocError, Global};
@@ -12,6 +12,7 @@ use std::io::{ErrorKind, Read, Write};
 use std::net::TcpStream;
 use std::sync::Arc;
 use std::time::Duration;
+use tko_backend::MonotonicClock;
 use tko_io::Piped;
 use tko_links::IoRuntime;
 
@@ -27,9 +28,6 @@ struct Connection {
 #[derive(Drop)]
 pub(crate) struct Incoming {
     connection: Arc<Connection, Global>,
-    silence: Silence,
-    /// How many milliseconds a read waits.
-    turn: u32,
 }
 
 /// What is sent to a client.
@@ -38,11 +36,12 @@ pub(crate) struct Outgoing {
     connection: Arc<Connection, Global>,
 }
 
-/// A client: the two ends of its connection.
+/// A client: the two ends of its connection, and how long it is waited for.
 #[derive(Drop)]
 pub(crate) struct Client {
     reader: Piped<Incoming>,
     writer: Piped<Outgoing>,
+    patience: Patience,
 }
 
 impl Client {
@@ -57,44 +56,31 @@ impl Client {
         let writer = Outgoing {
             connection: Arc::try_clone(&connection)?,
         };
-        let reader = Incoming {
-            connection,
-            silence: Silence::new(patience.idle_timeout),
-            turn: patience.turn(),
-        };
+        let reader = Incoming { connection };
         Ok(Client {
             reader: Piped::new(reader),
             writer: Piped::new(writer),
+            patience,
         })
     }
 }
 
-/// A client that sent nothing for too long is read from as one that failed.
 impl Read for Incoming {
     fn read(&mut self, buf: &mut [u8]) -> io::Result<usize> {
-        let read = (&self.connection.stream).read(buf);
-        if !is_idle(&read) {
-            self.silence.ends();
-            return read;
-        }
-        if self.silence.lasts(self.turn) {
-            return Err(io::Error::from(ErrorKind::NotConnected));
-        }
-        read
+        (&self.connection.stream).read(buf)
     }
 }
 
-/// Whether a read waited in vain.
-fn is_idle(read: &io::Result<usize>) -> bool {
-    match read {
-        Ok(_) => false,
-        Err(error) => matches!(error.kind(), ErrorKind::WouldBlock | ErrorKind::TimedOut),
-    }
-}
-
+/// A write that waited for its turn in vain is to be made again. How long a client may keep its
+/// worker so is judged by `Paced`.
 impl Write for Outgoing {
     fn write(&mut self, buf: &[u8]) -> io::Result<usize> {
-        (&self.connection.stream).write(buf)
+        match (&self.connection.stream).write(buf) {
+            Err(error) if error.kind() == ErrorKind::WouldBlock => {
+                Err(io::Error::from(ErrorKind::Interrupted))
+            }
+            written => written,
+        }
     }
 
     fn flush(&mut self) -> io::Result<()> {
@@ -106,6 +92,8 @@ impl Write for Outgoing {
 /// descriptors has none.
 #[derive(Drop)]
 pub(crate) struct Clients {
+    /// Until the first one was asked for.
+    pub(crate) first_ask: Option<FirstAsk>,
     pub(crate) accepted: Option<Receiver<Client>>,
 }
 
@@ -114,12 +102,21 @@ impl Source for Clients {
 
     type Writer = Piped<Outgoing>;
 
+    type Clock = MonotonicClock;
+
+    fn clock<R: IoRuntime>(&self, rt: &R) -> MonotonicClock {
+        MonotonicClock::new(rt)
+    }
+
     fn next<R: IoRuntime>(&mut self, rt: &R) -> Next<Piped<Incoming>, Piped<Outgoing>> {
+        if let Some(first_ask) = self.first_ask.take() {
+            first_ask.report(rt);
+        }
         let Some(accepted) = &self.accepted else {
             return Next::Closed;
         };
         match accepted.recv_timeout(rt, Duration::from_millis(u64::from(IDLE))) {
-            Ok(client) => Next::Connection(client.reader, client.writer),
+            Ok(client) => Next::Connection(client.reader, client.writer, client.patience),
             Err(RecvTimeoutError::Timeout) => Next::Idle,
             Err(RecvTimeoutError::Disconnected) => Next::Closed,
         }

@@ -56,7 +56,8 @@ pub(crate) fn work<
     N: Named + Send + Sync,
     I: Inlet + Drop + Send,
     O: Outlet + Drop + Send,
-    C: Source<Reader = I, Writer = O> + Drop + Send,
+    W: Clock + Drop + Send,
+    C: Source<Reader = I, Writer = O, Clock = W> + Drop + Send,
     L: Links + Drop + Send,
     M: Clock + Drop + Send,
 >(

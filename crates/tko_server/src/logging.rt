@@ -61,7 +61,9 @@ impl Logging {
 /// What `run_to_end` does, while the log, if there is one, is written to standard error. It returns
 /// once the log is written: where nobody reads standard error, it waits then, and the workers
 /// before that do not. Where the system gives the log no thread, it is written at the end.
-pub fn run_logged<R: IoRuntime<Listener = TcpListener> + Threads + Sync + Eprint>(
+pub fn run_logged<
+    R: IoRuntime<Listener = TcpListener> + Threads + Sync + Copy + Send + 'static + Eprint,
+>(
     rt: &R,
     alloc: Global,
     listener: &TcpListener,
@@ -76,7 +78,9 @@ pub fn run_logged<R: IoRuntime<Listener = TcpListener> + Threads + Sync + Eprint
 }
 
 /// The same, where the workers count on this meter.
-pub(crate) fn run_beside_meter<R: IoRuntime<Listener = TcpListener> + Threads + Sync + Eprint>(
+pub(crate) fn run_beside_meter<
+    R: IoRuntime<Listener = TcpListener> + Threads + Sync + Copy + Send + 'static + Eprint,
+>(
     rt: &R,
     alloc: Global,
     listener: &TcpListener,
@@ -95,7 +99,7 @@ pub(crate) fn run_beside_meter<R: IoRuntime<Listener = TcpListener> + Threads + 
 }
 
 /// Runs the server and then ends the log.
-fn run_and_end<R: IoRuntime<Listener = TcpListener> + Threads + Sync>(
+fn run_and_end<R: IoRuntime<Listener = TcpListener> + Threads + Sync + Copy + Send + 'static>(
     rt: &R,
     alloc: Global,
     listener: &TcpListener,
@@ -112,7 +116,9 @@ fn run_and_end<R: IoRuntime<Listener = TcpListener> + Threads + Sync>(
 }
 
 /// The same with a log.
-fn run_beside<R: IoRuntime<Listener = TcpListener> + Threads + Sync + Eprint>(
+fn run_beside<
+    R: IoRuntime<Listener = TcpListener> + Threads + Sync + Copy + Send + 'static + Eprint,
+>(
     rt: &R,
     alloc: Global,
     listener: &TcpListener,

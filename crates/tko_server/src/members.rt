@@ -6,6 +6,8 @@ ghost use Rattle.tko_server.specs.Runs.{tracker_settings};
 ghost use Rattle.tko_server.specs.Workers.{AreMembersOf, HasOptions, IsEquipped};
 
 use crate::clients::{Client, Clients};
+use crate::first_asks::FirstAsk;
+use crate::naming::Naming;
 use crate::{Account, Member, Options, WorkerParts};
 use crossbeam_channel::Receiver;
 use std::alloc::Global;
@@ -25,6 +27,8 @@ pub(crate) struct Shared<'o, N: Named> {
     pub(crate) seating: LoggedSeating<SharedSeating<'o, N>>,
     pub(crate) book: Mutex<Book>,
     pub(crate) log: Option<&'o Log>,
+    /// Looks up the names of the servers meanwhile.
+    pub(crate) naming: Naming,
     /// How many workers serve clients; the others end at once.
     pub(crate) workers: u32,
 }
@@ -57,6 +61,7 @@ impl<'o, N: Named> Shared<'o, N> {
         passes: Vec<IdlePass>,
         shares: &'a mut [Share],
         accepted: &Receiver<Client>,
+        first_ask: &FirstAsk,
     ) -> Result<Vec<ServerMember<'a, 'o, N>>, NoMemory>
         requires own { All (λ idle. IsOf N.tracker idle) passes.items }
         requires passes { length passes.items ≡ N.tracker.settings.threads }
@@ -69,7 +74,7 @@ impl<'o, N: Named> Shared<'o, N> {
         for (idle, share) in passes.into_iter().zip(shares.iter_mut()) {
             let log = WorkerLog::open(alloc, self.log, idle.number())?;
             members.push(Member {
-                source: self.source(&idle, accepted)?,
+                source: self.source(&idle, accepted, first_ask)?,
                 idle: LoggedIdle::new(idle, Arc::try_clone(&log)?),
                 parts: self.parts(rt, alloc, log, share)?,
             })?;
@@ -78,7 +83,12 @@ impl<'o, N: Named> Shared<'o, N> {
     }
 
     /// The clients of the worker with this pass.
-    fn source(&self, idle: &IdlePass, accepted: &Receiver<Client>) -> Result<Clients, NoMemory>
+    fn source(
+        &self,
+        idle: &IdlePass,
+        accepted: &Receiver<Client>,
+        first_ask: &FirstAsk,
+    ) -> Result<Clients, NoMemory>
         ensures { IfOk result (λ source. (number : ℕ) → idle.now.pass.state ≡ Idle number
             → IsTrue (is_some source.accepted) ↔ (number < self.now.workers)) }
     {
@@ -87,7 +97,11 @@ impl<'o, N: Named> Shared<'o, N> {
         } else {
             None
         };
-        Ok(Clients { accepted })
+        let first_ask = Some(first_ask.another()?);
+        Ok(Clients {
+            first_ask,
+            accepted,
+        })
     }
 
     /// What one worker works with, which has this share.
@@ -105,7 +119,8 @@ impl<'o, N: Named> Shared<'o, N> {
         ensures asked { IfOk result (HasOptions self.now.options.now) }
     {
         let addresses = self.options.config.addresses();
-        let wire = TcpWire::new(alloc, addresses, self.options.timeout)?;
+        let names = self.naming.names()?;
+        let wire = TcpWire::new(alloc, addresses, names, self.options.timeout)?;
         let meter = log.meter()?;
         Ok(WorkerParts {
             seating: &self.seating,

@@ -3,6 +3,7 @@ ghost use Rattle.std.specs.Prelude.{◌≡◌};
 ghost use Rattle.tko_counts.specs.Numbers.{no_counts};
 
 use std::marker::Model;
+use std::sync::atomic::{AtomicU64, Ordering};
 use tko_answer::Trails;
 use tko_bytes::NoMemory;
 use tko_counts::{Counts, Kind};
@@ -14,12 +15,14 @@ use tko_text::Request;
 /// A worker's counts, which are added to its part of the meter after each request and each trail.
 /// Contracts see the counts.
 #[derive(Drop)]
-pub(crate) struct Metered {
+pub(crate) struct Metered<'r> {
     counts: Counts,
     meter: WorkerMeter,
+    /// How many requests its worker has begun to answer, in all.
+    requests: &'r AtomicU64,
 }
 
-impl Model for Metered {
+impl<'r> Model for Metered<'r> {
     ghost use Rattle.tko_counts.specs.declared.counts.Counts.{Counts};
 
     ghost Value = { Counts };
@@ -27,13 +30,17 @@ impl Model for Metered {
     ghost view = { λ m. m.counts };
 }
 
-impl Metered {
+impl<'r> Metered<'r> {
     /// Nothing was counted yet.
-    pub(crate) fn new(meter: WorkerMeter) -> Metered
+    pub(crate) fn new(meter: WorkerMeter, requests: &'r AtomicU64) -> Metered<'r>
         ensures { result ≡ no_counts }
     {
         let counts = Counts::new();
-        Metered { counts, meter }
+        Metered {
+            counts,
+            meter,
+            requests,
+        }
     }
 
     /// What was counted since the last time.
@@ -52,7 +59,7 @@ impl Metered {
     }
 }
 
-impl Trails for Metered {
+impl<'r> Trails for Metered<'r> {
     ghost use Rattle.tko_answer.specs.Counting.{counted};
 
     ghost records = { λ old event new. new ≡ counted old event };
@@ -60,6 +67,7 @@ impl Trails for Metered {
     fn request<R: IoRuntime>(&mut self, rt: &R, request: &Request) -> Result<(), NoMemory> {
         let before = self.counts;
         self.counts.request(rt, request)?;
+        self.requests.fetch_add(1, Ordering::SeqCst);
         self.meter.count(increase_between(before, self.counts));
         Ok(())
     }

@@ -42,7 +42,9 @@ impl Metering {
 
 /// What `run_logged` does, while the metrics, if there are any, are answered for on a thread of
 /// their own. Where the system gives it no thread, nobody answers for them.
-pub fn run_metered<R: IoRuntime<Listener = TcpListener> + Threads + Sync + Eprint>(
+pub fn run_metered<
+    R: IoRuntime<Listener = TcpListener> + Threads + Sync + Copy + Send + 'static + Eprint,
+>(
     rt: &R,
     alloc: Global,
     listener: &TcpListener,
@@ -61,7 +63,9 @@ pub fn run_metered<R: IoRuntime<Listener = TcpListener> + Threads + Sync + Eprin
 }
 
 /// The same with metrics.
-fn run_beside<R: IoRuntime<Listener = TcpListener> + Threads + Sync + Eprint>(
+fn run_beside<
+    R: IoRuntime<Listener = TcpListener> + Threads + Sync + Copy + Send + 'static + Eprint,
+>(
     rt: &R,
     alloc: Global,
     listener: &TcpListener,
@@ -89,7 +93,9 @@ fn run_beside<R: IoRuntime<Listener = TcpListener> + Threads + Sync + Eprint>(
 }
 
 /// Runs the server and then ends the meter.
-fn run_and_end<R: IoRuntime<Listener = TcpListener> + Threads + Sync + Eprint>(
+fn run_and_end<
+    R: IoRuntime<Listener = TcpListener> + Threads + Sync + Copy + Send + 'static + Eprint,
+>(
     rt: &R,
     alloc: Global,
     listener: &TcpListener,

@@ -1,25 +1,27 @@
 //! How long a server waits for a client.
 ghost use Rattle.std.specs.Prelude.{◌≡◌, ◌==◌, if◌then◌else◌, min};
 
+use crate::keepalive::keep_alive;
 use std::io;
 use std::net::TcpStream;
 use std::time::Duration;
 
-/// How many milliseconds a session waits for a client's bytes until it does something else.
+/// For how many milliseconds at most a worker waits for its client, to send bytes or to take some,
+/// until it looks at the time again.
 pub(crate) const IDLE: u32 = 100;
 
 /// How long a server waits for a client, in milliseconds.
 #[derive(Clone, Copy, Debug, PartialEq, Eq)]
 pub struct Patience {
-    /// How long a write may make no progress, from 1.
+    /// In so long, from 1, a client must take 64 KiB of the replies that wait, or all of them.
     pub write_timeout: u32,
-    /// How long a client may send nothing; 0 is no limit.
+    /// How long a client may complete no request; 0 is no limit.
     pub idle_timeout: u32,
 }
 
 impl Patience {
-    /// How long a read waits.
-    pub(crate) fn turn(self) -> u32
+    /// How long one read waits.
+    fn read_turn(self) -> u32
         ensures { result ≡ (if self.idle_timeout == 0 then 100 else min self.idle_timeout 100) }
     {
         if self.idle_timeout == 0 {
@@ -28,11 +30,20 @@ impl Patience {
         self.idle_timeout.min(IDLE)
     }
 
-    /// Sets a client's socket up.
+    /// How long one write waits.
+    fn write_turn(self) -> u32
+        ensures { result ≡ min self.write_timeout 100 }
+    {
+        self.write_timeout.min(IDLE)
+    }
+
+    /// Sets a client's socket up. Whether a quiet client is still there is asked by TCP keepalive,
+    /// at the system's times.
     pub(crate) fn set(self, stream: &TcpStream) -> io::Result<()> {
         stream.set_nodelay(true)?;
-        stream.set_read_timeout(Some(milliseconds(self.turn())))?;
-        stream.set_write_timeout(Some(milliseconds(self.write_timeout)))
+        keep_alive(stream)?;
+        stream.set_read_timeout(Some(milliseconds(self.read_turn())))?;
+        stream.set_write_timeout(Some(milliseconds(self.write_turn())))
     }
 }
 

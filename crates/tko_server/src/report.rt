@@ -47,7 +47,7 @@ impl WorkerReport {
     }
 
     /// Adds what another worker met.
-    fn add(&mut self, other: &WorkerReport)
+    pub(crate) fn add(&mut self, other: &WorkerReport)
         ensures { self.new ≡ sum_of_reports self.old other.now }
     {
         self.sessions = self.sessions.saturating_add(other.sessions);

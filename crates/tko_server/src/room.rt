@@ -1,7 +1,7 @@
 //! How many clients are connected at once.
 
 use std::alloc::{AllocError, Global};
-use std::sync::atomic::{AtomicBool, AtomicU64, Ordering};
+use std::sync::atomic::{AtomicU64, Ordering};
 use std::sync::{Arc, Wait};
 use std::time::Duration;
 use tko_metrics::Meter;
@@ -15,7 +15,6 @@ const PAUSE: u64 = 100;
 pub(crate) struct Room {
     most: u64,
     connected: AtomicU64,
-    is_closed: AtomicBool,
     meter: Meter,
 }
 
@@ -29,20 +28,9 @@ impl Room {
         let room = Room {
             most,
             connected: AtomicU64::new(0),
-            is_closed: AtomicBool::new(false),
             meter,
         };
         Ok(Arc::new(alloc, room)?)
-    }
-
-    /// No client is served any more.
-    pub(crate) fn close(&self) {
-        self.is_closed.store(true, Ordering::SeqCst);
-        self.connected.wake_all();
-    }
-
-    pub(crate) fn is_closed(&self) -> bool {
-        self.is_closed.load(Ordering::SeqCst)
     }
 
     /// Whether one more client may be connected. Where none may, it waits until a client leaves, or

@@ -1,24 +1,18 @@
 //! The server over TCP.
-ghost use Rattle.std.specs.Prelude.{◌≡◌, ◌↔◌, Err, IfErr, IfOk, Some, length};
+ghost use Rattle.std.specs.Prelude.{◌≡◌, ◌↔◌, Err, IfErr, IfOk, Some};
 ghost use Rattle.tko_model.specs.Ranges.{first_fault};
 ghost use Rattle.tko_tracker.specs.Seated.{ArePasses};
 ghost use Rattle.tko_server.specs.Closing.{HasClosed, HasFailed, IsClosed};
 ghost use Rattle.tko_server.specs.Runs.{IsAfterOpening, tracker_settings};
-ghost use Rattle.tko_server.specs.Workers.{AreReadyAt};
 
-use crate::accepting::{AcceptEnd, Entrance, accept_all};
-use crate::allotment::WAITING;
-use crate::lending::{lend_all, work};
-use crate::listening::Listening;
 use crate::members::Shared;
-use crate::room::Room;
+use crate::naming::Naming;
+use crate::serving::serve_all;
 use crate::{Allotment, Patience, RunFault, WorkerReport};
-use crossbeam_channel::bounded;
 use std::alloc::Global;
 use std::marker::Brand;
 use std::net::TcpListener;
-use std::sync::{Arc, Mutex};
-use std::thread;
+use std::sync::Mutex;
 use std::thread::Threads;
 use tko_desk::{Book, Desk, Share, Totals, gather};
 use tko_events::{Log, LoggedSeating};
@@ -66,7 +60,7 @@ impl Options {
 
 /// Accepts connections and serves each over TCP links by one of the workers, who share the health
 /// of the servers without a lock. Returns the totals once the last connection was served.
-pub fn run<R: IoRuntime<Listener = TcpListener> + Threads + Sync>(
+pub fn run<R: IoRuntime<Listener = TcpListener> + Threads + Sync + Copy + Send + 'static>(
     rt: &R,
     alloc: Global,
     listener: &TcpListener,
@@ -82,7 +76,7 @@ pub fn run<R: IoRuntime<Listener = TcpListener> + Threads + Sync>(
 }
 
 /// The same, with what the workers met.
-pub fn run_to_end<R: IoRuntime<Listener = TcpListener> + Threads + Sync>(
+pub fn run_to_end<R: IoRuntime<Listener = TcpListener> + Threads + Sync + Copy + Send + 'static>(
     rt: &R,
     alloc: Global,
     listener: &TcpListener,
@@ -96,7 +90,9 @@ pub fn run_to_end<R: IoRuntime<Listener = TcpListener> + Threads + Sync>(
 }
 
 /// The same, where the workers tell the log what happens, if there is one.
-pub(crate) fn run_told<R: IoRuntime<Listener = TcpListener> + Threads + Sync>(
+pub(crate) fn run_told<
+    R: IoRuntime<Listener = TcpListener> + Threads + Sync + Copy + Send + 'static,
+>(
     rt: &R,
     alloc: Global,
     listener: &TcpListener,
@@ -139,7 +135,10 @@ struct Failed {
 
 /// The same over this tracker, which `N` names, with the passes of its threads. They lie at a desk
 /// while no worker has them. At the end the tracker is closed with those that the desk then has.
-fn run_with<N: Named + Send + Sync, R: IoRuntime<Listener = TcpListener> + Threads + Sync>(
+fn run_with<
+    N: Named + Send + Sync,
+    R: IoRuntime<Listener = TcpListener> + Threads + Sync + Copy + Send + 'static,
+>(
     rt: &R,
     alloc: Global,
     listener: &TcpListener,
@@ -179,7 +178,11 @@ fn run_with<N: Named + Send + Sync, R: IoRuntime<Listener = TcpListener> + Threa
 
 /// Serves over this tracker, which `N` names, by workers with the passes of this desk. Returns the
 /// totals, and what the workers met.
-fn serve_over<'o, N: Named + Send + Sync, R: IoRuntime<Listener = TcpListener> + Threads + Sync>(
+fn serve_over<
+    'o,
+    N: Named + Send + Sync,
+    R: IoRuntime<Listener = TcpListener> + Threads + Sync + Copy + Send + 'static,
+>(
     rt: &R,
     alloc: Global,
     listener: &TcpListener,
@@ -192,6 +195,7 @@ fn serve_over<'o, N: Named + Send + Sync, R: IoRuntime<Listener = TcpListener> +
     requires asked { N.tracker.settings ≡ tracker_settings options.now }
     ensures fault { IfErr result IsAfterOpening }
 {
+    let naming = Naming::start(rt, alloc, options.config.addresses())?;
     let (book, mut shares) = Book::open(alloc, 0, options.settings.threads)?;
     let shared = Shared {
         options,
@@ -201,62 +205,11 @@ fn serve_over<'o, N: Named + Send + Sync, R: IoRuntime<Listener = TcpListener> +
         )),
         book: Mutex::new(book),
         log,
+        naming,
         workers: options.allotment().workers,
     };
     let report = serve_all(rt, alloc, listener, &shared, desk, &mut shares)?;
     Ok((totals_of(shared.book.into_inner(), shares), report))
-}
-
-/// Accepts connections and serves each by one of the workers, who take these shares, and the passes
-/// of the desk. Returns what they met.
-fn serve_all<N: Named + Send + Sync, R: IoRuntime<Listener = TcpListener> + Threads + Sync>(
-    rt: &R,
-    alloc: Global,
-    listener: &TcpListener,
-    shared: &Shared<'_, N>,
-    desk: &Desk<N>,
-    shares: &mut [Share],
-) -> Result<WorkerReport, RunFault>
-    requires shares { length shares.old ≡ N.tracker.settings.threads }
-    requires asked { N.tracker.settings ≡ tracker_settings shared.now.options.now }
-    ensures fault { IfErr result IsAfterOpening }
-{
-    let options = shared.options;
-    let (sender, receiver) = bounded(alloc, WAITING as usize)?;
-    let log = Log::another(shared.log)?;
-    let meter = log.meter().another()?;
-    let room = Room::open(alloc, options.allotment().clients, meter)?;
-    let entrance = Entrance {
-        room: Arc::try_clone(&room)?,
-        clients: sender,
-        patience: options.patience,
-        log,
-    };
-    let passes = lend_all(rt, alloc, desk, options.settings.threads)?;
-    let members = shared.members(rt, alloc, passes, shares, &receiver)?;
-    drop(receiver);
-    let (report, accepted) = thread::join(
-        rt,
-        ||
-            requires { AreReadyAt N.tracker members.items }
-        {
-            let report = work(rt, alloc, desk, members);
-            room.close();
-            report
-        },
-        || accept_all(
-            rt,
-            alloc,
-            &mut Listening::new(listener),
-            entrance,
-            options.connections,
-        ),
-    );
-    let report = report?;
-    match accepted {
-        AcceptEnd::Enough | AcceptEnd::NoWorker => Ok(report),
-        AcceptEnd::Broken => Err(RunFault::Accept),
-    }
 }
 
 /// The totals of the book. Each worker gave its share back, so `gather` does not refuse them; what

@@ -1,6 +1,7 @@
 //! Workers over connections in memory, and the server over loopback.
 ghost use Rattle.std.specs.Prelude.{◌≡◌, ◌∷◌, [], IfOk, length};
 
+use crate::Patience;
 use std::alloc::Global;
 use std::test::Fail;
 use tko_health::TrackerSettings;
@@ -17,6 +18,11 @@ mod staged;
 mod workers;
 
 const SERVER_ERROR: &[u8] = b"SERVER_ERROR no server\r\n";
+
+const PATIENCE: Patience = Patience {
+    write_timeout: 5_000,
+    idle_timeout: 0,
+};
 
 /// One server, which one soft failure marks, and two threads.
 const SETTINGS: OneGroup = OneGroup {

@@ -6,10 +6,13 @@ ghost use Rattle.tko_server.specs.Workers.{IsEquipped};
 ghost use Rattle.tko_answer.specs.Answers.{Reaches};
 ghost use Rattle.tko_backend.specs.Ghosts.{backend_ghosts};
 
+use crate::attended::{Attendance, Attended};
 use crate::metered::Metered;
-use crate::{Account, Next, Source, WorkerReport};
+use crate::paced::Paced;
+use crate::{Account, Next, Patience, Source, WorkerReport};
 use std::alloc::Global;
 use std::sync::Wait;
+use std::sync::atomic::AtomicU64;
 use tko_backend::{Backend, Clock, Probers};
 use tko_counts::Kind;
 use tko_health::{Health, Seating};
@@ -55,6 +58,7 @@ pub fn worker<R: IoRuntime, C: Source + Drop, S: Seating, L: Links + Drop, M: Cl
         mut account,
         meter,
     } = parts;
+    let requests = AtomicU64::new(0);
     let mut working = Working {
         parts: Parts {
             backend: Backend {
@@ -63,16 +67,18 @@ pub fn worker<R: IoRuntime, C: Source + Drop, S: Seating, L: Links + Drop, M: Cl
                 probers,
                 clock,
             },
-            trails: Metered::new(meter),
+            trails: Metered::new(meter, &requests),
             config,
         },
+        attendance: Attendance::new(rt, source.clock(rt), &requests),
         report: WorkerReport::new(),
         probes: 0,
     };
     for _ in rt.forever() {
         match source.next(rt) {
-            Next::Connection(mut reader, mut writer) => {
-                let is_faulty = working.serve(rt, alloc, &mut reader, &mut writer);
+            Next::Connection(reader, writer, patience) => {
+                let writer = Paced::new(writer, source.clock(rt), patience.write_timeout);
+                let is_faulty = working.serve(rt, alloc, reader, writer, patience.idle_timeout);
                 account.log.count_session(is_faulty);
                 working.settle(rt, &mut account);
             }
@@ -87,28 +93,32 @@ pub fn worker<R: IoRuntime, C: Source + Drop, S: Seating, L: Links + Drop, M: Cl
 
 /// A worker at work.
 #[derive(Drop)]
-struct Working<H, L, M> {
-    parts: Parts<H, L, Metered, M>,
+struct Working<'r, H, L, M, W> {
+    parts: Parts<H, L, Metered<'r>, M>,
+    attendance: Attendance<'r, W>,
     report: WorkerReport,
     /// The probes that were added to the account.
     probes: u64,
 }
 
-impl<H: Health, L: Links, M: Clock> Working<H, L, M> {
-    /// Serves one client, and returns whether its session ended by a fault. That is counted, and
-    /// the worker goes on.
-    fn serve<R: IoRuntime, I: Inlet, O: Outlet>(
+impl<'r, H: Health, L: Links, M: Clock, W: Clock> Working<'r, H, L, M, W> {
+    /// Serves one client, which may complete no request for `limit` milliseconds, and returns
+    /// whether its session ended by a fault. That is counted, and the worker goes on.
+    fn serve<R: IoRuntime, I: Inlet + Drop, O: Outlet + Drop>(
         &mut self,
         rt: &R,
         alloc: Global,
-        reader: &mut I,
-        writer: &mut O,
+        reader: I,
+        mut writer: O,
+        limit: u32,
     ) -> bool
         requires reach { Reaches H.servers L.servers self.old.parts }
         ensures reach { Reaches H.servers L.servers self.new.parts }
         ensures report { IsSessionCounted self.old.report self.new.report }
     {
-        let served = serve(rt, alloc, reader, writer, &mut self.parts);
+        self.attendance.begin(rt, limit);
+        let mut reader = Attended::new(reader, &mut self.attendance);
+        let served = serve(rt, alloc, &mut reader, &mut writer, &mut self.parts);
         self.report.count(&served);
         self.parts.trails.meter().end_session(ending_of(&served));
         served.is_err()
@@ -123,6 +133,7 @@ impl<H: Health, L: Links, M: Clock> Working<H, L, M> {
     {
         let rounded = round(rt, &mut self.parts);
         self.report.note_round(rounded.is_err());
+        self.attendance.end_round(rt);
     }
 
     /// Adds what was counted since the last time to the account.
@@ -130,10 +141,8 @@ impl<H: Health, L: Links, M: Clock> Working<H, L, M> {
         requires reach { Reaches H.servers L.servers self.old.parts }
         ensures reach { Reaches H.servers L.servers self.new.parts }
     {
-        let probes = probes_of(
-            &self.parts.backend.links,
-            self.parts.config.addresses().len(),
-        );
+        let servers = self.parts.config.addresses().len();
+        let probes = probes_of(&self.parts.backend.links, servers);
         let more = probes.saturating_sub(self.probes);
         let counts = self.parts.trails.take().saturating_add(Kind::Probe, more);
         if account.add(rt, &counts) {

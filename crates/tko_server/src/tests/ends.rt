@@ -5,7 +5,7 @@ ghost use Rattle.tko_tracker.specs.Seated.{ArePasses, IsOf};
 ghost use Rattle.tko_server.specs.Workers.{AreReady, IsEquipped};
 
 use super::staged::{Meets, Staged};
-use super::{SETTINGS, delays};
+use super::{PATIENCE, SETTINGS, delays};
 use crate::lending::{lend_all, work};
 use crate::{Account, Member, Next, Source, WorkerParts, WorkerReport};
 use std::alloc::Global;
@@ -59,9 +59,15 @@ impl Source for Once {
 
     type Writer = Taped;
 
+    type Clock = FrozenClock;
+
+    fn clock<R: IoRuntime>(&self, _rt: &R) -> FrozenClock {
+        FrozenClock
+    }
+
     fn next<R: IoRuntime>(&mut self, _rt: &R) -> Next<Taped, Taped> {
         match self.client.take() {
-            Some((reader, writer)) => Next::Connection(reader, writer),
+            Some((reader, writer)) => Next::Connection(reader, writer, PATIENCE),
             None => Next::Closed,
         }
     }

@@ -1,7 +1,9 @@
 //! Clients in memory.
 
+use super::PATIENCE;
 use crate::{Next, Source};
 use std::sync::Mutex;
+use tko_backend::FrozenClock;
 use tko_io::{Outlet, Piped, Stop};
 use tko_links::IoRuntime;
 
@@ -49,12 +51,18 @@ impl<'a> Source for Visits<'a> {
 
     type Writer = Screen<'a>;
 
+    type Clock = FrozenClock;
+
+    fn clock<R: IoRuntime>(&self, _rt: &R) -> FrozenClock {
+        FrozenClock
+    }
+
     fn next<R: IoRuntime>(&mut self, _rt: &R) -> Next<Piped<&'a [u8]>, Screen<'a>> {
         let visit = self.visits.get(self.next);
         self.next = self.next.saturating_add(1);
         match visit {
             Some(Visit::Client(bytes)) => {
-                Next::Connection(Piped::new(*bytes), Screen { text: self.text })
+                Next::Connection(Piped::new(*bytes), Screen { text: self.text }, PATIENCE)
             }
             Some(Visit::Idle) => Next::Idle,
             None => Next::Closed,

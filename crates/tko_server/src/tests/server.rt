@@ -1,7 +1,7 @@
 //! The server over loopback.
 
-use super::{SERVER_ERROR, SETTINGS, config, delays};
-use crate::{Options, Patience, RunFault, run};
+use super::{PATIENCE, SERVER_ERROR, SETTINGS, config, delays};
+use crate::{Options, RunFault, run};
 use std::alloc::Global;
 use std::io::{Read, Write};
 use std::net::{Ipv4Addr, Net, SocketAddr, TcpListener, TcpStream};
@@ -15,22 +15,21 @@ use tko_counts::Kind;
 use tko_desk::Totals;
 use tko_model::OneGroup;
 
-const PATIENCE: Patience = Patience {
-    write_timeout: 5_000,
-    idle_timeout: 0,
-};
-
 fn listen<R: Net<Stream = TcpStream, Listener = TcpListener>>(rt: &R) -> io::Result<TcpListener> {
     TcpListener::bind(rt, SocketAddr::from((Ipv4Addr::LOCALHOST, 0)))
 }
 
 /// `run`, with its bounds written out.
-fn serve<R: Wait + Net<Stream = TcpStream, Listener = TcpListener> + Clock + Threads + Sync>(
-    rt: &R,
-    alloc: Global,
-    listener: &TcpListener,
-    options: &Options,
-) -> Result<Totals, RunFault> {
+fn serve<
+    R: Wait
+        + Net<Stream = TcpStream, Listener = TcpListener>
+        + Clock
+        + Threads
+        + Sync
+        + Copy
+        + Send
+        + 'static,
+>(rt: &R, alloc: Global, listener: &TcpListener, options: &Options) -> Result<Totals, RunFault> {
     run(rt, alloc, listener, options)
 }
 

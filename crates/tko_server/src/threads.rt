@@ -1,0 +1,96 @@
+//! The threads of a server's workers.
+ghost use Rattle.std.specs.Prelude.{IfOk};
+ghost use Rattle.tko_server.specs.Workers.{AreReadyAt, IsReadyAt};
+
+use crate::WorkerReport;
+use crate::clients::Client;
+use crate::lending::work;
+use crate::members::ServerMember;
+use crossbeam_channel::Sender;
+use std::alloc::Global;
+use std::net::TcpListener;
+use std::thread::{JoinHandle, Scope, Threads};
+use tko_bytes::NoMemory;
+use tko_desk::Desk;
+use tko_links::IoRuntime;
+use tko_tracker::Named;
+
+/// The thread of one worker, which returns what its worker met.
+pub(crate) type WorkerThread = JoinHandle<Result<WorkerReport, NoMemory>>;
+
+/// Runs each of these members as a pool of its own, on a thread that is made for it, so that all of
+/// them work at once. Where a thread cannot be made, no clients can come any more, so that all
+/// members end, those without a thread on this one.
+pub(crate) fn start_all<
+    's,
+    'e: 's,
+    'o: 'e,
+    R: IoRuntime<Listener = TcpListener> + Threads + Sync,
+    N: Named + Send + Sync,
+>(
+    scope: &Scope<'s, &'e ()>,
+    rt: &'e R,
+    alloc: Global,
+    desk: &'e Desk<N>,
+    members: Vec<ServerMember<'e, 'o, N>>,
+    clients: Sender<Client>,
+) -> Result<(Vec<WorkerThread>, Sender<Client>), NoMemory>
+    requires { AreReadyAt N.tracker members.items }
+{
+    let mut threads = Vec::with_capacity(alloc, members.len())?;
+    let mut clients = Some(clients);
+    for member in members {
+        let alone = pool_of(alloc, member)?;
+        let works = move || -> Result<WorkerReport, NoMemory>
+            requires { AreReadyAt N.tracker alone.items }
+        { work(rt, alloc, desk, alone) };
+        match scope.spawn(works) {
+            Ok(thread) => threads.push(thread)?,
+            Err(refused) => {
+                clients = None;
+                let work_here = refused.value;
+                work_here()?;
+            }
+        }
+    }
+    match clients {
+        Some(clients) => Ok((threads, clients)),
+        None => Err(NoMemory),
+    }
+}
+
+/// A pool of one member.
+fn pool_of<'a, 'o, N: Named>(
+    alloc: Global,
+    member: ServerMember<'a, 'o, N>,
+) -> Result<Vec<ServerMember<'a, 'o, N>>, NoMemory>
+    requires { IsReadyAt N.tracker member }
+    ensures { IfOk result (λ alone. AreReadyAt N.tracker alone.items) }
+{
+    let mut alone = Vec::new(alloc);
+    alone.push(member)?;
+    Ok(alone)
+}
+
+/// Waits for all of these workers to end. Returns what they met.
+pub(crate) fn join_all<R: Threads>(
+    rt: &R,
+    threads: Vec<WorkerThread>,
+) -> Result<WorkerReport, NoMemory> {
+    let mut all = Ok(WorkerReport::new());
+    for thread in threads {
+        let one = thread.join(rt);
+        all = both(all, one);
+    }
+    all
+}
+
+/// What two met together.
+fn both(
+    one: Result<WorkerReport, NoMemory>,
+    other: Result<WorkerReport, NoMemory>,
+) -> Result<WorkerReport, NoMemory> {
+    let mut all = one?;
+    all.add(&other?);
+    Ok(all)
+}
