@@ -2,6 +2,7 @@
 import json
 import os
 import shutil
+import signal
 import subprocess
 import sys
 import tempfile
@@ -40,10 +41,15 @@ class Target:
 
     def __init__(self, name, words, port):
         self.name = name
+        self.port = port
         self.address = f"{HOST}:{port}"
         self.process = subprocess.Popen(words, stdin=subprocess.DEVNULL, stdout=subprocess.DEVNULL,
                                         stderr=subprocess.DEVNULL)
-        wait_until(lambda: self.process.poll() is not None or is_open(port), 10, f"{name} listens")
+        try:
+            wait_until(lambda: self.process.poll() is not None or is_open(port), 10, f"{name} listens")
+        except BaseException:
+            self.stop()
+            raise
         if self.process.poll() is not None:
             raise SystemExit(f"bench: {name} ended with status {self.process.returncode}")
 
@@ -52,15 +58,21 @@ class Target:
             fields = file.read().rpartition(")")[2].split()
         return (int(fields[11]) + int(fields[12])) / TICKS
 
+    def pause(self):
+        self.process.send_signal(signal.SIGSTOP)
+
+    def resume(self):
+        self.process.send_signal(signal.SIGCONT)
+
     def stop(self):
         self.process.kill()
         self.process.wait()
 
 
-def memcached(connections, threads=4):
+def memcached(connections, threads=4, port=None):
     """So many from the load itself, and as many from each of three proxies, which keep theirs while another is measured.
     memcached takes 1,024 unless it is told otherwise. It has room for 1,000 values of 1,000,000 bytes."""
-    port = free_port()
+    port = port or free_port()
     user = ["-u", "nobody"] if os.getuid() == 0 else []
     return Target("memcached", ["memcached", "-l", HOST, "-p", str(port), "-U", "0", "-t", str(threads),
                                 "-m", "2048", "-I", "2m",
@@ -69,22 +81,33 @@ def memcached(connections, threads=4):
 
 def tkoproxy(name, program, server, connections):
     """The program with as many workers as there are connections."""
+    config = {"pools": {"all": {"servers": [server]}}, "route": "PoolRoute|all"}
+    return tkoproxy_of(name, program, config, ["--threads", str(connections)])
+
+
+def tkoproxy_of(name, program, config, options):
     port = free_port()
-    config = json.dumps({"pools": {"all": {"servers": [server]}}, "route": "PoolRoute|all"})
-    return Target(name, [program, "serve", "--listen", f"{HOST}:{port}", "--config", config, "--threads",
-                         str(connections)], port)
+    words = [program, "serve", "--listen", f"{HOST}:{port}", "--config", json.dumps(config), *options]
+    return Target(name, words, port)
 
 
 def nutcracker(server, folder):
+    return nutcracker_of(NUTCRACKER, folder, server=server)
+
+
+def nutcracker_of(template, folder, **fields):
     port = free_port()
-    path = written(folder, NUTCRACKER.format(listen=f"{HOST}:{port}", server=server))
+    path = written(folder, template.format(listen=f"{HOST}:{port}", **fields))
     return Target("nutcracker", ["nutcracker", "-c", path, "-a", HOST, "-s", str(free_port())], port)
 
 
 def haproxy(server, folder, connections):
+    return haproxy_of(HAPROXY, folder, server=server, connections=max(1000, connections + 100))
+
+
+def haproxy_of(template, folder, **fields):
     port = free_port()
-    text = HAPROXY.format(listen=f"{HOST}:{port}", server=server, connections=max(1000, connections + 100))
-    path = written(folder, text)
+    path = written(folder, template.format(listen=f"{HOST}:{port}", **fields))
     return Target("haproxy", ["haproxy", "-db", "-f", path], port)
 
 

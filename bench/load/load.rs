@@ -6,6 +6,9 @@
 //! `fill` stores all keys. Otherwise each connection has one request out at a time, and the line `<requests> <seconds>`
 //! is printed at the end. Each answer is compared with the one that is due, so what is counted was answered rightly.
 
+mod exchange;
+
+use exchange::{Choices, Exchange, Exchanges};
 use std::env;
 use std::io::{Read, Write};
 use std::net::TcpStream;
@@ -13,76 +16,8 @@ use std::sync::{Arc, Barrier};
 use std::thread;
 use std::time::{Duration, Instant};
 
-const KEYS: usize = 1000;
-
-/// A request, and the answer that is due to it.
-struct Exchange {
-    request: Vec<u8>,
-    answer: Vec<u8>,
-}
-
-/// What the connections choose from.
-struct Exchanges {
-    gets: Vec<Exchange>,
-    sets: Vec<Exchange>,
-    sets_per_100: usize,
-}
-
-fn key(number: usize) -> String {
-    format!("bench-key-{:06}", number % KEYS)
-}
-
-fn get(first: usize, keys: usize, value: &[u8]) -> Exchange {
-    let mut request = b"get".to_vec();
-    let mut answer = Vec::new();
-    for number in first..first + keys {
-        let key = key(number);
-        request.extend_from_slice(format!(" {}", key).as_bytes());
-        answer.extend_from_slice(format!("VALUE {} 0 {}\r\n", key, value.len()).as_bytes());
-        answer.extend_from_slice(value);
-        answer.extend_from_slice(b"\r\n");
-    }
-    request.extend_from_slice(b"\r\n");
-    answer.extend_from_slice(b"END\r\n");
-    Exchange { request, answer }
-}
-
-fn set(number: usize, value: &[u8]) -> Exchange {
-    let mut request = format!("set {} 0 0 {}\r\n", key(number), value.len()).into_bytes();
-    request.extend_from_slice(value);
-    request.extend_from_slice(b"\r\n");
-    Exchange { request, answer: b"STORED\r\n".to_vec() }
-}
-
-impl Exchanges {
-    fn new(keys_per_get: usize, sets_per_100: usize, value_bytes: usize) -> Exchanges {
-        let value = vec![b'v'; value_bytes];
-        let gets = (0..KEYS / keys_per_get).map(|place| get(place * keys_per_get, keys_per_get, &value));
-        let sets = (0..KEYS).map(|number| set(number, &value));
-        Exchanges { gets: gets.collect(), sets: sets.collect(), sets_per_100 }
-    }
-
-    fn choose(&self, choice: usize) -> &Exchange {
-        let list = if choice % 100 < self.sets_per_100 { &self.sets } else { &self.gets };
-        &list[choice / 100 % list.len()]
-    }
-}
-
-/// A linear congruential generator, by Knuth's constants.
-struct Choices(u64);
-
-impl Choices {
-    fn next(&mut self) -> usize {
-        self.0 = self.0.wrapping_mul(6364136223846793005).wrapping_add(1442695040888963407);
-        (self.0 >> 33) as usize
-    }
-}
-
 fn connect(address: &str) -> TcpStream {
-    let stream = TcpStream::connect(address).expect("connect");
-    stream.set_nodelay(true).expect("no delay");
-    stream.set_read_timeout(Some(Duration::from_secs(10))).expect("a time limit");
-    stream
+    exchange::connect(address, Duration::from_secs(10)).expect("connect")
 }
 
 fn exchange(stream: &mut TcpStream, exchange: &Exchange, room: &mut Vec<u8>) {

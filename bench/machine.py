@@ -1,0 +1,61 @@
+"""What figures depend on: the machine, what else it did, and the programs."""
+import datetime
+import hashlib
+import os
+import re
+import subprocess
+import textwrap
+import time
+
+import targets
+
+VERSIONS = {"memcached": "--version", "nutcracker": "--version", "haproxy": "-v"}
+
+
+def processor():
+    with open("/proc/cpuinfo", encoding="utf-8") as file:
+        model = re.search(r"^model name\s*:\s*(.*)$", file.read(), re.M)
+    return re.sub(r"\s*\((R|TM)\)", "", model.group(1)) if model else os.uname().machine
+
+
+def ticks():
+    """Of all processors since the start of the machine: all, and those without work."""
+    with open("/proc/stat", encoding="ascii") as file:
+        fields = [int(field) for field in file.readline().split()[1:9]]
+    return sum(fields), fields[3] + fields[4]
+
+
+def busy_percent(seconds=2):
+    """The share of the processors' time that is in use now, before anything is measured."""
+    before = ticks()
+    time.sleep(seconds)
+    everything, idle = (after - one for after, one in zip(ticks(), before))
+    return 100 * (everything - idle) / max(1, everything)
+
+
+def version(name):
+    words = [name, VERSIONS[name]]
+    text = subprocess.run(words, stdout=subprocess.PIPE, stderr=subprocess.STDOUT, text=True, check=False).stdout
+    found = re.search(r"\d+\.\d+\.\d+", text)
+    return f"{name} {found.group()}" if found else name
+
+
+def digest(path):
+    """The beginning of the SHA-256 of a program."""
+    with open(path, "rb") as file:
+        return hashlib.sha256(file.read()).hexdigest()[:12]
+
+
+def circumstances(program):
+    """Two sentences for the document and the picture, of the moment before the measurement."""
+    now = datetime.datetime.now(datetime.timezone.utc)
+    busy = busy_percent()
+    versions = [version(name) for name in VERSIONS if targets.is_here(name)]
+    return [f"{now:%d %B %Y, %H:%M} UTC, on {os.cpu_count()} processors ({processor()}), of whose time other work took "
+            f"{busy:.0f} % just before.",
+            f"tkoproxy of SHA-256 {digest(program)}.., {', '.join(versions)}."]
+
+
+def paragraph(notes):
+    """The same for a document."""
+    return textwrap.fill(" ".join(notes), 120)

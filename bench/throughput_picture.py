@@ -1,0 +1,85 @@
+"""The table of bench/run as bars: a panel for each kind of requests and size of values, in it a group for each number
+of connections, and in the group a bar for each target."""
+import svg
+
+LEFT, TOP, RIGHT, BOTTOM = 62, 104, 16, 66
+WIDTH, ROW = 960, 150
+GAP_X, GAP_Y = 70, 58
+TITLE = "Requests answered a second"
+
+
+def distinct(values):
+    return list(dict.fromkeys(values))
+
+
+def short(rate):
+    """A rate in three or four characters."""
+    return f"{rate / 1000:.0f}k" if rate >= 9950 else f"{rate / 1000:.1f}k"
+
+
+class Panel:
+    """Where the bars of one kind and one size stand, with an axis of its own."""
+
+    def __init__(self, left, roof, width, greatest):
+        self.left, self.roof, self.width, self.floor = left, roof, width, roof + ROW
+        self.greatest = greatest * 1.12
+
+    def at(self, rate):
+        return self.floor - ROW * rate / self.greatest
+
+    def axis(self):
+        step = svg.round_step(self.greatest)
+        for place in range(int(self.greatest // step) + 1):
+            y = self.at(place * step)
+            yield svg.line(self.left, y, self.left + self.width, y)
+            yield svg.text(self.left - 6, y + 3.5, f"{place * step:,}", 10, "end", svg.GREY)
+
+    def group(self, place, count, words, rates):
+        """The bars of one number of connections."""
+        width = self.width / count
+        left = self.left + width * (place + 0.06)
+        bar = width * 0.88 / len(rates)
+        for number, (name, rate) in enumerate(rates.items()):
+            x = left + number * bar
+            yield svg.rectangle(x + 1, self.at(rate), bar - 2, self.floor - self.at(rate), svg.COLOURS[name])
+            if bar >= 20:
+                yield svg.text(x + bar / 2, self.at(rate) - 3, short(rate), 10 if bar >= 26 else 8, "middle")
+        yield svg.text(self.left + width * (place + 0.5), self.floor + 15, words, 11, "middle", svg.GREY)
+
+
+def connections(number):
+    return f"{number} connection{'' if number == 1 else 's'}"
+
+
+def panel(rates, kind, size, left, roof, width):
+    """`rates` are those of this kind and size, by the number of connections."""
+    made = Panel(left, roof, width, max(max(row.values()) for row in rates.values()))
+    yield svg.text(left, roof - 8, f"{kind}, values of {size:,} bytes", 12, bold=True)
+    yield from made.axis()
+    for place, (number, row) in enumerate(rates.items()):
+        yield from made.group(place, len(rates), connections(number), row)
+    yield svg.line(left, made.floor, left + width, made.floor, svg.INK)
+
+
+def legend(names):
+    x = 16
+    for name in names:
+        words = "memcached itself" if name == "memcached" else name
+        yield svg.rectangle(x, 46, 12, 12, svg.COLOURS[name])
+        yield svg.text(x + 18, 56, words, 12)
+        x += 45 + 7.5 * len(words)
+
+
+def drawn(rates, notes):
+    """The SVG of the requests a second, which are by (kind, size, connections) and the name of the target."""
+    kinds, sizes = distinct(case[0] for case in rates), distinct(case[1] for case in rates)
+    width = (WIDTH - LEFT - RIGHT - GAP_X * (len(sizes) - 1)) / len(sizes)
+    height = TOP + len(kinds) * (ROW + GAP_Y) - GAP_Y + BOTTOM
+    shapes = [svg.text(16, 28, TITLE, 17, bold=True), *legend(next(iter(rates.values())))]
+    for row, kind in enumerate(kinds):
+        for column, size in enumerate(sizes):
+            own = {case[2]: rate for case, rate in rates.items() if case[:2] == (kind, size)}
+            shapes += panel(own, kind, size, LEFT + column * (width + GAP_X), TOP + row * (ROW + GAP_Y), width)
+    for place, note in enumerate(notes):
+        shapes.append(svg.text(16, height - 24 + 14 * place, note, 10, colour=svg.GREY))
+    return svg.document(WIDTH, height, TITLE, shapes)
