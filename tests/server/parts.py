@@ -95,10 +95,10 @@ def serve_words(port, config, options):
 
 class Proxy:
     """The running program, from its line `ready` on. It may have `open_files` files open and `memory` KiB of addresses,
-    where these are given. A server may take long to answer, since this machine may be busy, unless a test says
-    otherwise."""
+    where these are given, and another environment. A server may take long to answer, since this machine may be busy,
+    unless a test says otherwise."""
 
-    def __init__(self, config, port=None, open_files=None, memory=None, **options):
+    def __init__(self, config, port=None, open_files=None, memory=None, env=None, **options):
         options = {"timeout": 5000, **options}
         self.port = port or free_port()
         self.errors = tempfile.TemporaryFile()
@@ -106,7 +106,7 @@ class Proxy:
         limits = "".join(f"ulimit -S -{which} {most} && " for which, most in (("n", open_files), ("v", memory)) if most)
         limited = ["sh", "-c", f'{limits}exec "$@"', "sh"] if limits else []
         self.process = start(limited + serve_words(self.port, config, options), bufsize=0, stdout=subprocess.PIPE,
-                             stderr=self.errors)
+                             stderr=self.errors, env=env)
         ready, _, _ = select.select([self.process.stdout], [], [], 20)
         line = self.process.stdout.readline() if ready else b"nothing"
         if line != b"ready\n":

@@ -3,18 +3,22 @@
    - REFUSED_CALL: the calls of malloc and realloc, with REFUSED_FROM once there is a file of that name
    - REFUSED_READ, REFUSED_WRITE: the reads of standard input, and the writes to standard output, which fail with the
      number REFUSED_ERRNO
+   - REFUSED_NODELAY: the settings of TCP_NODELAY, which is the first thing that is set on a client's socket
    With BYTE_BY_BYTE each of these reads and writes moves one byte. */
 #define _GNU_SOURCE
 #include <dlfcn.h>
 #include <errno.h>
+#include <netinet/tcp.h>
 #include <stdlib.h>
+#include <sys/socket.h>
 #include <unistd.h>
 
 static void *(*next_malloc)(size_t);
 static void *(*next_realloc)(void *, size_t);
 static ssize_t (*next_read)(int, void *, size_t);
 static ssize_t (*next_write)(int, const void *, size_t);
-static long calls_left, reads_left, writes_left;
+static int (*next_setsockopt)(int, int, int, const void *, socklen_t);
+static long calls_left, reads_left, writes_left, nodelays_left;
 static int told, fault_number, is_byte_by_byte;
 static const char *from;
 
@@ -27,6 +31,7 @@ __attribute__((constructor)) static void begin(void) {
     calls_left = number_of("REFUSED_CALL", 0);
     reads_left = number_of("REFUSED_READ", 0);
     writes_left = number_of("REFUSED_WRITE", 0);
+    nodelays_left = number_of("REFUSED_NODELAY", 0);
     told = number_of("REFUSED_TO", -1);
     fault_number = number_of("REFUSED_ERRNO", EIO);
     is_byte_by_byte = number_of("BYTE_BY_BYTE", 0);
@@ -77,4 +82,12 @@ ssize_t write(int file, const void *bytes, size_t size) {
     if (file != STDOUT_FILENO)
         return next_write(file, bytes, size);
     return is_refused(&writes_left, fault_number) ? -1 : next_write(file, bytes, shortened(size));
+}
+
+int setsockopt(int file, int level, int name, const void *value, socklen_t size) {
+    if (!next_setsockopt)
+        next_setsockopt = (int (*)(int, int, int, const void *, socklen_t))dlsym(RTLD_NEXT, "setsockopt");
+    if (level != SOL_TCP || name != TCP_NODELAY)
+        return next_setsockopt(file, level, name, value, size);
+    return is_refused(&nodelays_left, fault_number) ? -1 : next_setsockopt(file, level, name, value, size);
 }

@@ -42,6 +42,37 @@ class BadServers(ServerTest):
             self.assertEqual(client.ask(b"get a\r\n"), values((b"a", b"far")))
         self.assertEqual(len(self.server.requests), 3)
 
+    def test_a_reply_comes_before_a_probe_that_hangs(self):
+        """The client asks all the time, so that the probe is due with a request."""
+        probing, over, asked = threading.Event(), threading.Event(), []
+
+        def hang(_, request):
+            if request != b"version\r\n":
+                return b""
+            probing.set()
+            over.wait(SLACK)
+            return b"VERSION 1\r\n"
+
+        def far(_, request):
+            asked.append(request)
+            return b"END\r\n"
+
+        near, far = self.fake(hang), self.fake(far)
+        proxy = self.proxy(configuration(near=[near], far=[far]), failures=1, first_delay=500, greatest_delay=500,
+                           timeout=3 * SLACK * 1000)
+        self.addCleanup(over.set)
+        with proxy.client() as client:
+            replies = 0
+            while not probing.is_set():
+                client.send(b"get a\r\n")
+                replies += 1
+                while client.is_quiet(0.01) and not (probing.is_set() and len(asked) < replies):
+                    # The other server has answered this request, and its reply was not kept for the probe.
+                    self.assertFalse(probing.is_set() and client.is_quiet(SLACK / 2), "the reply waits for the probe")
+                if not probing.is_set():
+                    self.assertEqual(client.reply(), b"END\r\n")
+            over.set()
+
     def test_failures_of_all_workers_count_together(self):
         proxy, first = self.before_memcached(lambda *_: None, threads=4)
         others = [self.client(proxy.port) for _ in range(3)]

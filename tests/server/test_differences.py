@@ -108,6 +108,17 @@ class Differences(ServerTest):
                 answers.append("unknown command")
         self.assertEqual(answers, [None, "unknown command"])
 
+    def test_a_large_set_without_a_reply_makes_libmemcached_read_other_values(self):
+        read = []
+        for port in self.ports():
+            client = self.pylibmc(port)
+            for key in "abc":
+                client.set(key, "value of " + key)
+            client.behaviors = {"_noreply": 1}
+            client.set("large", "x" * 1048577)
+            read.append([client.get(key) for key in "abc"])
+        self.assertEqual(read, [["value of a", "value of b", "value of c"], [None, "value of a", "value of b"]])
+
     def test_many_keys_on_one_line_end_the_session(self):
         names = [f"{number}-" + "k" * 240 for number in range(300)]
         direct, proxied = (PymemcacheClient((HOST, port), timeout=10) for port in self.ports())

@@ -6,7 +6,10 @@ from importlib.machinery import SourceFileLoader
 from importlib.util import module_from_spec, spec_from_loader
 from pathlib import Path
 
+from parts import configuration, serve_words, stop
+from ports import free_port
 from refusing import RefusingTest
+from talk import Client
 
 TESTS = Path(__file__).resolve().parent.parent
 NAMES = ["first_is_marked_second_answers", "cut_answer_is_broken", "expiry_replaced_on_failover",
@@ -77,3 +80,20 @@ class FailingEnds(RefusingTest):
         for row in rows():
             for way, _, written in row.ways():
                 self.assert_runs(row, "REFUSED_WRITE", errno.EINTR, way, [row.whole] * len(written))
+
+
+class BrokenClients(RefusingTest):
+    def test_a_client_whose_socket_cannot_be_set_up_ends_nothing(self):
+        """Its connection is closed, and the next client is accepted and served."""
+        port = free_port()
+        words = serve_words(port, configuration(only=[self.closed()]), {"connections": 2})
+        process, told = self.start_refused(words, {"REFUSED_NODELAY": 1}, text=True)
+        with told, process.stdout, process.stderr:
+            self.addCleanup(stop, process)
+            self.assertEqual(process.stdout.readline(), "ready\n")
+            with Client(port) as broken:
+                self.assertEqual(broken.rest(), b"")
+            self.assertEqual(told.read(1), b"x")
+            with Client(port) as client:
+                self.assertEqual(client.ask(b"version\r\n"), b"VERSION tkoproxy 1\r\n")
+            self.assertEqual(process.wait(20), 0)

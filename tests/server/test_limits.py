@@ -1,14 +1,46 @@
 """Descriptors that run out, and clients that keep a worker waiting."""
+import contextlib
+import itertools
+import resource
 import socket
+import threading
 import time
+import unittest
 
 from parts import ServerTest, configuration
-from ports import wait_until
-from talk import store, values
+from ports import HOST, free_port, wait_until
+from talk import Client, store, values
+from test_metrics import ask, numbers_in
 
 VERSION = b"VERSION tkoproxy 1\r\n"
+NO_SERVER = b"SERVER_ERROR no server\r\n"
 # This machine has other work to do.
 SLACK = 10
+
+
+@contextlib.contextmanager
+def repeated(act, pause):
+    """Meanwhile `act()` is called again and again, with a pause after each call, until it fails."""
+    over = threading.Event()
+
+    def repeat():
+        with contextlib.suppress(OSError):
+            while not over.is_set():
+                act()
+                over.wait(pause)
+
+    thread = threading.Thread(target=repeat, daemon=True)
+    thread.start()
+    try:
+        yield
+    finally:
+        over.set()
+        thread.join()
+
+
+def trickling(client, piece, pause):
+    """Meanwhile this client sends the piece again and again."""
+    return repeated(lambda: client.send(piece), pause)
 
 
 class Descriptors(ServerTest):
@@ -25,7 +57,18 @@ class Descriptors(ServerTest):
                 (128, 16, b"note: 224 descriptors needed at most, 128 allowed: 12 workers, 16 clients at once\n"),
                 (20, 16, b"note: 224 descriptors needed at most, 20 allowed: 1 workers, 1 clients at once\n")):
             proxy = self.proxy(configuration(only=servers), open_files=open_files, threads=threads, log="off")
-            self.assertEqual(proxy.error_text(), line)
+            self.assertEqual(proxy.error_text().splitlines(True)[-1], line)
+
+    @unittest.skipIf(resource.getrlimit(resource.RLIMIT_AS)[1] != resource.RLIM_INFINITY, "memory is limited here")
+    def test_it_says_where_memory_has_no_limit(self):
+        proxy = self.proxy(configuration(only=[self.closed()]), log="off", memory="unlimited")
+        first, second = proxy.error_text().splitlines()
+        self.assertEqual(first, b"note: no limit on memory is set (ulimit -v, LimitAS of the unit)")
+        self.assertRegex(second, rb"^note: .* descriptors needed at most, ")
+
+    def test_it_says_nothing_of_memory_that_has_a_limit(self):
+        proxy = self.proxy(configuration(only=[self.closed()]), log="off", memory=4_000_000)
+        self.assertRegex(proxy.error_text(), rb"\Anote: .* descriptors needed at most, [^\n]*\n\Z")
 
     def test_more_clients_than_descriptors(self):
         server = self.memcached()
@@ -82,6 +125,71 @@ class Descriptors(ServerTest):
             self.assertEqual(client.ask(b"version\r\n"), VERSION)
 
 
+class Trickling(ServerTest):
+    """Clients that send on and on and complete no request, at the worker that marked a server."""
+
+    def setUp(self):
+        self.server = self.memcached()
+        self.through = self.proxy(configuration(only=[self.server]), threads=2, first_delay=300, greatest_delay=300)
+
+    def mark_by(self, client):
+        self.server.kill()
+        self.assertEqual(client.ask(b"get a\r\n"), NO_SERVER)
+
+    def comes_back(self):
+        self.server.start()
+        wait_until(lambda: self.through.marks()[self.server.address] == "up:0", SLACK, "the mark is cleared")
+
+    def test_a_line_that_never_ends(self):
+        with self.through.client() as client:
+            self.mark_by(client)
+            client.send(b"get ")
+            with trickling(client, b"x", 0.05):
+                self.comes_back()
+            # The rounds in between left the line as it was.
+            self.assertEqual(client.ask(b"\r\n" + store(b"a", b"1") + b"get a\r\n"), b"END\r\n")
+            self.assertEqual(client.reply(), b"STORED\r\n")
+            self.assertEqual(client.reply(), values((b"a", b"1")))
+
+    def test_skipped_data_that_never_end(self):
+        with self.through.client() as client:
+            self.mark_by(client)
+            client.send(b"set a 0 0 2000000\r\n")
+            with trickling(client, b"x", 0.05):
+                self.comes_back()
+
+    def test_a_bad_chunk_without_an_end(self):
+        with self.through.client() as client:
+            self.mark_by(client)
+            client.send(b"set a 0 0 1\r\nxyz")
+            with trickling(client, b"x", 0.05):
+                self.comes_back()
+
+    def test_lines_that_are_faults(self):
+        with self.through.client() as client:
+            self.mark_by(client)
+            with trickling(client, b"stats\r\n", 0.05):
+                self.comes_back()
+
+    def test_clients_that_come_and_go(self):
+        """None of them makes a request, and there are always more of them than workers, so that no worker waits."""
+        server = self.fake(lambda *_: b"VERSION 1\r\n", is_open=False)
+        proxy = self.proxy(configuration(only=[server]), threads=1, first_delay=300, greatest_delay=300)
+
+        def come_and_go():
+            with Client(proxy.port) as client:
+                client.send(b"g")
+                time.sleep(0.01)
+
+        with proxy.client() as client, contextlib.ExitStack() as stack:
+            self.assertEqual(client.ask(b"get a\r\n"), NO_SERVER)
+            for _ in range(8):
+                stack.enter_context(repeated(come_and_go, 0))
+            client.close()
+            server.open()
+            wait_until(lambda: server.count(b"version") > 0, SLACK, "the server is probed")
+
+
 class Patience(ServerTest):
     def test_a_client_that_stops_reading_leaves_its_worker(self):
         proxy = self.proxy(configuration(only=[self.memcached("-I", "2m")]), threads=1, write_timeout=500)
@@ -93,6 +201,74 @@ class Patience(ServerTest):
             with proxy.client(limit=30) as other:
                 self.assertEqual(other.ask(b"version\r\n"), VERSION)
         self.assertIsNone(proxy.process.poll())
+
+    def test_a_client_that_reads_a_few_bytes_leaves_its_worker(self):
+        metrics = free_port()
+        proxy = self.proxy(configuration(only=[self.memcached("-I", "2m")]), threads=1, write_timeout=500,
+                           metrics=f"{HOST}:{metrics}")
+        with proxy.client() as client:
+            self.assertEqual(client.ask(store(b"a", b"x" * 1000000)), b"STORED\r\n")
+        with socket.socket() as slow:
+            # Set before it connects, so that the system sends to it in small pieces.
+            slow.setsockopt(socket.SOL_SOCKET, socket.SO_RCVBUF, 2048)
+            slow.connect((HOST, proxy.port))
+            slow.sendall(b"get a\r\n" * 50)
+            with repeated(lambda: slow.recv(1000), 0.05), proxy.client(limit=30) as other:
+                self.assertEqual(other.ask(b"version\r\n"), VERSION)
+        self.assertEqual(numbers_in(ask(metrics)[2])['tkoproxy_session_faults_total{kind="write"}'], 1)
+
+    def test_a_client_that_takes_enough_in_each_span_gets_everything(self):
+        proxy = self.proxy(configuration(only=[self.memcached("-I", "2m")]), threads=1, write_timeout=400)
+        with proxy.client() as slow:
+            slow.socket.setsockopt(socket.SOL_SOCKET, socket.SO_RCVBUF, 200000)
+            self.assertEqual(slow.ask(store(b"a", b"x" * 1000000)), b"STORED\r\n")
+            # A value takes longer than a span, and in each span some 800 KB are taken.
+            slow.send(b"get a\r\n" * 8)
+            slow.end_input()
+            read = 0
+            while chunk := slow.socket.recv(200000):
+                read += len(chunk)
+                time.sleep(0.1)
+            self.assertEqual(read, 8 * len(values((b"a", b"x" * 1000000))))
+
+    def test_the_time_of_a_server_is_no_time_of_its_client(self):
+        """The server takes longer than both limits, between two replies and before the first one."""
+        slow = self.fake(lambda connection, request: time.sleep(1.5) or b"END\r\n")
+        proxy = self.proxy(configuration(only=[slow]), threads=1, write_timeout=300, idle_timeout=1000)
+        with proxy.client() as client:
+            self.assertEqual(client.ask(b"version\r\nget a\r\nget b\r\n"), VERSION)
+            self.assertEqual(client.reply(), b"END\r\n")
+            self.assertEqual(client.reply(), b"END\r\n")
+            self.assertEqual(client.ask(b"version\r\n"), VERSION)
+
+    def test_clients_that_complete_no_request_lock_nobody_out(self):
+        proxy = self.proxy(configuration(only=[self.memcached()]), threads=2, idle_timeout=1000)
+        with proxy.client() as one, proxy.client() as other, trickling(one, b"x", 0.7), trickling(other, b"x", 0.7):
+            time.sleep(0.2)
+            with proxy.client(limit=1 + SLACK) as third:
+                self.assertEqual(third.ask(b"version\r\n"), VERSION)
+        self.assertIsNone(proxy.process.poll())
+
+    def test_a_line_that_is_a_fault_is_no_request(self):
+        proxy = self.proxy(configuration(only=[self.memcached()]), threads=1, idle_timeout=1000)
+        with proxy.client() as faulty, trickling(faulty, b"stats\r\n", 0.3):
+            time.sleep(0.1)
+            with proxy.client(limit=1 + SLACK) as other:
+                self.assertEqual(other.ask(b"version\r\n"), VERSION)
+
+    def test_the_system_asks_whether_a_quiet_client_is_there(self):
+        proxy = self.proxy(configuration(only=[self.memcached()]), threads=1)
+        with proxy.client() as quiet:
+            self.assertEqual(quiet.ask(b"version\r\n"), VERSION)
+            ends = [f":{port:04X}" for port in (proxy.port, quiet.socket.getsockname()[1])]
+
+            def timer():
+                """What the proxy's socket waits for: 2 is the next keepalive."""
+                with open("/proc/net/tcp", encoding="ascii") as file:
+                    lines = [line.split() for line in file]
+                return next(line[5][:2] for line in lines if [end[-5:] for end in line[1:3]] == ends)
+
+            wait_until(lambda: timer() == "02", SLACK, "a keepalive is due")
 
     def test_a_client_that_reads_slowly_gets_everything(self):
         proxy = self.proxy(configuration(only=[self.memcached("-I", "2m")]), threads=1, write_timeout=1500)

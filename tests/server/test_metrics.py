@@ -3,11 +3,13 @@ import http.client
 import shutil
 import socket
 import subprocess
+import threading
 import time
 import unittest
 
 from parts import ServerTest, configuration, serve_words
 from ports import HOST, free_port, wait_until
+from talk import fnv1a
 
 try:
     from prometheus_client.parser import text_string_to_metric_families
@@ -42,6 +44,25 @@ def samples_by_prometheus(text):
             labels = ",".join(f'{name}="{value}"' for name, value in sample.labels.items())
             samples[sample.name + (f"{{{labels}}}" if labels else "")] = sample.value
     return samples
+
+
+def send_while_taken(connection, size):
+    """Sends a request with a header of this many bytes, until the connection ends."""
+    try:
+        connection.sendall(b"GET /metrics HTTP/1.1\r\nhost: x\r\nx: " + b"x" * size + b"\r\n\r\n")
+    except OSError:
+        pass
+
+
+def trickles_to_the_end(connection):
+    """Sends one byte more. Whether the connection has ended."""
+    try:
+        connection.sendall(b"x")
+        return connection.recv(1000) == b""
+    except TimeoutError:
+        return False
+    except OSError:
+        return True
 
 
 class Metrics(ServerTest):
@@ -116,6 +137,21 @@ class Metrics(ServerTest):
             numbers = self.numbers(port)
             self.assertEqual(numbers[probes], numbers["tkoproxy_probes_total"])
 
+    def test_marks_of_two_workers(self):
+        """Each of two workers has marked a server of its own, and knows of no mark on the other's."""
+        servers = [self.memcached(), self.memcached()]
+        proxy, port = self.metered(configuration(only=servers), threads=2)
+        hard = [f'tkoproxy_server_marked{{server="{server.address}",mark="hard"}}' for server in servers]
+        with proxy.client() as one, proxy.client() as other:
+            for client in (one, other):
+                self.assertEqual(client.ask(b"version\r\n"), b"VERSION tkoproxy 1\r\n")
+            for number, client in enumerate((one, other)):
+                servers[number].kill()
+                key = next(b"%d" % key for key in range(100) if fnv1a(b"%d" % key) % 2 == number)
+                self.assertEqual(client.ask(b"get %s\r\n" % key), b"SERVER_ERROR no server\r\n")
+            numbers = self.numbers(port)
+            self.assertEqual([numbers[name] for name in hard], [1, 1])
+
     def test_a_hardened_mark_keeps_its_moment(self):
         server = self.memcached()
         proxy, port = self.metered(configuration(only=[server]), threads=1, failures=1, timeout=300, log="off",
@@ -175,28 +211,69 @@ class Metrics(ServerTest):
             self.assertEqual(ask(port, path=path)[0], 404)
         for method in ("POST", "PUT", "DELETE", "OPTIONS"):
             status, headers, text = ask(port, method)
-            self.assertEqual((status, headers["allow"], text), (405, "GET", ""))
-        self.assertEqual(ask(port, "HEAD")[0], 405)
+            self.assertEqual((status, headers["allow"], text), (405, "GET, HEAD", ""))
         self.assertEqual(ask(port, path="/metrics?name=x")[0], 200)
         with socket.create_connection((HOST, port), 10) as other:
             other.sendall(b"get a\r\n\r\n")
             self.assertIn(b" 400 ", other.recv(1000).split(b"\r\n")[0])
 
-    def test_clients_that_say_nothing_or_little_delay_no_worker(self):
+    def test_head_gets_the_header_of_the_page_alone(self):
+        _, port = self.metered(configuration(only=[self.memcached()]), threads=1)
+        status, headers, text = ask(port)
+        self.assertEqual((status, int(headers["content-length"])), (200, len(text)))
+        status, headers, text = ask(port, "HEAD")
+        self.assertEqual((status, headers["content-type"], text), (200, "text/plain; version=0.0.4; charset=utf-8", ""))
+        self.assertGreater(int(headers["content-length"]), 1000)
+        self.assertEqual(ask(port, "HEAD", "/stats")[0], 404)
+
+    def test_a_head_that_is_too_large_is_refused(self):
+        _, port = self.metered(configuration(only=[self.memcached()]), threads=1)
+        for size, status in ((7000, 200), (9000, 431), (1_000_000, 431)):
+            with socket.create_connection((HOST, port), 10) as other:
+                # (the answer may come before all of it was sent)
+                sender = threading.Thread(target=send_while_taken, args=(other, size))
+                sender.start()
+                self.assertIn(b"HTTP/1.1 %d " % status, other.recv(1000))
+                other.shutdown(socket.SHUT_RDWR)
+                sender.join()
+        with socket.create_connection((HOST, port), 10) as other:
+            other.sendall(b"GET /metrics HTTP/1.1\r\nhost: x\r\ncontent-length: 1\r\n\r\n")
+            self.assertIn(b"HTTP/1.1 413 ", other.recv(1000))
+
+    def test_silent_clients_delay_no_worker_and_no_scrape(self):
         proxy, port = self.metered(configuration(only=[self.memcached()]), threads=1)
-        silent = [socket.create_connection((HOST, port), 10) for _ in range(3)]
+        silent = [socket.create_connection((HOST, port), 10) for _ in range(20)]
         try:
-            silent[1].sendall(b"GET /metr")
+            silent[-1].sendall(b"GET /metr")
             with proxy.client() as client:
                 for _ in range(50):
                     reply, seconds = client.timed(b"get a\r\n")
                     self.assertEqual(reply, b"END\r\n")
                     self.assertLess(seconds, 1)
-            # Each is closed after some seconds, and then the next one gets its answer.
-            self.assertEqual(ask(port, seconds=30)[0], 200)
+                for _ in range(12):
+                    silent.append(socket.create_connection((HOST, port), 10))
+                    self.assertEqual(ask(port, seconds=5)[0], 200)
+                    time.sleep(0.25)
         finally:
             for each in silent:
                 each.close()
+
+    def test_a_trickled_request_is_cut_off(self):
+        _, port = self.metered(configuration(only=[self.memcached()]), threads=1)
+        with socket.create_connection((HOST, port), 10) as slow:
+            slow.settimeout(0.2)
+            slow.sendall(b"GET /metrics HTTP/1.1\r\nx: ")
+            # Bytes that come are no reason to stay.
+            wait_until(lambda: trickles_to_the_end(slow), 30, "it is closed")
+            self.assertEqual(ask(port)[0], 200)
+
+    def test_a_request_in_pieces_is_answered(self):
+        _, port = self.metered(configuration(only=[self.memcached()]), threads=1)
+        with socket.create_connection((HOST, port), 10) as other:
+            for piece in (b"GET /met", b"rics HTTP/1.1\r", b"\nhost: x\r\n", b"\r\n"):
+                other.sendall(piece)
+                time.sleep(0.1)
+            self.assertIn(b"HTTP/1.1 200 ", other.recv(1000))
 
     def test_a_client_that_reads_nothing_is_closed(self):
         servers = [f"10.0.0.{number}:11211" for number in range(1, 200)]

@@ -182,6 +182,11 @@ class Holds(ServerTest):
                 client.send(ends[number % len(ends)])
 
 
+def in_use(address):
+    """What is said of an address at which something listens."""
+    return b"listen: %s: Address already in use (os error 98)\nfault: listen\n" % address.encode()
+
+
 class Faults(ServerTest):
     def test_faults_of_the_command_line(self):
         good = configuration(only=[self.memcached()])
@@ -194,9 +199,12 @@ class Faults(ServerTest):
                 (["--listen", address, "--config", good, "--first-delay", "0"], 1, b"fault: delays\n"),
                 (["--listen", address, "--config", good, "--first-delay", "2", "--greatest-delay", "1"], 1,
                  b"fault: delays\n"),
-                (["--listen", "nowhere", "--config", good], 1, b"fault: listen\n"),
-                (["--listen", HOST + ":65536", "--config", good], 1, b"fault: listen\n"),
-                (["--listen", HOST + ":0x50", "--config", good], 1, b"fault: listen\n"),
+                (["--listen", "nowhere", "--config", good], 1,
+                 b"listen: nowhere: no address <host>:<port>\nfault: listen\n"),
+                (["--listen", HOST + ":65536", "--config", good], 1,
+                 b"listen: %s:65536: no address <host>:<port>\nfault: listen\n" % HOST.encode()),
+                (["--listen", HOST + ":0x50", "--config", good], 1,
+                 b"listen: %s:0x50: no address <host>:<port>\nfault: listen\n" % HOST.encode()),
                 (["--listen", address], 2, None), (["--config", good], 2, None),
                 (["--listen", address, "--config", good, "--threads", "many"], 2, None),
                 (["--listen", address, "--config", good, "--timeout", "0"], 2, None)):
@@ -206,9 +214,10 @@ class Faults(ServerTest):
         config = configuration(only=[self.memcached()])
         with socket.create_server((HOST, free_port())) as taken:
             address = "%s:%d" % taken.getsockname()
-            self.ends_at_once(["--listen", address, "--config", config], 1, b"fault: listen\n")
+            self.ends_at_once(["--listen", address, "--config", config], 1, in_use(address))
         proxy = self.proxy(config)
-        self.ends_at_once(["--listen", f"{HOST}:{proxy.port}", "--config", config], 1, b"fault: listen\n")
+        address = f"{HOST}:{proxy.port}"
+        self.ends_at_once(["--listen", address, "--config", config], 1, in_use(address))
         with proxy.client() as client:
             self.assertEqual(client.ask(b"version\r\n"), VERSION)
 
