@@ -37,6 +37,9 @@ fn run<
         + Clock
         + Threads
         + Sync
+        + Copy
+        + Send
+        + 'static
         + Files<File = File>
         + Eprint,
     I: Read + Drop,
