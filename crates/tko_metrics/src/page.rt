@@ -1,7 +1,7 @@
 //! The page of a server's metrics.
 
 use crate::metrics;
-use crate::reading::{ServerReading, Sums};
+use crate::reading::{ServerReading, Sums, probes_of};
 use crate::sample::{Metric, Text};
 use crate::worker_meter::Marking;
 use std::alloc::{AllocError, Global};
@@ -107,13 +107,4 @@ fn add_known(text: &mut Text, metric: Metric, number: Option<u64>) -> Result<(),
         Some(number) => text.single(metric, number),
         None => Ok(()),
     }
-}
-
-/// The probes of all servers.
-fn probes_of(servers: &[ServerReading]) -> u64 {
-    let mut probes = 0u64;
-    for server in servers {
-        probes = probes.saturating_add(server.probes);
-    }
-    probes
 }

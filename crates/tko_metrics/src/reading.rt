@@ -1,7 +1,9 @@
 //! What a meter says at a moment.
+ghost use Rattle.std.specs.Prelude.{◌≡◌, ◌^◌, ◌-◌, find, min, sum_by};
+ghost use Rattle.tko_metrics.specs.Readings.{is_marked, together};
 
 use crate::meter::Shared;
-use crate::worker_meter::{Marking, Numbers, ServerNumbers};
+use crate::worker_meter::{Marking, Numbers};
 use std::alloc::{AllocError, Global};
 
 /// What all workers counted.
@@ -19,7 +21,8 @@ pub(crate) struct Sums {
     pub(crate) memory_faults: u64,
 }
 
-/// What all workers counted of a server, and its mark.
+/// What one worker counted of a server, and the mark that it has on it; or what all counted, and
+/// the server's mark.
 #[derive(Clone, Copy, Debug, PartialEq, Eq)]
 pub(crate) struct ServerReading {
     pub(crate) sends: u64,
@@ -79,34 +82,75 @@ impl ServerReading {
     ) -> Result<Vec<ServerReading>, AllocError> {
         let mut readings = Vec::new(alloc);
         for server in 0..servers {
-            readings.push(ServerReading::of(shared, server))?;
+            let parts = ServerReading::of_workers(alloc, shared, server)?;
+            readings.push(ServerReading::together(&parts))?;
         }
         Ok(readings)
     }
 
-    /// What the workers counted of a server. At most one of them has a mark on it.
-    fn of(shared: &Shared, server: usize) -> ServerReading {
-        let mut reading = ServerReading {
-            sends: 0,
-            probes: 0,
-            mark: Marking::Up,
-            since: 0,
-        };
+    /// What each worker counted of a server.
+    fn of_workers(
+        alloc: Global,
+        shared: &Shared,
+        server: usize,
+    ) -> Result<Vec<ServerReading>, AllocError> {
+        let mut parts = Vec::new(alloc);
         for worker in shared.workers.iter() {
             if let Some(numbers) = worker.servers.get(server) {
-                reading.add(numbers);
+                parts.push(numbers.reading())?;
             }
         }
-        reading
+        Ok(parts)
     }
 
-    fn add(&mut self, worker: &ServerNumbers) {
-        self.sends = self.sends.saturating_add(worker.sends.get());
-        self.probes = self.probes.saturating_add(worker.probes.get());
-        let (mark, since) = worker.marking();
-        if mark != Marking::Up {
-            self.mark = mark;
-            self.since = since;
+    /// What the workers counted together of a server. Its mark is that of the worker that has one:
+    /// at most one has, but the workers are not read at one moment, and then the first one counts.
+    fn together(parts: &[ServerReading]) -> ServerReading
+        ensures { result ≡ together parts.now }
+    {
+        let (mark, since) = match first_marked(parts) {
+            Some(part) => (part.mark, part.since),
+            None => (Marking::Up, 0),
+        };
+        ServerReading {
+            sends: sends_of(parts),
+            probes: probes_of(parts),
+            mark,
+            since,
         }
     }
+}
+
+/// The first of the workers that have a mark.
+fn first_marked(parts: &[ServerReading]) -> Option<ServerReading>
+    ensures { result ≡ find is_marked parts.now }
+{
+    for part in parts {
+        if part.mark.is_set() {
+            return Some(*part);
+        }
+    }
+    None
+}
+
+/// The sends of all.
+fn sends_of(parts: &[ServerReading]) -> u64
+    ensures { result ≡ min (sum_by (λ part. part.sends) parts.now) (2 ^ 64 - 1) }
+{
+    let mut sends = 0u64;
+    for part in parts {
+        sends = sends.saturating_add(part.sends);
+    }
+    sends
+}
+
+/// The probes of all.
+pub(crate) fn probes_of(parts: &[ServerReading]) -> u64
+    ensures { result ≡ min (sum_by (λ part. part.probes) parts.now) (2 ^ 64 - 1) }
+{
+    let mut probes = 0u64;
+    for part in parts {
+        probes = probes.saturating_add(part.probes);
+    }
+    probes
 }

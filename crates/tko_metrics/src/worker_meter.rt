@@ -1,8 +1,9 @@
 //! The numbers of one worker.
 ghost use Rattle.std.specs.Prelude.{◌≡◌};
-ghost use Rattle.tko_metrics.specs.Marks.{number_of};
+ghost use Rattle.tko_metrics.specs.Marks.{is_mark, number_of, since_after};
 
 use crate::counter::Counter;
+use crate::reading::ServerReading;
 use std::alloc::{AllocError, Global};
 use std::sync::Arc;
 
@@ -101,18 +102,32 @@ impl ServerNumbers {
         }
     }
 
-    /// The mark, and when it was set.
-    pub(crate) fn marking(&self) -> (Marking, u64) {
-        let mark = Marking::of(self.mark.get());
-        (mark, self.since.get())
+    /// The worker's numbers of the server at this moment.
+    pub(crate) fn reading(&self) -> ServerReading {
+        ServerReading {
+            sends: self.sends.get(),
+            probes: self.probes.get(),
+            mark: Marking::of(self.mark.get()),
+            since: self.since.get(),
+        }
     }
 
-    /// Sets the mark, which was set at this moment. A mark that is hardened keeps its moment.
+    /// Sets the mark, which was set at this moment.
     fn set_mark(&self, mark: Marking, moment: u64) {
-        if self.mark.get() == Marking::Up.number() {
-            self.since.set(moment);
-        }
+        let was = Marking::of(self.mark.get());
+        self.since.set(since(was, self.since.get(), moment));
         self.mark.set(mark.number());
+    }
+}
+
+/// Since when a server is marked, once a mark is set at this moment. A mark that is hardened keeps
+/// its moment.
+fn since(was: Marking, since: u64, moment: u64) -> u64
+    ensures { result ≡ since_after was since moment }
+{
+    match was {
+        Marking::Up => moment,
+        Marking::Soft | Marking::Hard => since,
     }
 }
 
@@ -124,6 +139,16 @@ impl Marking {
             0 => Marking::Up,
             1 => Marking::Soft,
             _ => Marking::Hard,
+        }
+    }
+
+    /// Whether there is a mark.
+    pub(crate) fn is_set(self) -> bool
+        ensures { result ≡ is_mark self }
+    {
+        match self {
+            Marking::Up => false,
+            Marking::Soft | Marking::Hard => true,
         }
     }
 
