@@ -1,3 +1,4 @@
+pub mod Calls
 pub mod Io
 pub mod Pieces
 pub mod Tape

@@ -1,11 +1,12 @@
 //! Ends over std's readers and writers.
-ghost use Rattle.std.specs.Prelude.{◌≡◌, ◌+◌};
-ghost use Rattle.tko_io.specs.Io.{faults_in, idles_in, read_result, read_stop, refusals_in, write_result, write_stop};
+ghost use Rattle.std.specs.Prelude.{◌≡◌, ◌≢◌, ◌+◌, ◌<◌, ◌≤◌, Ok, Err, IfOk, length};
+ghost use Rattle.tko_io.specs.Io.{faults_in, idles_in, moved, read_result, read_stop, refusals_in, write_result, write_stop};
+ghost use Rattle.tko_io.specs.Calls.{IsReadCall, IsWriteCall};
 
 use crate::stop_counts::StopCounts;
-use crate::{Inlet, Outlet, Stop};
+use crate::{Inlet, Outlet, Readable, Stop, Writable};
 use std::io;
-use std::io::{ErrorKind, Read, Write};
+use std::io::ErrorKind;
 use std::sync::Wait;
 use tko_links::IoRuntime;
 
@@ -84,47 +85,66 @@ fn stop_of_write(kind: ErrorKind) -> Stop
 }
 
 /// The bytes that were read are those that the reader no longer has, where it reports what it has.
-impl<T: Read> Inlet for Piped<T> {
+impl<T: Readable> Inlet for Piped<T> {
     ghost use Rattle.std.specs.Io.KnownBytes.{Consumes, IsAtEnd};
     ghost use Rattle.std.proofs.KnownBytes.{Consumes-nil, Consumes-trans};
 
-    ghost gives = { λ a bytes b. Consumes (T.remaining a.inner) (T.remaining b.inner) bytes };
+    ghost gives = { λ a bytes b. Consumes (T.left a.inner) (T.left b.inner) bytes };
 
-    ghost is_ended = { λ a. IsAtEnd (T.remaining a.inner) };
+    ghost is_ended = { λ a. IsAtEnd (T.left a.inner) };
 
     ghost failures = { λ a. a.counts.failures };
 
     ghost idles = { λ a. a.counts.idles };
 
-    ghost nothing = { λ x. Consumes-nil (T.remaining x.inner) };
+    ghost nothing = { λ x. Consumes-nil (T.left x.inner) };
 
     ghost goes_on = { λ x y z bytes more first second.
-        Consumes-trans (T.remaining x.inner) (T.remaining y.inner) (T.remaining z.inner)
+        Consumes-trans (T.left x.inner) (T.left y.inner) (T.left z.inner)
         bytes more first second };
 
-    fn read<R: IoRuntime>(&mut self, rt: &R, buffer: &mut [u8]) -> Result<usize, Stop> {
-        let read = self.inner.read(buffer);
+    /// Makes one call of the reader.
+    fn read<R: IoRuntime>(&mut self, rt: &R, buffer: &mut [u8]) -> Result<usize, Stop>
+        ensures within { IfOk result (λ count. count ≤ length buffer.new) }
+        ensures gives { Consumes (T.left self.old.inner) (T.left self.new.inner)
+            (moved result buffer.new) }
+        ensures ended { result ≡ Ok 0 → 0 < length buffer.new → IsAtEnd (T.left self.new.inner) }
+        ensures failures { self.new.counts.failures
+            ≡ self.old.counts.failures + faults_in result }
+        ensures idles { self.new.counts.idles ≡ self.old.counts.idles + idles_in result }
+        ensures call { IsReadCall T.came self.old.inner result self.new.inner }
+    {
+        let read = self.inner.read_once(buffer);
         count_read(rt, &mut self.counts, read)
     }
 }
 
 /// The bytes that were written are at the end of what the writer has, where it reports what it has.
-impl<T: Write> Outlet for Piped<T> {
+impl<T: Writable> Outlet for Piped<T> {
     ghost use Rattle.std.specs.Io.KnownBytes.{Appends};
     ghost use Rattle.std.proofs.KnownBytes.{Appends-nil, Appends-trans};
 
-    ghost takes = { λ a bytes b. Appends (T.contents a.inner) (T.contents b.inner) bytes };
+    ghost takes = { λ a bytes b. Appends (T.held a.inner) (T.held b.inner) bytes };
 
     ghost failures = { λ a. a.counts.failures };
 
-    ghost nothing = { λ x. Appends-nil (T.contents x.inner) };
+    ghost nothing = { λ x. Appends-nil (T.held x.inner) };
 
     ghost goes_on = { λ x y z bytes more first second.
-        Appends-trans (T.contents x.inner) (T.contents y.inner) (T.contents z.inner)
+        Appends-trans (T.held x.inner) (T.held y.inner) (T.held z.inner)
         bytes more first second };
 
-    fn write<R: IoRuntime>(&mut self, rt: &R, piece: &[u8]) -> Result<usize, Stop> {
-        let write = self.inner.write(piece);
+    /// Makes one call of the writer.
+    fn write<R: IoRuntime>(&mut self, rt: &R, piece: &[u8]) -> Result<usize, Stop>
+        ensures within { IfOk result (λ count. count ≤ length piece.now) }
+        ensures takes { Appends (T.held self.old.inner) (T.held self.new.inner)
+            (moved result piece.now) }
+        ensures failures { self.new.counts.failures
+            ≡ self.old.counts.failures + refusals_in piece.now result }
+        ensures never_idle { result ≢ Err Stop.Idle }
+        ensures call { IsWriteCall T.came self.old.inner result self.new.inner }
+    {
+        let write = self.inner.write_once(piece);
         count_write(rt, &mut self.counts, piece, write)
     }
 }
