@@ -66,7 +66,7 @@ pub record MayGrant (settings : Settings) (seat : SeatState) (server : ℕ) : Ty
   pub found : IsFound settings tracker
   pub right : duty_of server (server_at tracker.servers server).mark seat.thread ≡ Some server
 
--- the right to probe a server, as the mark that the call found grants or denies it
+-- the right to probe a server, as a tracker that the call may find grants or denies it
 pub record IsDuty (settings : Settings) (seat : SeatState) (server : ℕ) (duty : Option ℕ)
     : Type 0 where
   pub tracker : Tracker

@@ -79,7 +79,8 @@ impl<S: TrackerSettings> Health for LockedHealth<S> {
         self.apply(rt, Op::Release, server)
     }
 
-    /// Grants the right exactly where the mark that it finds is this thread's own.
+    /// Grants the right where the mark that it finds is this thread's own. Contracts see that some
+    /// tracker with these settings decides so, and not which one it found.
     fn duty<R: Wait>(&mut self, rt: &R, server: usize) -> Option<Duty>
         requires { server < S.settings.servers }
         ensures exact { IsDuty S.settings self.old server result }
