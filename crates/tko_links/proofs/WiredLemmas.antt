@@ -1,5 +1,5 @@
 -- Laws of links over a wire.
-use Rattle.std.proofs.Common.{◌≡◌, ℕ, Bool, true, false, List, [], ◌∷◌, ◌++◌, refl, ap, sym, ◌∙◌, subst, inl, inr, append-nil, Some, None, Option}
+use Rattle.std.proofs.Common.{◌≡◌, ℕ, Bool, true, false, List, [], ◌∷◌, ◌++◌, refl, ap, sym, ◌∙◌, subst, inl, inr, append-nil, Some, None, Option, Result, Ok}
 use Rattle.std.specs.List.{concat}
 use Rattle.std.proofs.lemmas.Grind.{flat_map-append}
 use Rattle.tko_model.specs.Records.{Gains, Lead}
@@ -9,7 +9,8 @@ use Rattle.tko_text.specs.Requests.{request_text}
 use Rattle.tko_links.specs.declared.links.Outcome.{Outcome}
 use Rattle.tko_links.specs.declared.links.Outcome.TheVariants as outcome
 use Rattle.tko_links.specs.Exchanges.{ConnectionFailed, Ended, Ends, IsBroken, IsExchange, IsFront, IsProbing, IsOpening, Unreadable, WriteTookNone, closing_of, given_up, got_all, tried, wrote_all}
-use Rattle.tko_links.specs.Links.{LinksItem, Sent, Probed}
+use Rattle.tko_links.specs.declared.links.NoMemory.{NoMemory}
+use Rattle.tko_links.specs.Links.{LinksItem, Sent, Probed, outcome_in}
 use Rattle.tko_links.specs.Scripted.{probes_after_all, sends_after_all}
 use Rattle.tko_links.specs.WireRecords.{AreAt, IsDone, IsWireRecord, bytes_of, written_in}
 use Rattle.tko_links.specs.Wired.{IsOverWire, IsWired, WiredState, asked_in, server_of}
@@ -84,6 +85,7 @@ closing_silent server request (Some outcome.Timeout) sent got closing stays ends
     silent_as server closing _ ends.closed (failed_silent server _)
 closing_silent server request (Some outcome.Broken) sent got closing stays ends =
     silent_as server closing _ ends.2.closed (cut_silent server request sent got ends.0 ends.1)
+closing_silent server request (Some outcome.Aborted) sent got closing stays ends = absurd ends
 closing_silent server request (Some outcome.Spent) sent got closing stays ends = absurd ends
 closing_silent server request None sent got closing stays ends =
     silent_as server closing _ ends.closed (shut_silent server)
@@ -182,3 +184,12 @@ module _ {W : Type 0} {servers : W → ℕ} {connected : W → ℕ → Bool} {fa
   pub wire_record : (old new : WiredState W) (items : List LinksItem) → Gains (IsWired servers connected failures steps) old items new
       → IsWireRecord steps old items new
   wire_record old new items gains = records servers connected failures steps old new items gains.leads
+
+  -- no exchange over a wire is aborted
+  pub not_aborted : {server : ℕ} {request : Request} {old new : W} (result : Result Outcome NoMemory)
+      → IsExchange servers connected failures steps server request old (outcome_in result) new
+      → ¬ (result ≡ Ok outcome.Aborted)
+  not_aborted {server} {request} {old} {new} result exchange is =
+      let P : Result Outcome NoMemory → Type 0 =
+      λ came. IsExchange servers connected failures steps server request old (outcome_in came) new in
+      (subst P is exchange).ends

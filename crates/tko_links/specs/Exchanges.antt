@@ -120,6 +120,7 @@ Ends server request (Some outcome.Timeout) sent got closing stays =
 Ends server request (Some outcome.Broken) sent got closing stays =
     (tail : List WireItem) × IsBroken server request sent got tail
     × IsShut server tail closing stays
+Ends server request (Some outcome.Aborted) sent got closing stays = ⊥
 Ends server request (Some outcome.Spent) sent got closing stays = ⊥
 Ends server request None sent got closing stays = IsShut server [] closing stays
 

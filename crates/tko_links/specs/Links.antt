@@ -21,6 +21,7 @@ is_sent (outcome.Reply response) = true
 is_sent outcome.Timeout = true
 is_sent outcome.Refused = true
 is_sent outcome.Broken = true
+is_sent outcome.Aborted = true
 is_sent outcome.Spent = false
 
 -- whether a call counted a send or a probe; an error for lack of memory says it itself

@@ -6,7 +6,7 @@ use crate::io_runtime::IoRuntime;
 use tko_model::{Clear, Duty};
 use tko_text::{Request, Response};
 
-/// What came of a request or of a probe.
+/// What came of a request or of a probe. It was sent, but for `Spent`.
 #[derive(Debug, Drop)]
 pub enum Outcome {
     /// A whole response, a server's own error among them.
@@ -17,6 +17,9 @@ pub enum Outcome {
     Refused,
     /// The response was cut or unreadable, or the connection failed.
     Broken,
+    /// The connection failed while the answer to another request was awaited. Only links that keep
+    /// several requests under way on one connection give it.
+    Aborted,
     /// The server's count of sends, or of probes, is used up, and nothing was sent.
     Spent,
 }

@@ -1,6 +1,6 @@
 //! Links in memory, which play a list of scripts.
-ghost use Rattle.std.specs.Prelude.{◌≡◌, ◌<◌, [], true, false, IfOk, IfErr, OnErr, OnOk, length, replicate, slice_index};
-ghost use Rattle.tko_links.specs.Links.{most_sends, outcome_in};
+ghost use Rattle.std.specs.Prelude.{◌≡◌, ◌<◌, ◌+◌, ◌↔◌, ℕ, [], true, false, IfOk, IfErr, OnErr, OnOk, length, replicate, slice_index};
+ghost use Rattle.tko_links.specs.Links.{Exchanged, WasProbed, is_counted, most_sends, outcome_in, part_of};
 ghost use Rattle.tko_links.specs.Scripted.{Answers, Hits, HitsKeys, IsPlayed, hit_text};
 
 use crate::io_runtime::IoRuntime;
@@ -84,6 +84,7 @@ impl Script {
     fn outcome(&self, alloc: Global, request: &Request) -> Result<Outcome, NoMemory>
         ensures came { Gives self.now request.now (outcome_in result) }
         ensures sent { IfErr result (λ fault. fault ≡ record { sent = true }) }
+        ensures aborted { ¬ (result ≡ Ok Outcome.Aborted) }
     {
         match self {
             Script::Refused => Ok(Outcome::Refused),
@@ -99,6 +100,7 @@ impl Script {
 fn read_answer(alloc: Global, request: &Request, bytes: &[u8]) -> Result<Outcome, NoMemory>
     ensures came { Answers bytes.now request.now (outcome_in result) }
     ensures sent { IfErr result (λ fault. fault ≡ record { sent = true }) }
+    ensures aborted { ¬ (result ≡ Ok Outcome.Aborted) }
 {
     match Response::read(alloc, request, bytes) {
         Ok((response, _)) => Ok(Outcome::Reply(response)),
@@ -111,6 +113,7 @@ fn read_answer(alloc: Global, request: &Request, bytes: &[u8]) -> Result<Outcome
 fn hit(alloc: Global, request: &Request, text: &[u8]) -> Result<Outcome, NoMemory>
     ensures came { Hits text.now request.now (outcome_in result) }
     ensures sent { IfErr result (λ fault. fault ≡ record { sent = true }) }
+    ensures aborted { ¬ (result ≡ Ok Outcome.Aborted) }
 {
     match request {
         Request::Get { keys } => hit_of(alloc, request, keys.as_slice(), b"", text),
@@ -129,6 +132,7 @@ fn hit_of(
 ) -> Result<Outcome, NoMemory>
     ensures came { HitsKeys keys.now cas.now text.now request.now (outcome_in result) }
     ensures sent { IfErr result (λ fault. fault ≡ record { sent = true }) }
+    ensures aborted { ¬ (result ≡ Ok Outcome.Aborted) }
 {
     match keys {
         [key] => hit_key(alloc, request, key, cas, text),
@@ -146,6 +150,7 @@ fn hit_key(
 ) -> Result<Outcome, NoMemory>
     ensures came { Answers (hit_text key.now cas.now text.now) request.now (outcome_in result) }
     ensures sent { IfErr result (λ fault. fault ≡ record { sent = true }) }
+    ensures aborted { ¬ (result ≡ Ok Outcome.Aborted) }
 {
     let Ok(bytes) = hit_text(alloc, key, cas, text) else {
         return Err(NoMemory { sent: true });
@@ -242,6 +247,7 @@ impl Scripted {
         ensures left { self.new ≡ record self.old { scripts = drop 1 self.old.scripts } }
         ensures came { NextGives (slice_get self.old.scripts 0) request.now (outcome_in result) }
         ensures sent { IfErr result (λ fault. fault ≡ record { sent = true }) }
+        ensures aborted { ¬ (result ≡ Ok Outcome.Aborted) }
     {
         let Some(script) = self.scripts.get(self.next) else {
             return Ok(Outcome::Refused);
@@ -251,6 +257,7 @@ impl Scripted {
     }
 }
 
+/// The clauses are those of `Links`, and that nothing is aborted.
 impl Links for Scripted {
     ghost servers = { λ links. length links.sends };
 
@@ -265,7 +272,18 @@ impl Links for Scripted {
         _rt: &R,
         clear: Clear,
         request: &Request,
-    ) -> Result<Outcome, NoMemory> {
+    ) -> Result<Outcome, NoMemory>
+        requires { clear < length self.old.sends }
+        ensures record { Exchanged IsPlayed self.old clear request.now result self.new }
+        ensures spent { (result ≡ Ok Outcome.Spent)
+            ↔ (slice_index self.old.sends clear ≡ most_sends) }
+        ensures sends { (server : ℕ) → slice_index self.new.sends server
+            ≡ slice_index self.old.sends server + part_of (is_counted result) clear server }
+        ensures probes { (server : ℕ) → slice_index self.new.probes server
+            ≡ slice_index self.old.probes server }
+        ensures servers { length self.new.sends ≡ length self.old.sends }
+        ensures aborted { ¬ (result ≡ Ok Outcome.Aborted) }
+    {
         let server = clear.server();
         if self.sends[server] == u64::MAX {
             return Ok(Outcome::Spent);
@@ -274,7 +292,18 @@ impl Links for Scripted {
         self.play(request)
     }
 
-    fn probe<R: IoRuntime>(&mut self, _rt: &R, duty: Duty) -> Result<Outcome, NoMemory> {
+    fn probe<R: IoRuntime>(&mut self, _rt: &R, duty: Duty) -> Result<Outcome, NoMemory>
+        requires { duty < length self.old.sends }
+        ensures record { WasProbed IsPlayed self.old duty result self.new }
+        ensures spent { (result ≡ Ok Outcome.Spent)
+            ↔ (slice_index self.old.probes duty ≡ most_sends) }
+        ensures probes { (server : ℕ) → slice_index self.new.probes server
+            ≡ slice_index self.old.probes server + part_of (is_counted result) duty server }
+        ensures sends { (server : ℕ) → slice_index self.new.sends server
+            ≡ slice_index self.old.sends server }
+        ensures servers { length self.new.sends ≡ length self.old.sends }
+        ensures aborted { ¬ (result ≡ Ok Outcome.Aborted) }
+    {
         let server = duty.server();
         if self.probes[server] == u64::MAX {
             return Ok(Outcome::Spent);

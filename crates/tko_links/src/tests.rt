@@ -27,6 +27,7 @@ pub(crate) fn word_of(came: &Result<Outcome, NoMemory>) -> &'static str {
         Ok(Outcome::Timeout) => "timeout",
         Ok(Outcome::Refused) => "refused",
         Ok(Outcome::Broken) => "broken",
+        Ok(Outcome::Aborted) => "aborted",
         Ok(Outcome::Spent) => "spent",
         Err(_) => "memory",
     }

@@ -86,6 +86,7 @@ impl<W: Wire> Wired<W> {
             self.old.wire (outcome_in result) self.new.wire }
         ensures counts { self.new ≡ record self.old { wire = self.new.wire } }
         ensures counted { is_counted result ≡ true }
+        ensures aborted { ¬ (result ≡ Ok Outcome.Aborted) }
     {
         let came = exchange_over(
             rt,
@@ -106,6 +107,7 @@ impl<W: Wire> Wired<W> {
             self.old.wire (outcome_in result) self.new.wire }
         ensures counts { self.new ≡ record self.old { wire = self.new.wire } }
         ensures counted { is_counted result ≡ true }
+        ensures aborted { ¬ (result ≡ Ok Outcome.Aborted) }
     {
         self.wire.set_probing(rt, server, true);
         let came = self.exchange_counted(rt, server, &Request::Version);
@@ -114,7 +116,7 @@ impl<W: Wire> Wired<W> {
     }
 }
 
-/// The clauses are those of `Links`; `record` says what an item is.
+/// The clauses are those of `Links`, and that nothing is aborted; `record` says what an item is.
 impl<W: Wire> Links for Wired<W> {
     ghost servers = { λ links. length links.sends };
 
@@ -141,6 +143,7 @@ impl<W: Wire> Links for Wired<W> {
         ensures probes { (server : ℕ) → slice_index self.new.probes server
             ≡ slice_index self.old.probes server }
         ensures servers { length self.new.sends ≡ length self.old.sends }
+        ensures aborted { ¬ (result ≡ Ok Outcome.Aborted) }
     {
         let server = clear.server();
         if self.sends[server] == u64::MAX {
@@ -161,6 +164,7 @@ impl<W: Wire> Links for Wired<W> {
         ensures sends { (server : ℕ) → slice_index self.new.sends server
             ≡ slice_index self.old.sends server }
         ensures servers { length self.new.sends ≡ length self.old.sends }
+        ensures aborted { ¬ (result ≡ Ok Outcome.Aborted) }
     {
         let server = duty.server();
         if self.probes[server] == u64::MAX {
