@@ -145,6 +145,20 @@ module _ {H : Type 0} {steps : H → HealthItem → H → Type 0} where
         is = λ form calls make. record { before = calls ++ map Told on.items; make = on.is form calls make; count = count; is = one_told calls on.items item };
       })
 
+  -- the calls of an attempt whose outcome is not recorded
+  unrecorded : (old new : H) (it : Attempt) (at server : ℕ) (none got : Outcome)
+      → ((request : Request) (count : ℕ) → IsAttempt request (look_up at (reply.Up count) ∷ came at request (Ok none) ∷ []) it)
+      → new ≡ old → none ≡ got → at ≡ server
+      → GoesOn steps old (λ more. (request : Request) (count : ℕ) → IsAttempt request (look_up server (reply.Up count) ∷ came server request (Ok got) ∷ more) it) new
+  unrecorded old new it at server none got tried same is at_is =
+      let P : ℕ → Outcome → H → Type 0 =
+      λ n o h. GoesOn steps old (λ more. (request : Request) (count : ℕ) → IsAttempt request (look_up n (reply.Up count) ∷ came n request (Ok o) ∷ more) it) h in
+      subst (λ (n : ℕ). P n got new) at_is (subst (λ (o : Outcome). P at o new) is (subst (λ (h : H). P at none h) (sym same) (record {
+        items = [];
+        gains = gains_none old;
+        is = tried;
+      })))
+
   -- the calls of an attempt that ended so, after a look-up that found the server up
   ended : (old new : H) (it : Attempt) (server : ℕ) (got : Outcome)
       → Ends steps old it new → outcome_of it ≡ Some got → server_of it ≡ server
@@ -159,15 +173,12 @@ module _ {H : Type 0} {steps : H → HealthItem → H → Type 0} where
         gains = gains_one step;
         is = λ request count. (count, op, known, refl);
       }))
+  ended old new (attempt.Aborted at) server got same is at_is =
+      let none : outcome.Aborted ≡ got = cc in
+      unrecorded old new (attempt.Aborted at) at server outcome.Aborted got (λ request count. (count, refl)) same none at_is
   ended old new (attempt.Spent at) server got same is at_is =
       let none : outcome.Spent ≡ got = cc in
-      let P : ℕ → Outcome → H → Type 0 =
-      λ n o h. GoesOn steps old (λ more. (request : Request) (count : ℕ) → IsAttempt request (look_up n (reply.Up count) ∷ came n request (Ok o) ∷ more) (attempt.Spent at)) h in
-      subst (λ (n : ℕ). P n got new) at_is (subst (λ (o : Outcome). P at o new) none (subst (λ (h : H). P at outcome.Spent h) (sym same) (record {
-        items = [];
-        gains = gains_none old;
-        is = λ request count. (count, refl);
-      })))
+      unrecorded old new (attempt.Spent at) at server outcome.Spent got (λ request count. (count, refl)) same none at_is
 
   -- what came of a send, and the call that recorded it, make the attempt
   pub recorded : {old new : H} (waiting : Awaited) {all : List Attempt}

@@ -65,6 +65,7 @@ sends_by_outcome (outcome.Reply response) op server s is = refl
 sends_by_outcome outcome.Timeout op server s is = refl
 sends_by_outcome outcome.Refused op server s is = refl
 sends_by_outcome outcome.Broken op server s is = refl
+sends_by_outcome outcome.Aborted op server s is = refl
 sends_by_outcome outcome.Spent op server s is = absurd (none_is_some is)
 
 -- the calls of an attempt sent to a server as often as the attempt did
@@ -75,6 +76,10 @@ sends_by_attempt s request calls (attempt.Sent server got answer) (count, op, kn
     let total : sum_by (sends_of s) calls ≡ (0 + 0) + part_of (is_sent got) server s + 0 = ap (sum_by (sends_of s)) is in
     let one : sends_in s (attempt.Sent server got answer ∷ []) ≡ part_of true server s = zero-add (part_of true server s) in
     omega (arith, total, one, sends_by_outcome got op server s known)
+sends_by_attempt s request calls (attempt.Aborted server) (count, is) =
+    let total : sum_by (sends_of s) calls ≡ (0 + 0) + part_of true server s = ap (sum_by (sends_of s)) is in
+    let one : sends_in s (attempt.Aborted server ∷ []) ≡ part_of true server s = zero-add (part_of true server s) in
+    omega (arith, total, one)
 sends_by_attempt s request calls (attempt.Spent server) (count, is) = ap (sum_by (sends_of s)) is
 
 sends_by_lead : (form : ℕ → Request) (s place : ℕ) (trail : List Attempt) (before after : List Call)

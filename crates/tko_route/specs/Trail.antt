@@ -22,12 +22,14 @@ op_of (outcome.Reply response) = Some Success
 op_of outcome.Refused = Some HardFailure
 op_of outcome.Timeout = Some SoftFailure
 op_of outcome.Broken = Some SoftFailure
+op_of outcome.Aborted = None
 op_of outcome.Spent = None
 
 -- the server that an attempt was at
 abbrev pub server_of : Attempt → ℕ
 server_of (attempt.Skipped server mark) = server
 server_of (attempt.Sent server got answer) = server
+server_of (attempt.Aborted server) = server
 server_of (attempt.Spent server) = server
 
 -- what a server answered
@@ -36,18 +38,21 @@ response_in (outcome.Reply response) = Some response
 response_in outcome.Timeout = None
 response_in outcome.Refused = None
 response_in outcome.Broken = None
+response_in outcome.Aborted = None
 response_in outcome.Spent = None
 
 -- the response that an attempt got
 abbrev pub response_of : Attempt → Option Response
 response_of (attempt.Skipped server mark) = None
 response_of (attempt.Sent server got answer) = response_in got
+response_of (attempt.Aborted server) = None
 response_of (attempt.Spent server) = None
 
 -- what came of the exchange that an attempt was
 abbrev pub outcome_of : Attempt → Option Outcome
 outcome_of (attempt.Skipped server mark) = None
 outcome_of (attempt.Sent server got answer) = Some got
+outcome_of (attempt.Aborted server) = Some outcome.Aborted
 outcome_of (attempt.Spent server) = Some outcome.Spent
 
 -- an attempt that got a response
@@ -58,6 +63,7 @@ IsAnswer it = IsSome (response_of it)
 abbrev pub is_send : ℕ → Attempt → Bool
 is_send server (attempt.Skipped at mark) = false
 is_send server (attempt.Sent at got answer) = at == server
+is_send server (attempt.Aborted at) = at == server
 is_send server (attempt.Spent at) = false
 
 -- how often a trail sent to this server
@@ -108,16 +114,18 @@ IsRecorded steps old report new =
     (λ op. (reply : Reply) × (report.reply ≡ Some reply)
     × steps old (Called op report.server reply) new)
 
--- an attempt ended so: what came of its exchange was recorded, by the table of outcomes
+-- an attempt ended so: what came of its exchange was recorded, by the table of outcomes, which
+-- records nothing of an aborted exchange and of one that sent nothing
 abbrev pub Ends : {H : Type 0} → (H → HealthItem → H → Type 0) → H → Attempt → H → Type 0
 Ends steps old (attempt.Skipped server mark) new = ⊥
 Ends steps old (attempt.Sent server got answer) new =
     (op : Op) × (op_of got ≡ Some op) × steps old (Called op server answer) new
+Ends steps old (attempt.Aborted server) new = new ≡ old
 Ends steps old (attempt.Spent server) new = new ≡ old
 
 -- the calls of one attempt: a look-up that found that mark; or one that found the server up, then
 -- the exchange, then the call that the table of outcomes names; or one that found the server up,
--- and an exchange that sent nothing, since the server's count is used up
+-- and an exchange that was aborted, or that sent nothing, since the server's count is used up
 abbrev pub IsAttempt : Request → List Call → Attempt → Type 0
 IsAttempt request calls (attempt.Skipped server mark) =
     calls ≡ look_up server (reply.Marked mark) ∷ []
@@ -125,6 +133,9 @@ IsAttempt request calls (attempt.Sent server got answer) =
     (count : ℕ) × (op : Op) × (op_of got ≡ Some op)
     × (calls ≡ look_up server (reply.Up count) ∷ came server request (Ok got)
     ∷ Told (Called op server answer) ∷ [])
+IsAttempt request calls (attempt.Aborted server) =
+    (count : ℕ)
+    × (calls ≡ look_up server (reply.Up count) ∷ came server request (Ok outcome.Aborted) ∷ [])
 IsAttempt request calls (attempt.Spent server) =
     (count : ℕ)
     × (calls ≡ look_up server (reply.Up count) ∷ came server request (Ok outcome.Spent) ∷ [])

@@ -10,8 +10,11 @@ use tko_model::{Mark, Reply};
 pub enum Attempt {
     /// The server has this mark, so nothing was sent.
     Skipped(usize, Mark),
-    /// The request was sent, this came of it, and the tracker answered so.
+    /// The request was sent, this came of it and was recorded, and the tracker answered so.
     Sent(usize, Outcome, Reply),
+    /// The request was sent, and the connection failed while the answer to another request was
+    /// awaited. The tracker was told nothing.
+    Aborted(usize),
     /// The server's count of sends is used up, so nothing was sent.
     Spent(usize),
 }

@@ -78,7 +78,7 @@ fn record_outcome<R: Wait, H: Health>(
         Outcome::Reply(_) => Some(health.success(rt, server)),
         Outcome::Refused => Some(health.hard_failure(rt, server)),
         Outcome::Timeout | Outcome::Broken => Some(health.soft_failure(rt, server)),
-        Outcome::Spent => None,
+        Outcome::Aborted | Outcome::Spent => None,
     }
 }
 
@@ -97,6 +97,7 @@ pub(crate) fn conclude<R: Wait, H: Health>(
 {
     match record_outcome(rt, health, server, &outcome) {
         Some(reply) => Attempt::Sent(server, outcome, reply),
+        None if matches!(outcome, Outcome::Aborted) => Attempt::Aborted(server),
         None => Attempt::Spent(server),
     }
 }
