@@ -77,6 +77,7 @@ length-noted_one (attempt.Skipped server mark) probers = refl
 length-noted_one (attempt.Sent server came answer) probers =
     elim (is_taken answer) as (λ taken. length (if taken then with_slot probers server Marked else probers).slots ≡ length probers.slots)
     [ true ↦ length-set probers.slots server Marked | false ↦ refl ]
+length-noted_one (attempt.Aborted server) probers = refl
 length-noted_one (attempt.Spent server) probers = refl
 
 -- noting a trail leaves a slot for each server

@@ -62,6 +62,7 @@ abbrev pub noted_one : Attempt → ProbersState → ProbersState
 noted_one (attempt.Skipped server mark) probers = probers
 noted_one (attempt.Sent server came answer) probers =
     if is_taken answer then with_slot probers server Marked else probers
+noted_one (attempt.Aborted server) probers = probers
 noted_one (attempt.Spent server) probers = probers
 
 -- after the attempts of a trail, in order
@@ -86,6 +87,7 @@ probed_by (outcome.Reply response) = probe.Answered
 probed_by outcome.Refused = probe.Refused
 probed_by outcome.Timeout = probe.Failed
 probed_by outcome.Broken = probe.Failed
+probed_by outcome.Aborted = probe.Failed
 probed_by outcome.Spent = probe.Failed
 
 -- what came of a probe; one for which memory ran out has failed

@@ -99,7 +99,8 @@ fn probed_of(came: &Result<Outcome, tko_links::NoMemory>) -> Probed
     match came {
         Ok(Outcome::Reply(_)) => Probed::Answered,
         Ok(Outcome::Refused) => Probed::Refused,
-        Ok(Outcome::Timeout | Outcome::Broken | Outcome::Spent) => Probed::Failed,
+        Ok(Outcome::Timeout | Outcome::Broken) => Probed::Failed,
+        Ok(Outcome::Aborted | Outcome::Spent) => Probed::Failed,
         Err(_) => Probed::Failed,
     }
 }
