@@ -13,12 +13,14 @@ use Rattle.tko_answer.specs.TrailEvents.{TrailEvent, Asked, Tried}
 abbrev pub is_sent : Attempt → Bool
 is_sent (attempt.Skipped server mark) = false
 is_sent (attempt.Sent server came answer) = true
+is_sent (attempt.Aborted server) = true
 is_sent (attempt.Spent server) = false
 
 -- the server was passed over because of its mark
 abbrev pub is_skipped : Attempt → Bool
 is_skipped (attempt.Skipped server mark) = true
 is_skipped (attempt.Sent server came answer) = false
+is_skipped (attempt.Aborted server) = false
 is_skipped (attempt.Spent server) = false
 
 -- what came is a response
@@ -27,12 +29,14 @@ is_response (outcome.Reply response) = true
 is_response outcome.Timeout = false
 is_response outcome.Refused = false
 is_response outcome.Broken = false
+is_response outcome.Aborted = false
 is_response outcome.Spent = false
 
 -- the server gave a response
 abbrev pub is_replied : Attempt → Bool
 is_replied (attempt.Skipped server mark) = false
 is_replied (attempt.Sent server came answer) = is_response came
+is_replied (attempt.Aborted server) = false
 is_replied (attempt.Spent server) = false
 
 -- a trail without a response

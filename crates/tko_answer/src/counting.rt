@@ -59,7 +59,7 @@ fn replies_in(attempts: &[Attempt]) -> u64
 fn is_sent(attempt: &Attempt) -> bool
     ensures { result ≡ is_sent attempt.now }
 {
-    matches!(attempt, Attempt::Sent(_, _, _))
+    matches!(attempt, Attempt::Sent(_, _, _) | Attempt::Aborted(_))
 }
 
 fn is_skipped(attempt: &Attempt) -> bool
