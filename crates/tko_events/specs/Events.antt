@@ -34,5 +34,6 @@ cause_of (Ok (outcome.Reply response)) = cause.Reply
 cause_of (Ok outcome.Timeout) = cause.Timeout
 cause_of (Ok outcome.Refused) = cause.Refused
 cause_of (Ok outcome.Broken) = cause.Broken
+cause_of (Ok outcome.Aborted) = cause.Aborted
 cause_of (Ok outcome.Spent) = cause.Spent
 cause_of (Err fault) = cause.Memory

@@ -55,6 +55,7 @@ pub enum Cause {
     Timeout,
     Refused,
     Broken,
+    Aborted,
     Spent,
     Memory,
 }
@@ -98,6 +99,7 @@ impl Cause {
             Ok(Outcome::Timeout) => Cause::Timeout,
             Ok(Outcome::Refused) => Cause::Refused,
             Ok(Outcome::Broken) => Cause::Broken,
+            Ok(Outcome::Aborted) => Cause::Aborted,
             Ok(Outcome::Spent) => Cause::Spent,
             Err(_) => Cause::Memory,
         }
@@ -110,6 +112,7 @@ impl Cause {
             Some(Cause::Timeout) => "timeout",
             Some(Cause::Refused) => "refused",
             Some(Cause::Broken) => "broken",
+            Some(Cause::Aborted) => "aborted",
             Some(Cause::Spent) => "spent",
             Some(Cause::Memory) => "memory",
             None => "none",
