@@ -1,3 +1,4 @@
 mod LendingLemmas
 mod MemberLemmas
 mod RunLemmas
+mod WorkLemmas

@@ -1,9 +1,10 @@
 pub mod Accepting
 pub mod Allotments
+pub mod ClientEnds
 pub mod Closing
 pub mod Pacing
 pub mod Reports
-pub mod Rounds
 pub mod Runs
 pub mod Watching
+pub mod Worked
 pub mod Workers

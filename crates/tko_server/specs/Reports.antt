@@ -7,7 +7,6 @@ use Rattle.tko_metrics.specs.declared.worker_meter.Ending.{Ending}
 use Rattle.tko_metrics.specs.declared.worker_meter.Ending.TheVariants as ending
 use Rattle.tko_session.specs.declared.fault.SessionFault.{SessionFault}
 use Rattle.tko_session.specs.declared.fault.SessionFault.TheVariants as fault
-use Rattle.tko_turns.specs.declared.step.Report.{Report}
 
 abbrev pub no_report : WorkerReport
 no_report = record { sessions = 0; faults = 0; memory = false; ledger_full = false }
@@ -33,11 +32,6 @@ counted_session report (Err cause) = record report {
   faults = capped (report.faults + 1);
   memory = report.memory || ran_out cause;
 }
-
--- one session more, however it ended
-pub record IsSessionCounted (old new : WorkerReport) : Type 0 where
-  pub served : Result Report SessionFault
-  pub counted : new ≡ counted_session old served
 
 -- a round more, in which memory ran out or did not
 abbrev pub with_memory : WorkerReport → Bool → WorkerReport

@@ -1,7 +1,12 @@
 //! A worker: one thread that serves one connection after another.
-ghost use Rattle.std.specs.Prelude.{◌≡◌, ◌≤◌, length};
-ghost use Rattle.tko_server.specs.Rounds.{IsRoundNoted};
-ghost use Rattle.tko_server.specs.Reports.{IsSessionCounted, ending_of};
+ghost use Rattle.std.specs.Prelude.{◌≡◌, ◌≤◌, Bool, Result, false, is_err, length};
+ghost use Rattle.tko_health.specs.Seating.{Leaves};
+ghost use Rattle.tko_io.specs.Io.{capped};
+ghost use Rattle.tko_session.specs.declared.fault.SessionFault.{SessionFault};
+ghost use Rattle.tko_turns.specs.declared.step.Report.{Report};
+ghost use Rattle.tko_server.specs.Reports.{ending_of};
+ghost use Rattle.tko_server.specs.ClientEnds.{attended, paced};
+ghost use Rattle.tko_server.specs.Worked.{HasWorked, IsRested, IsSession, IsSettled, at_work, probes_below, unsettled, worker_ghosts};
 ghost use Rattle.tko_server.specs.Workers.{IsEquipped};
 ghost use Rattle.tko_answer.specs.Answers.{Reaches};
 ghost use Rattle.tko_backend.specs.Ghosts.{backend_ghosts};
@@ -14,7 +19,7 @@ use std::alloc::Global;
 use std::sync::Wait;
 use std::sync::atomic::AtomicU64;
 use tko_backend::{Backend, Clock, Probers};
-use tko_counts::Kind;
+use tko_counts::{Counts, Kind};
 use tko_health::{Health, Seating};
 use tko_io::{Inlet, Outlet};
 use tko_links::{IoRuntime, Links};
@@ -48,6 +53,12 @@ pub fn worker<R: IoRuntime, C: Source + Drop, S: Seating, L: Links + Drop, M: Cl
     requires own { S.own parts.seating.now idle }
     requires equipped { IsEquipped S.servers L.servers parts }
     ensures own { S.own parts.entry.seating.now result.0 }
+    ensures worked { HasWorked (worker_ghosts
+        (attended {M = C.Clock} C.Reader.Inlet) (paced {M = C.Clock} C.Writer.Outlet)
+        (backend_ghosts S.Worker.Health L.Links M.Clock))
+        (S.begins parts.entry.seating.now idle)
+        (Leaves S.Worker.Health.steps (S.gives_back parts.entry.seating.now))
+        parts.entry result }
 {
     let WorkerParts {
         seating,
@@ -114,7 +125,9 @@ impl<'r, H: Health, L: Links, M: Clock, W: Clock> Working<'r, H, L, M, W> {
     ) -> bool
         requires reach { Reaches H.servers L.servers self.old.parts }
         ensures reach { Reaches H.servers L.servers self.new.parts }
-        ensures report { IsSessionCounted self.old.report self.new.report }
+        ensures session { (ended : Result Report SessionFault) × (result ≡ is_err ended)
+            × IsSession (worker_ghosts (attended {M = W} I.Inlet) O.Outlet
+            (backend_ghosts H.Health L.Links M.Clock)) (at_work self.old) ended (at_work self.new) }
     {
         self.attendance.begin(rt, limit);
         let mut reader = Attended::new(reader, &mut self.attendance);
@@ -128,8 +141,8 @@ impl<'r, H: Health, L: Links, M: Clock, W: Clock> Working<'r, H, L, M, W> {
     fn round<R: IoRuntime>(&mut self, rt: &R)
         requires reach { Reaches H.servers L.servers self.old.parts }
         ensures reach { Reaches H.servers L.servers self.new.parts }
-        ensures round { IsRoundNoted (backend_ghosts H.Health L.Links M.Clock)
-            (self.old.parts.backend, self.old.report) (self.new.parts.backend, self.new.report) }
+        ensures round { (short : Bool) × IsRested (backend_ghosts H.Health L.Links M.Clock)
+            (at_work self.old) short (at_work self.new) }
     {
         let rounded = round(rt, &mut self.parts);
         self.report.note_round(rounded.is_err());
@@ -140,15 +153,27 @@ impl<'r, H: Health, L: Links, M: Clock, W: Clock> Working<'r, H, L, M, W> {
     fn settle<R: Wait>(&mut self, rt: &R, account: &mut Account<'_>)
         requires reach { Reaches H.servers L.servers self.old.parts }
         ensures reach { Reaches H.servers L.servers self.new.parts }
+        ensures settled { (full : Bool) × IsSettled (backend_ghosts H.Health L.Links M.Clock)
+            (at_work self.old) full (at_work self.new) }
+    {
+        let counts = self.take_counts();
+        let full = account.add(rt, &counts);
+        self.report.ledger_full |= full;
+    }
+
+    /// What the account lacks, which it is given now.
+    fn take_counts(&mut self) -> Counts
+        requires reach { Reaches H.servers L.servers self.old.parts }
+        ensures counts { result ≡ unsettled (backend_ghosts H.Health L.Links M.Clock)
+            (at_work self.old) }
+        ensures settled { IsSettled (backend_ghosts H.Health L.Links M.Clock)
+            (at_work self.old) false (at_work self.new) }
     {
         let servers = self.parts.config.addresses().len();
         let probes = probes_of(&self.parts.backend.links, servers);
         let more = probes.saturating_sub(self.probes);
-        let counts = self.parts.trails.take().saturating_add(Kind::Probe, more);
-        if account.add(rt, &counts) {
-            self.report.ledger_full = true;
-        }
         self.probes = probes;
+        self.parts.trails.take().saturating_add(Kind::Probe, more)
     }
 }
 
@@ -168,6 +193,7 @@ fn ending_of(served: &Result<Report, SessionFault>) -> Ending
 /// How many probes these links sent to the first `servers` servers; it stays at 2^64 - 1.
 fn probes_of<L: Links>(links: &L, servers: usize) -> u64
     requires { servers ≤ L.servers links.now }
+    ensures { result ≡ capped (probes_below (L.probed links.now) servers) }
 {
     let mut probes = 0u64;
     for server in 0..servers {
