@@ -5,6 +5,8 @@ use Rattle.tko_links.specs.declared.links.Outcome.{Outcome}
 use Rattle.tko_links.specs.declared.links.Outcome.TheVariants as outcome
 use Rattle.tko_model.specs.declared.mark.Reply.{Reply}
 use Rattle.tko_model.specs.declared.mark.Reply.TheVariants as reply
+use Rattle.tko_metrics.specs.declared.worker_meter.Marking.{Marking}
+use Rattle.tko_metrics.specs.declared.worker_meter.Marking.TheVariants as marking
 use Rattle.tko_events.specs.declared.event.Cause.{Cause}
 use Rattle.tko_events.specs.declared.event.Cause.TheVariants as cause
 use Rattle.tko_events.specs.declared.event.Change.{Change}
@@ -27,6 +29,15 @@ change_in (reply.Reset count) = None
 change_in (reply.Unmarked mark) = Some change.Unmarked
 change_in (reply.Released mark) = Some change.Released
 change_in (reply.NotMine mark) = None
+
+-- the mark that its worker has on the server after a change; a probe leaves it as it was
+abbrev pub marking_after : Change → Option Marking
+marking_after change.MarkedSoft = Some marking.Soft
+marking_after change.MarkedHard = Some marking.Hard
+marking_after change.Hardened = Some marking.Hard
+marking_after change.Unmarked = Some marking.Up
+marking_after change.Released = Some marking.Up
+marking_after change.Probed = None
 
 -- what came of a request or of a probe, without the response
 abbrev pub cause_of : Result Outcome NoMemory → Cause

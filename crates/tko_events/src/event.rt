@@ -1,8 +1,10 @@
 //! What the log tells.
 ghost use Rattle.std.specs.Prelude.{◌≡◌};
-ghost use Rattle.tko_events.specs.Events.{cause_of, change_in};
+ghost use Rattle.tko_events.specs.Events.{cause_of, change_in, marking_after};
+ghost use Rattle.tko_events.specs.Lines.{cause_word, change_word};
 
 use tko_links::{NoMemory, Outcome};
+use tko_metrics::Marking;
 use tko_model::Reply;
 
 /// One event.
@@ -77,8 +79,22 @@ impl Change {
         }
     }
 
+    /// The mark that its worker has on the server from then on; `None` leaves it as it was.
+    pub fn marking(self) -> Option<Marking>
+        ensures { result ≡ marking_after self }
+    {
+        match self {
+            Change::MarkedSoft => Some(Marking::Soft),
+            Change::MarkedHard | Change::Hardened => Some(Marking::Hard),
+            Change::Unmarked | Change::Released => Some(Marking::Up),
+            Change::Probed => None,
+        }
+    }
+
     /// The second word of its line.
-    pub fn word(self) -> &'static str {
+    pub fn word(self) -> &'static str
+        ensures { result.now ≡ change_word self }
+    {
         match self {
             Change::MarkedSoft | Change::MarkedHard => "marked",
             Change::Hardened => "hardened",
@@ -106,7 +122,9 @@ impl Cause {
     }
 
     /// The word of a cause in a line, `none` where there is none.
-    pub fn word(cause: Option<Cause>) -> &'static str {
+    pub fn word(cause: Option<Cause>) -> &'static str
+        ensures { result.now ≡ cause_word cause }
+    {
         match cause {
             Some(Cause::Reply) => "reply",
             Some(Cause::Timeout) => "timeout",

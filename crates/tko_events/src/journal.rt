@@ -1,5 +1,6 @@
 //! The lines of the log.
-ghost use Rattle.std.specs.Prelude.{◌≡◌};
+ghost use Rattle.std.specs.Prelude.{◌≡◌, ◌<◌, ◌+◌, ◌-◌, ◌^◌, length, min, slice_set};
+ghost use Rattle.tko_events.specs.Lines.{address_at, count_in, known_at, mark_word, noted};
 
 use crate::event::{Cause, Change, Event, What};
 use crate::moment::Utc;
@@ -7,7 +8,7 @@ use std::alloc::{AllocError, Global};
 
 /// The mark of a server in a line.
 #[derive(Clone, Copy, Debug, PartialEq, Eq)]
-enum Marked {
+pub(crate) enum Marked {
     Up,
     Soft,
     Hard,
@@ -15,7 +16,7 @@ enum Marked {
 
 /// What the log knows of a server.
 #[derive(Clone, Copy, Debug, PartialEq, Eq)]
-struct Known {
+pub(crate) struct Known {
     mark: Marked,
     /// The probes since it was marked.
     probes: u64,
@@ -91,7 +92,9 @@ impl Journal {
     }
 
     /// The address of a server.
-    fn name(&self, server: usize) -> &str {
+    fn name(&self, server: usize) -> &str
+        ensures { result.now ≡ address_at self.now.names.items server }
+    {
         match self.names.get(server) {
             Some(name) => name.as_str(),
             None => "?",
@@ -100,18 +103,30 @@ impl Journal {
 
     /// Notes an event of a server. Returns the server's mark from then on, and the count of its
     /// line: the failures that made a mark, or else the probes since then.
-    fn note(&mut self, server: usize, change: Change) -> (Marked, u64) {
-        let failures = u64::from(self.failures);
-        match self.servers.get_mut(server) {
-            Some(known) => known.note(failures, change),
-            None => (Marked::Up, 0),
+    fn note(&mut self, server: usize, change: Change) -> (Marked, u64)
+        ensures others { self.new ≡ record self.old { servers = self.new.servers } }
+        ensures known { server < length self.old.servers.items → self.new.servers.items
+            ≡ slice_set self.old.servers.items server
+            (noted change (known_at self.old.servers.items server)) }
+        ensures mark { server < length self.old.servers.items → result.0
+            ≡ (noted change (known_at self.old.servers.items server)).mark }
+        ensures count { server < length self.old.servers.items → result.1
+            ≡ count_in self.old.failures change (known_at self.old.servers.items server) }
+    {
+        if self.servers.len() <= server {
+            return (Marked::Up, 0);
         }
+        self.servers[server].note(u64::from(self.failures), change)
     }
 }
 
 impl Known {
     /// Notes an event. So many failures in a row make a soft mark.
-    fn note(&mut self, failures: u64, change: Change) -> (Marked, u64) {
+    fn note(&mut self, failures: u64, change: Change) -> (Marked, u64)
+        ensures known { self.new ≡ noted change self.old }
+        ensures mark { result.0 ≡ self.new.mark }
+        ensures count { result.1 ≡ count_in failures change self.old }
+    {
         let count = match change {
             Change::MarkedSoft => self.begin(Marked::Soft, failures),
             Change::MarkedHard => self.begin(Marked::Hard, 1),
@@ -123,26 +138,38 @@ impl Known {
     }
 
     /// A mark of this kind begins, made by this many failures.
-    fn begin(&mut self, mark: Marked, failures: u64) -> u64 {
+    fn begin(&mut self, mark: Marked, failures: u64) -> u64
+        ensures known { self.new ≡ record { mark = mark; probes = 0 } }
+        ensures count { result ≡ failures }
+    {
         self.mark = mark;
         self.probes = 0;
         failures
     }
 
     /// The mark turns into this one.
-    fn turn(&mut self, mark: Marked) -> u64 {
+    fn turn(&mut self, mark: Marked) -> u64
+        ensures known { self.new ≡ record self.old { mark = mark } }
+        ensures count { result ≡ self.old.probes }
+    {
         self.mark = mark;
         self.probes
     }
 
-    fn count_probe(&mut self) -> u64 {
+    fn count_probe(&mut self) -> u64
+        ensures known { self.new
+            ≡ record self.old { probes = min (self.old.probes + 1) (2 ^ 64 - 1) } }
+        ensures count { result ≡ self.new.probes }
+    {
         self.probes = self.probes.saturating_add(1);
         self.probes
     }
 }
 
 impl Marked {
-    fn word(self) -> &'static str {
+    fn word(self) -> &'static str
+        ensures { result.now ≡ mark_word self }
+    {
         match self {
             Marked::Up => "up",
             Marked::Soft => "soft",

@@ -7,7 +7,7 @@ use std::alloc::{AllocError, Global};
 use std::sync::{Arc, Mutex, Wait};
 use std::time::Clock;
 use tko_links::{NoMemory, Outcome};
-use tko_metrics::{Marking, WorkerMeter};
+use tko_metrics::WorkerMeter;
 use tko_model::Reply;
 
 /// What came of the last exchange that failed, or of the last probe, and when.
@@ -135,12 +135,8 @@ impl WorkerLog {
 
     /// Counts what became of the worker's mark on a server at this moment.
     fn count_mark(&self, server: usize, change: Change, moment: u64) {
-        let mark = match change {
-            Change::MarkedSoft => Marking::Soft,
-            Change::MarkedHard | Change::Hardened => Marking::Hard,
-            Change::Unmarked | Change::Released => Marking::Up,
-            Change::Probed => return,
-        };
-        self.meter.set_mark(server, mark, moment);
+        if let Some(mark) = change.marking() {
+            self.meter.set_mark(server, mark, moment);
+        }
     }
 }

@@ -1,0 +1,57 @@
+-- The words and the numbers of a server's line.
+use Rattle.std.specs.Prelude.{ℕ, ◌+◌, ◌-◌, ◌^◌, min, List, Option, Some, None, codes, option_map, slice_get, slice_index_or, String, string_bytes, unwrap_or}
+use Rattle.tko_events.specs.declared.event.Cause.{Cause}
+use Rattle.tko_events.specs.declared.event.Cause.TheVariants as cause
+use Rattle.tko_events.specs.declared.event.Change.{Change}
+use Rattle.tko_events.specs.declared.event.Change.TheVariants as change
+use Rattle.tko_events.specs.declared.journal.Known.{Known}
+use Rattle.tko_events.specs.declared.journal.Marked.{Marked}
+use Rattle.tko_events.specs.declared.journal.Marked.TheVariants as marked
+
+abbrev pub change_word : Change → List ℕ
+change_word change.MarkedSoft = codes "marked"
+change_word change.MarkedHard = codes "marked"
+change_word change.Hardened = codes "hardened"
+change_word change.Unmarked = codes "unmarked"
+change_word change.Released = codes "released"
+change_word change.Probed = codes "probed"
+
+abbrev pub cause_word : Option Cause → List ℕ
+cause_word (Some cause.Reply) = codes "reply"
+cause_word (Some cause.Timeout) = codes "timeout"
+cause_word (Some cause.Refused) = codes "refused"
+cause_word (Some cause.Broken) = codes "broken"
+cause_word (Some cause.Spent) = codes "spent"
+cause_word (Some cause.Memory) = codes "memory"
+cause_word None = codes "none"
+
+abbrev pub mark_word : Marked → List ℕ
+mark_word marked.Up = codes "up"
+mark_word marked.Soft = codes "soft"
+mark_word marked.Hard = codes "hard"
+
+-- the address of a server, or a question mark where there is no such server
+abbrev pub address_at : {A : Type 0} → List (String A) → ℕ → List ℕ
+address_at names server = unwrap_or (option_map string_bytes (slice_get names server)) (codes "?")
+
+-- what is known of a server; of one that there is not, that it is up
+abbrev pub known_at : List Known → ℕ → Known
+known_at servers server = slice_index_or servers server (record { mark = marked.Up; probes = 0 })
+
+-- what is known of a server after an event: its mark, and its probes since it was marked
+abbrev pub noted : Change → Known → Known
+noted change.MarkedSoft known = record { mark = marked.Soft; probes = 0 }
+noted change.MarkedHard known = record { mark = marked.Hard; probes = 0 }
+noted change.Hardened known = record known { mark = marked.Hard }
+noted change.Unmarked known = record known { mark = marked.Up }
+noted change.Released known = record known { mark = marked.Up }
+noted change.Probed known = record known { probes = min (known.probes + 1) (2 ^ 64 - 1) }
+
+-- the count of an event's line: the failures that made a mark, or else the probes since it was made
+abbrev pub count_in : ℕ → Change → Known → ℕ
+count_in failures change.MarkedSoft known = failures
+count_in failures change.MarkedHard known = 1
+count_in failures change.Hardened known = known.probes
+count_in failures change.Unmarked known = known.probes
+count_in failures change.Released known = known.probes
+count_in failures change.Probed known = (noted change.Probed known).probes
