@@ -13,6 +13,7 @@ outcome_text (outcome.Reply response) = codes "reply"
 outcome_text outcome.Timeout = codes "timeout"
 outcome_text outcome.Refused = codes "refused"
 outcome_text outcome.Broken = codes "broken"
+outcome_text outcome.Aborted = codes "aborted"
 outcome_text outcome.Spent = codes "spent"
 
 -- what came of an attempt, after the server's number
@@ -20,6 +21,7 @@ abbrev pub end_text : Attempt → List ℕ
 end_text (attempt.Skipped server mark) = codes "skipped " ++ mark_text mark
 end_text (attempt.Sent server outcome reply) =
     codes "sent " ++ outcome_text outcome ++ codes " " ++ reply_text reply
+end_text (attempt.Aborted server) = codes "aborted"
 end_text (attempt.Spent server) = codes "spent"
 
 -- the line of an attempt at the routed request of this number

@@ -21,7 +21,11 @@ pub(crate) fn trail_lines(alloc: Global, trails: &[Trail]) -> Result<Vec<u8>, No
     Ok(out)
 }
 
-fn append_trail(out: &mut Vec<u8>, number: usize, attempts: &[Attempt]) -> Result<(), NoMemory>
+pub(crate) fn append_trail(
+    out: &mut Vec<u8>,
+    number: usize,
+    attempts: &[Attempt],
+) -> Result<(), NoMemory>
     ensures { OnOk result (out.new.items ≡ out.old.items ++ trail_text number attempts.now) }
 {
     for attempt in attempts {
@@ -45,8 +49,8 @@ fn server_of(attempt: &Attempt) -> usize
     ensures { result ≡ server_of attempt.now }
 {
     match attempt {
-        Attempt::Skipped(server, _) | Attempt::Sent(server, _, _) | Attempt::Spent(server) =>
-            *server,
+        Attempt::Skipped(server, _) | Attempt::Sent(server, _, _) => *server,
+        Attempt::Aborted(server) | Attempt::Spent(server) => *server,
     }
 }
 
@@ -64,6 +68,7 @@ fn append_end(out: &mut Vec<u8>, attempt: &Attempt) -> Result<(), NoMemory>
             out.extend_from_slice(b" ")?;
             append_reply(out, *reply)?;
         }
+        Attempt::Aborted(_) => out.extend_from_slice(b"aborted")?,
         Attempt::Spent(_) => out.extend_from_slice(b"spent")?,
     }
     Ok(())
@@ -78,6 +83,7 @@ fn append_outcome(out: &mut Vec<u8>, outcome: &Outcome) -> Result<(), NoMemory>
         Outcome::Timeout => b"timeout",
         Outcome::Refused => b"refused",
         Outcome::Broken => b"broken",
+        Outcome::Aborted => b"aborted",
         Outcome::Spent => b"spent",
     })?;
     Ok(())
