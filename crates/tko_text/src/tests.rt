@@ -127,3 +127,53 @@ fn a_response_takes_its_bytes(rt: HostRuntime) -> Result<(), Fail> {
     }
     Ok(())
 }
+
+/// The greatest value.
+fn greatest_value(alloc: Global) -> Result<Vec<u8>, Fail> {
+    Ok(vec![in alloc; b'v'; 1_048_576]?)
+}
+
+/// A line of 65,536 bytes before its LF, with as many keys as fit in.
+fn most_keys(alloc: Global) -> Result<Vec<u8>, Fail> {
+    let mut text = Vec::from_slice(alloc, b"get")?;
+    for _ in 0..32_766 {
+        text.extend_from_slice(b" k")?;
+    }
+    text.extend_from_slice(b"\r\n")?;
+    Ok(text)
+}
+
+/// A request that stores the greatest value.
+fn greatest_store(alloc: Global) -> Result<Vec<u8>, Fail> {
+    let mut text = Vec::from_slice(alloc, b"set k 0 0 1048576\r\n")?;
+    text.extend_from_slice(greatest_value(alloc)?.as_slice())?;
+    text.extend_from_slice(b"\r\n")?;
+    Ok(text)
+}
+
+#[test]
+fn the_greatest_requests_are_written(rt: HostRuntime) -> Result<(), Fail> {
+    let alloc = rt.alloc();
+    for text in [most_keys(alloc)?, greatest_store(alloc)?] {
+        let mut reader = Reader::new(alloc);
+        reader.feed(text.as_slice())?;
+        let Some(Item::Request(request)) = reader.next()? else {
+            return Err("no request".into());
+        };
+        assert!(rt; request.write(alloc)? == text);
+    }
+    Ok(())
+}
+
+#[test]
+fn the_greatest_response_is_read_and_written(rt: HostRuntime) -> Result<(), Fail> {
+    let alloc = rt.alloc();
+    let mut text = Vec::from_slice(alloc, b"VALUE a 4294967295 1048576\r\n")?;
+    text.extend_from_slice(greatest_value(alloc)?.as_slice())?;
+    text.extend_from_slice(b"\r\nEND\r\n")?;
+    let request = request_of(alloc, "get a")?;
+    let (response, taken) = Response::read(alloc, &request, text.as_slice())?;
+    assert_eq!(rt; taken, text.len());
+    assert!(rt; response.write(alloc)? == text);
+    Ok(())
+}
