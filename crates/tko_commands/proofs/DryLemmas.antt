@@ -1,5 +1,5 @@
 -- What a dry run begins with and does.
-use Rattle.std.proofs.Common.{◌≡◌, ◌<◌, ℕ, List, length, Some, Option, arith, refl, subst, sym}
+use Rattle.std.proofs.Common.{◌≡◌, ◌<◌, ℕ, List, length, Some, true, Option, refl, subst, sym}
 use Rattle.std.proofs.lemmas.List.{length-replicate}
 use Rattle.std.proofs.lemmas.List.FromFn.{length-map-range_with_len}
 use Rattle.tko_model.specs.Ranges.{first_fault}
@@ -14,21 +14,22 @@ use Rattle.tko_io.specs.declared.io.Inlet.{Ghosts as InletGhosts}
 use Rattle.tko_io.specs.declared.io.Outlet.{Ghosts as OutletGhosts}
 use Rattle.tko_session.specs.declared.fault.SessionFault.{SessionFault}
 use Rattle.tko_session.specs.declared.fault.SessionFault.TheVariants as session_fault
-use Rattle.tko_session.specs.Ends.{SessionStops}
-use Rattle.tko_turns.specs.Events.{turns_of}
-use Rattle.tko_session.specs.Served.{CameTooLong, Context, Served, StoppedByLine, context, serving}
+use Rattle.tko_session.specs.Ends.{IsCalm, SessionStops}
+use Rattle.tko_session.specs.Served.{Served, context, serving}
 use Rattle.tko_answer.specs.Answers.{Reaches}
-use Rattle.tko_turns.specs.SessionState.{items_of}
 use Rattle.tko_pools.specs.Configs.{Configuration, in_order}
 use Rattle.tko_commands.specs.declared.fault.Fault.{Fault}
 use Rattle.tko_commands.specs.declared.fault.Fault.TheVariants as fault
 use Rattle.tko_options.specs.declared.dry_options.DryOptions.{DryOptions}
 use Rattle.tko_commands.specs.Configured.{ConfigOf, IsConfigured, IsUnset, NoConfig, scripted_names}
 use Rattle.tko_options.specs.Trackers.{dry_settings}
-use Rattle.tko_commands.specs.DryRuns.{AreFresh, Begins, DryFails, DryParts, IsDry, IsOutside, TrailsGo, dry_effects, dry_tracker, words_in}
+use Rattle.tko_commands.specs.DryRuns.{AreFresh, Begins, DryFails, DryParts, IsDry, IsOutside, TrailsGo, at_first, before_trails, dry_effects, dry_tracker, in_replies, in_session, in_trails, words_in}
 use Rattle.tko_commands.specs.Grouped.{NoSettings}
-use Rattle.tko_commands.specs.Faults.{fault_of_opening, fault_of_session}
-use Rattle.tko_commands.specs.Outcomes.{AllAsk}
+use Rattle.tko_commands.specs.Faults.{fault_of_opening, fault_of_outcomes, fault_of_session}
+use Rattle.tko_commands.specs.Outcomes.{AllAsk, Refuses}
+use Rattle.tko_commands.specs.Texts.{WritesFront, trails_text}
+use Rattle.tko_commands.specs.declared.outcomes.OutcomesFault.{OutcomesFault}
+use Rattle.tko_commands.specs.declared.outcomes.OutcomesFault.TheVariants as outcomes_fault
 
 -- without a configuration there are as many servers as the options say
 outside_alone : (options : DryOptions) (name : SettingsFault) (scripts : List Script) → AllAsk (words_in options) scripts
@@ -73,10 +74,6 @@ begun_reaches options parts begun =
       probers = rw begun.fresh.probers (length-replicate (length parts.config.addresses) _);
     }
 
--- a count rose after it had stayed the same
-pub rose : (before between after : ℕ) → between ≡ before → between < after → before < after
-rose before between after same less = omega (arith, same, less)
-
 module _ {I O : Type 0} (inlet : InletGhosts I) (outlet : OutletGhosts O) where
   -- a session over these parts and the printing of its trails are a dry run
   pub is_dry : (options : DryOptions) (old : I) (from : O) (new : I) (middle to : O) (before after : DryParts) (report : Report)
@@ -95,26 +92,74 @@ module _ {I O : Type 0} (inlet : InletGhosts I) (outlet : OutletGhosts O) where
         trails = went;
       }
 
-  -- the last item of a session was a line too long
-  line_came : (old new : Context I O DryParts) → StoppedByLine (serving inlet outlet dry_effects) old new
-      → CameTooLong inlet.gives old.reader new.reader
-  line_came old new stopped = record {
-    bytes = stopped.transcript.bytes;
-    items = items_of (turns_of stopped.transcript.events);
-    left = stopped.transcript.left;
-    input = stopped.transcript.input;
-    reads = record { gives = stopped.transcript.items; open_end = stopped.open_end };
-    ends = stopped.ends;
-  }
-
   -- the session ended before its input did
-  pub session_failed : (options : DryOptions) (cause : SessionFault) (old new : Context I O DryParts)
-      → SessionStops (serving inlet outlet dry_effects) old cause new
-      → DryFails inlet outlet options (old.reader, old.writer) (new.reader, new.writer) (fault_of_session cause)
-  session_failed options session_fault.Read old new stops = stops.1
-  session_failed options (session_fault.Write count) old new stops = stops.1
-  session_failed options session_fault.LineTooLong old new stops = line_came old new stops.0
-  session_failed options session_fault.Memory old new stops = tt
+  pub session_failed : (options : DryOptions) (cause : SessionFault) (old : I) (from : O) (new : I) (to : O) (before after : DryParts)
+      → Begins options before
+      → SessionStops (serving inlet outlet dry_effects) (context old from before) cause (context new to after)
+      → DryFails inlet outlet options (old, from) (new, to) (fault_of_session cause)
+  session_failed options session_fault.Read old from new to before after begun stops =
+      record { before = before; after = after; begins = begun; stops = stops }
+  session_failed options (session_fault.Write count) old from new to before after begun stops =
+      in_replies count (record { before = before; after = after; begins = begun; stops = stops })
+  session_failed options session_fault.LineTooLong old from new to before after begun stops =
+      record { before = before; after = after; begins = begun; stops = stops }
+  session_failed options session_fault.Memory old from new to before after begun stops =
+      in_session (record { before = before; after = after; begins = begun; stops = stops })
+
+  -- memory ran out before the first line of the trails
+  pub no_lines : (options : DryOptions) (old : I) (from : O) (new : I) (to : O) (before after : DryParts) (report : Report)
+      → Begins options before
+      → Served (serving inlet outlet dry_effects) (context old from before) report (context new to after)
+      → IsCalm (serving inlet outlet dry_effects) (context old from before) (context new to after)
+      → options.trail ≡ true
+      → DryFails inlet outlet options (old, from) (new, to) fault.Memory
+  no_lines options old from new to before after report begun served calm asked =
+      before_trails after.trails (record {
+        before = before;
+        after = after;
+        report = report;
+        begins = begun;
+        served = served;
+        calm = calm;
+        trails_are = refl;
+        asked = asked;
+      })
+
+  -- the output failed in the lines of the trails
+  pub trails_cut : (options : DryOptions) (old : I) (from : O) (new : I) (middle to : O) (before after : DryParts) (report : Report)
+      → Begins options before
+      → Served (serving inlet outlet dry_effects) (context old from before) report (context new middle after)
+      → IsCalm (serving inlet outlet dry_effects) (context old from before) (context new middle after)
+      → options.trail ≡ true → WritesFront outlet.takes (trails_text 1 after.trails) middle to
+      → outlet.failures middle < outlet.failures to
+      → DryFails inlet outlet options (old, from) (new, to) fault.Write
+  trails_cut options old from new middle to before after report begun served calm asked part failed =
+      in_trails (record {
+        middle = middle;
+        trails = after.trails;
+        owes = record {
+          before = before;
+          after = after;
+          report = report;
+          begins = begun;
+          served = served;
+          calm = calm;
+          trails_are = refl;
+          asked = asked;
+        };
+        part = part;
+        failed = failed;
+      })
+
+  -- the list of outcomes has no scripts, so nothing was read or written
+  pub not_listed : (options : DryOptions) (here : I × O) (cause : OutcomesFault) → Refuses (words_in options) cause
+      → DryFails inlet outlet options here here (fault_of_outcomes cause)
+  not_listed options here (outcomes_fault.Word number) bad = (bad, refl, refl)
+  not_listed options here outcomes_fault.Memory bad = at_first refl refl
+
+  -- memory ran out before anything was read or written
+  pub untouched : (options : DryOptions) (here : I × O) → DryFails inlet outlet options here here fault.Memory
+  untouched options here = at_first refl refl
 
   -- the options name no configuration, so nothing was read or written
   pub not_configured : (options : DryOptions) (here : I × O) (scripts : List Script) (reason : Fault)
@@ -124,7 +169,7 @@ module _ {I O : Type 0} (inlet : InletGhosts I) (outlet : OutletGhosts O) where
       (record { scripts = scripts; asked = asked; flawed = flawed }, refl, refl)
   not_configured options here scripts (fault.Settings name) asked unset =
       (outside_alone options name scripts asked unset, refl, refl)
-  not_configured options here scripts fault.Memory asked none = tt
+  not_configured options here scripts fault.Memory asked none = at_first refl refl
   not_configured options here scripts fault.ConfigFile asked none = absurd none
   not_configured options here scripts fault.Read asked none = absurd none
   not_configured options here scripts fault.Write asked none = absurd none
@@ -151,7 +196,7 @@ module _ {I O : Type 0} (inlet : InletGhosts I) (outlet : OutletGhosts O) where
         first = first;
       } in
       (outside, refl, refl)
-  not_set options here scripts config fault.Memory asked configured none = tt
+  not_set options here scripts config fault.Memory asked configured none = at_first refl refl
   not_set options here scripts config fault.Read asked configured none = absurd none
   not_set options here scripts config fault.Write asked configured none = absurd none
   not_set options here scripts config fault.LineTooLong asked configured none = absurd none
@@ -170,4 +215,4 @@ module _ {I O : Type 0} (inlet : InletGhosts I) (outlet : OutletGhosts O) where
       → ((name : SettingsFault) → cause ≡ open_fault.Settings name → ⊥)
       → DryFails inlet outlet options here here (fault_of_opening cause)
   not_opened options here (open_fault.Settings name) never = absurd (never name refl)
-  not_opened options here open_fault.Memory never = tt
+  not_opened options here open_fault.Memory never = at_first refl refl

@@ -1,5 +1,8 @@
 -- What a dry run starts with, what it reads and writes, and why it fails.
 use Rattle.std.specs.Prelude.{◌≡◌, ◌<◌, ℕ, Bool, true, false, Some, List, [], length, replicate, slice_index, string_bytes}
+use Rattle.tko_session.specs.Ends.{IsCalm, SessionStops}
+use Rattle.tko_session.specs.declared.fault.SessionFault.{SessionFault}
+use Rattle.tko_session.specs.declared.fault.SessionFault.TheVariants as session_fault
 use Rattle.tko_model.specs.Ranges.{first_fault}
 use Rattle.tko_model.specs.Settings.{Settings, in_one_group}
 use Rattle.tko_model.specs.Tracker.{Tracker, opened}
@@ -18,7 +21,7 @@ use Rattle.tko_turns.specs.Effects.{effects_of}
 use Rattle.tko_turns.specs.Events.{Effects}
 use Rattle.tko_backend.specs.Clocks.{IsFrozen}
 use Rattle.tko_backend.specs.Probers.{no_probers}
-use Rattle.tko_session.specs.Served.{CameTooLong, Served, context, serving}
+use Rattle.tko_session.specs.Served.{Served, context, serving}
 use Rattle.tko_answer.specs.TrailEvents.{Keeps}
 use Rattle.tko_answer.specs.Ghosts.{PartsGhosts}
 use Rattle.tko_pools.specs.Configs.{Configuration}
@@ -30,7 +33,7 @@ use Rattle.tko_commands.specs.declared.fault.Fault.TheVariants as fault
 use Rattle.tko_options.specs.declared.dry_options.DryOptions.{DryOptions}
 use Rattle.tko_options.specs.Trackers.{dry_settings}
 use Rattle.tko_commands.specs.Outcomes.{AllAsk, first_bad, words_of}
-use Rattle.tko_commands.specs.Texts.{trails_text}
+use Rattle.tko_commands.specs.Texts.{WritesFront, trails_text}
 
 -- a tracker of one thread, scripted servers, the trails so far, and a clock that stands still at 0
 abbrev pub DryParts : Type 0
@@ -144,24 +147,67 @@ pub record IsDry {I O : Type 0} (inlet : InletGhosts I) (outlet : OutletGhosts O
       (context old.0 old.1 before) report (context new.0 middle after)
   pub trails : TrailsGo outlet.takes options.trail after.trails middle new.1
 
-module _ {I O : Type 0} (inlet : InletGhosts I) (outlet : OutletGhosts O) where
-  -- why a dry run fails: the options name no parts, and then nothing was read or written; an end
-  -- failed; a line was too long; or memory ran out
-  abbrev pub DryFails : DryOptions → I × O → I × O → Fault → Type 0
-  DryFails options old new (fault.Outcomes number) =
+module _ {I O : Type 0} (inlet : InletGhosts I) (outlet : OutletGhosts O) (options : DryOptions) where
+  -- a session over the parts that the options name ended by this fault, and then nothing was written
+  pub record SessionFails (cause : SessionFault) (old new : I × O) : Type 0 where
+    pub before : DryParts
+    pub after : DryParts
+    pub begins : Begins options before
+    pub stops : SessionStops (serving inlet outlet dry_effects)
+        (context old.0 old.1 before) cause (context new.0 new.1 after)
+
+  -- a session over the parts that the options name came to the end of its input, no end failed, and
+  -- the trails are asked for, these
+  pub record OwesTrails (old middle : I × O) (trails : List (List Attempt)) : Type 0 where
+    pub before : DryParts
+    pub after : DryParts
+    pub report : Report
+    pub begins : Begins options before
+    pub served : Served (serving inlet outlet dry_effects)
+        (context old.0 old.1 before) report (context middle.0 middle.1 after)
+    pub calm : IsCalm (serving inlet outlet dry_effects)
+        (context old.0 old.1 before) (context middle.0 middle.1 after)
+    pub trails_are : after.trails ≡ trails
+    pub asked : options.trail ≡ true
+
+  -- the output failed after a part of the trails' lines
+  pub record TrailsFail (old new : I × O) : Type 0 where
+    pub middle : O
+    pub trails : List (List Attempt)
+    pub owes : OwesTrails old (new.0, middle) trails
+    pub part : WritesFront outlet.takes (trails_text 1 trails) middle new.1
+    pub failed : outlet.failures middle < outlet.failures new.1
+
+  -- where the output failed: in the replies, or in the trails' lines
+  pub data OutputFails (old new : I × O) : Type 0 where
+    in_replies : (count : ℕ) → SessionFails (session_fault.Write count) old new → OutputFails old new
+    in_trails : TrailsFail old new → OutputFails old new
+
+  -- where memory ran out: before anything was read or written, in the session, or before the first
+  -- of the trails' lines was written
+  pub data MemoryFails (old new : I × O) : Type 0 where
+    at_first : new.0 ≡ old.0 → new.1 ≡ old.1 → MemoryFails old new
+    in_session : SessionFails session_fault.Memory old new → MemoryFails old new
+    before_trails : (trails : List (List Attempt)) → OwesTrails old new trails → MemoryFails old new
+
+  -- why a dry run fails: the options name no parts, and then nothing was read or written; the session
+  -- ended by a fault, and then nothing more was written; the output failed in the trails' lines; or
+  -- memory ran out
+  abbrev pub DryFails : I × O → I × O → Fault → Type 0
+  DryFails old new (fault.Outcomes number) =
       (first_bad (words_in options) ≡ Some number) × (new.0 ≡ old.0) × (new.1 ≡ old.1)
-  DryFails options old new (fault.Config cause) =
+  DryFails old new (fault.Config cause) =
       IsNoConfig options cause × (new.0 ≡ old.0) × (new.1 ≡ old.1)
-  DryFails options old new (fault.Settings name) =
+  DryFails old new (fault.Settings name) =
       IsOutside options name × (new.0 ≡ old.0) × (new.1 ≡ old.1)
-  DryFails options old new fault.Read = inlet.failures old.0 < inlet.failures new.0
-  DryFails options old new fault.Write = outlet.failures old.1 < outlet.failures new.1
-  DryFails options old new fault.LineTooLong = CameTooLong inlet.gives old.0 new.0
-  DryFails options old new fault.Memory = Unit {0}
-  DryFails options old new (fault.Line number) = ⊥
-  DryFails options old new fault.Check = ⊥
-  DryFails options old new fault.ConfigFile = ⊥
-  DryFails options old new fault.Delays = ⊥
-  DryFails options old new (fault.Listen cause) = ⊥
-  DryFails options old new fault.Metrics = ⊥
-  DryFails options old new fault.Accept = ⊥
+  DryFails old new fault.Read = SessionFails session_fault.Read old new
+  DryFails old new fault.Write = OutputFails old new
+  DryFails old new fault.LineTooLong = SessionFails session_fault.LineTooLong old new
+  DryFails old new fault.Memory = MemoryFails old new
+  DryFails old new (fault.Line number) = ⊥
+  DryFails old new fault.Check = ⊥
+  DryFails old new fault.ConfigFile = ⊥
+  DryFails old new fault.Delays = ⊥
+  DryFails old new (fault.Listen cause) = ⊥
+  DryFails old new fault.Metrics = ⊥
+  DryFails old new fault.Accept = ⊥

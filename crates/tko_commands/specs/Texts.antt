@@ -1,5 +1,5 @@
--- How outcomes and attempts are printed.
-use Rattle.std.specs.Prelude.{ℕ, ◌+◌, List, [], ◌∷◌, ◌++◌, codes, decimal}
+-- How outcomes and attempts are printed, and a text of which a part was written.
+use Rattle.std.specs.Prelude.{ℕ, ◌≤◌, ◌+◌, List, [], ◌∷◌, ◌++◌, codes, decimal, length, take}
 use Rattle.tko_route.specs.declared.attempt.Attempt.{Attempt}
 use Rattle.tko_route.specs.declared.attempt.Attempt.TheVariants as attempt
 use Rattle.tko_route.specs.Trail.{server_of}
@@ -39,3 +39,10 @@ trail_text number (attempt ∷ others) = attempt_text number attempt ++ trail_te
 abbrev pub trails_text : ℕ → List (List Attempt) → List ℕ
 trails_text number [] = []
 trails_text number (trail ∷ others) = trail_text number trail ++ trails_text (number + 1) others
+
+-- the front of a text was written, which may be all of it or nothing
+pub record WritesFront {O : Type 0} (takes : O → List ℕ → O → Type 0) (text : List ℕ)
+    (from to : O) : Type 0 where
+  pub count : ℕ
+  pub within : count ≤ length text
+  pub went : takes from (take count text) to

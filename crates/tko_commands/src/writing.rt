@@ -1,5 +1,6 @@
 //! Whole texts onto an outlet.
 ghost use Rattle.std.specs.Prelude.{◌≡◌, ◌<◌, OnErr, OnOk};
+ghost use Rattle.tko_commands.specs.Texts.{WritesFront};
 
 use tko_io::{Outlet, write_all};
 use tko_links::IoRuntime;
@@ -17,6 +18,7 @@ pub fn write_text<R: IoRuntime, O: Outlet>(
     ensures ok { OnOk result (O.takes outlet.old text.now outlet.new) }
     ensures calm { OnOk result (O.failures outlet.new ≡ O.failures outlet.old) }
     ensures err { OnErr result (O.failures outlet.old < O.failures outlet.new) }
+    ensures part { OnErr result (WritesFront O.takes text.now outlet.old outlet.new) }
 {
     let mut written = 0;
     if write_all(rt, outlet, text, &mut written) {
