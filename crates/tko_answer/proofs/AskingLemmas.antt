@@ -1,26 +1,49 @@
--- Laws of an answer as a value: its first key, and its next.
-use Rattle.std.proofs.Common.{◌≡◌, ℕ, Bool, Result, Ok, Err, List, [], ◌∷◌, ◌++◌, append-nil, length, refl, sym, ap, subst}
-use Rattle.std.specs.Prelude.{IfOk}
+-- Laws of how an answer begins: what the proxy answers itself, and the first key.
+use Rattle.std.proofs.Common.{◌≡◌, ℕ, Bool, true, false, List, [], ◌∷◌, ◌++◌, append-nil, length, refl, sym, ap, subst, arith}
+use Rattle.std.specs.Prelude.{◌<◌}
 use Rattle.tko_model.specs.Records.{HealthItem}
 use Rattle.tko_model.proofs.RecordLemmas.{gains_none}
 use Rattle.tko_text.specs.declared.request.Request.{Request}
+use Rattle.tko_text.specs.declared.request.Request.TheVariants.{Get, Gets, Store, Cas, Delete, Incr, Decr, Touch, Version, Quit, StatsTko}
+use Rattle.tko_pools.specs.Configs.{Configuration}
+use Rattle.tko_route.specs.Routing.{GoesOn}
 use Rattle.tko_answer.specs.Answering.{retrieval}
-use Rattle.tko_answer.specs.Asking.{AnsweredItself, Begins, IsFirst, answered, keyed, of_several}
-use Rattle.tko_answer.specs.Standing.{answer_state}
-use Rattle.tko_answer.specs.Standing as answer
-use Rattle.tko_answer.specs.Answers.{AnswersItself}
+use Rattle.tko_answer.specs.Answers.{AnswersItself, IsKeyed, request_keys}
+use Rattle.tko_answer.specs.Asking.{Begins, IsFirst, begun, by_key, itself, of_several}
+use Rattle.tko_answer.specs.Cuts.{IsBeginCut, LooksSome, in_status, nothing}
 use Rattle.tko_answer.specs.Replies.{version_text}
-use Rattle.tko_answer.specs.Status.{IsStatusAfter}
-use Rattle.tko_text.specs.declared.request.Request.TheVariants.{Quit, StatsTko, Version}
+use Rattle.tko_answer.specs.Status.{IsStatusAfter, looks_from}
 use Rattle.tko_answer.specs.declared.asking.OneKey.{OneKey}
-use Rattle.tko_answer.specs.declared.parts.Parts.{Parts}
 use Rattle.tko_answer.specs.declared.asking.Share.TheVariants as share
 
-pub first_alone : (keys : List (List ℕ)) (unique : Bool) (waiting : ℕ) (request : Request) (one : OneKey)
-    → request ≡ retrieval keys unique → ((n : ℕ) → IsFirst request n one)
-    → IsFirst (retrieval keys unique) waiting one
-first_alone keys unique waiting request one is first =
-    subst (λ (r : Request). IsFirst r waiting one) is (first waiting)
+-- a request that the proxy does not answer itself
+pub is_keyed : (request : Request) → (request ≡ Version → ⊥) → (request ≡ Quit → ⊥) → (request ≡ StatsTko → ⊥) → IsKeyed request
+is_keyed (Get keys) version quit status = tt
+is_keyed (Gets keys) version quit status = tt
+is_keyed (Store verb entry noreply) version quit status = tt
+is_keyed (Cas entry unique noreply) version quit status = tt
+is_keyed (Delete key noreply) version quit status = tt
+is_keyed (Incr key amount noreply) version quit status = tt
+is_keyed (Decr key amount noreply) version quit status = tt
+is_keyed (Touch key expiry noreply) version quit status = tt
+is_keyed Version version quit status = absurd (version refl)
+is_keyed Quit version quit status = absurd (quit refl)
+is_keyed StatsTko version quit status = absurd (status refl)
+
+-- has one key, where it is not for values
+pub other_some : (request : Request) → ((keys : List (List ℕ)) → request ≡ Get keys → ⊥) → ((keys : List (List ℕ)) → request ≡ Gets keys → ⊥) → IsKeyed request
+    → 0 < length (request_keys request)
+other_some (Get keys) get gets keyed = absurd (get keys refl)
+other_some (Gets keys) get gets keyed = absurd (gets keys refl)
+other_some (Store verb entry noreply) get gets keyed = omega arith
+other_some (Cas entry unique noreply) get gets keyed = omega arith
+other_some (Delete key noreply) get gets keyed = omega arith
+other_some (Incr key amount noreply) get gets keyed = omega arith
+other_some (Decr key amount noreply) get gets keyed = omega arith
+other_some (Touch key expiry noreply) get gets keyed = omega arith
+other_some Version get gets keyed = absurd keyed
+other_some Quit get gets keyed = absurd keyed
+other_some StatsTko get gets keyed = absurd keyed
 
 pub first_several : (keys : List (List ℕ)) (unique : Bool) (waiting : ℕ) (key : List ℕ) (left : List (List ℕ)) (request : Request)
     → keys ≡ key ∷ left → request ≡ retrieval (key ∷ []) unique
@@ -28,40 +51,48 @@ pub first_several : (keys : List (List ℕ)) (unique : Bool) (waiting : ℕ) (ke
 first_several keys unique waiting key left request are is =
     of_several key left unique (ap (λ ks. retrieval ks unique) are) (ap (λ (r : Request). record { request = r; share = share.Joined waiting left }) is)
 
--- a retrieval begins with its first key
-pub begins_keyed : {H L T C : Type 0} (steps : H → HealthItem → H → Type 0) (old : Parts H L T C) (outbox : List ℕ)
-    (one : OneKey) (keys : List (List ℕ)) (unique : Bool) (request : Request) (waiting : ℕ)
-    → IsFirst (retrieval keys unique) waiting one → request ≡ retrieval keys unique → waiting ≡ length outbox
-    → Begins steps request (old, outbox) (answer_state (answer.Next one) (old, outbox))
-begins_keyed steps old outbox one keys unique request waiting first is len =
-    keyed (one, refl, subst (λ n. IsFirst request n one) len (subst (λ (r : Request). IsFirst r waiting one) (sym is) first)) refl
+module _ {H : Type 0} {steps : H → HealthItem → H → Type 0} {config : Configuration} {outbox outbox' : List ℕ} {one : OneKey} {request : Request} where
+  pub begins_version : (health : H) → request ≡ Version → outbox' ≡ outbox ++ version_text
+      → GoesOn steps health (λ calls. Begins config request outbox calls (begun false one outbox')) health
+  begins_version health is more = record {
+    items = [];
+    gains = gains_none health;
+    is = itself version_text [] refl (subst (λ (r : Request). AnswersItself config.addresses r version_text []) (sym is) (refl, refl)) refl more;
+  }
 
--- what follows from a fact on the value of an Ok
-pub if_ok : {A E : Type 0} {P : A → Type 0} {Q : A → Type 0} (r : Result A E) → IfOk r P → ((x : A) → P x → Q x) → IfOk r Q
-if_ok (Ok x) p f = f x p
-if_ok (Err e) p f = tt
+  pub begins_status : {health health' : H} → request ≡ StatsTko → IsStatusAfter steps config.addresses (health, outbox) (health', outbox')
+      → GoesOn steps health (λ calls. Begins config request outbox calls (begun false one outbox')) health'
+  begins_status is after = record {
+    items = after.status.looks;
+    gains = after.status.gains;
+    is = itself after.text after.status.looks refl (subst (λ (r : Request). AnswersItself config.addresses r after.text after.status.looks) (sym is) after.status.is) refl after.appended;
+  }
 
--- the proxy answers without a look-up
-nothing_asked : {H L T C : Type 0} {steps : H → HealthItem → H → Type 0} {old : Parts H L T C} {request : Request} {text : List ℕ}
-    → AnswersItself old.config.addresses request text [] → AnsweredItself steps request old (old, text)
-nothing_asked {old = old} is = record { looks = []; is = is; gains = gains_none old.backend.health; others = refl }
+module _ {H : Type 0} {steps : H → HealthItem → H → Type 0} {config : Configuration} {outbox : List ℕ} {one : OneKey} {request : Request} where
+  pub begins_quit : (health : H) → request ≡ Quit → GoesOn steps health (λ calls. Begins config request outbox calls (begun false one outbox)) health
+  begins_quit health is = record {
+    items = [];
+    gains = gains_none health;
+    is = itself [] [] refl (subst (λ (r : Request). AnswersItself config.addresses r [] []) (sym is) (refl, refl)) refl (sym (append-nil outbox));
+  }
 
-module _ {H L T C : Type 0} {steps : H → HealthItem → H → Type 0} {old : Parts H L T C} {outbox outbox' : List ℕ} {request : Request} where
-  pub begins_version : request ≡ Version → outbox' ≡ outbox ++ version_text → Begins steps request (old, outbox) (answer_state answer.Done (old, outbox'))
-  begins_version is more =
-      answered version_text refl (nothing_asked (subst (λ (r : Request). AnswersItself old.config.addresses r version_text []) (sym is) (refl, refl))) more
+  -- a request begins with its first key
+  pub begins_keyed : {waiting : ℕ} (health : H) → waiting ≡ length outbox → IsFirst request waiting one
+      → GoesOn steps health (λ calls. Begins config request outbox calls (begun true one outbox)) health
+  begins_keyed health len first = record {
+    items = [];
+    gains = gains_none health;
+    is = by_key refl (subst (λ n. IsFirst request n one) len first) refl refl;
+  }
 
-  pub begins_status : {health : H} → request ≡ StatsTko → IsStatusAfter steps old.config.addresses (old.backend.health, outbox) (health, outbox')
-      → Begins steps request (old, outbox) (answer_state answer.Done (record old { backend = record old.backend { health = health } }, outbox'))
-  begins_status {health} is after =
-      answered after.text refl (record {
-        looks = after.status.looks;
-        is = subst (λ (r : Request). AnswersItself old.config.addresses r after.text after.status.looks) (sym is) after.status.is;
-        gains = after.status.gains;
-        others = refl;
-      }) after.appended
+module _ {H : Type 0} {steps : H → HealthItem → H → Type 0} {config : Configuration} {request : Request} where
+  pub cut_nothing : (health : H) → GoesOn steps health (λ calls. IsBeginCut config request calls) health
+  cut_nothing health = record { items = []; gains = gains_none health; is = nothing refl }
 
-module _ {H L T C : Type 0} {steps : H → HealthItem → H → Type 0} {old : Parts H L T C} {outbox : List ℕ} {request : Request} where
-  pub begins_quit : request ≡ Quit → Begins steps request (old, outbox) (answer_state answer.Done (old, outbox))
-  begins_quit is =
-      answered [] refl (nothing_asked (subst (λ (r : Request). AnswersItself old.config.addresses r [] []) (sym is) (refl, refl))) (sym (append-nil outbox))
+  pub cut_status : {health health' : H} → request ≡ StatsTko → LooksSome steps config.addresses health health'
+      → GoesOn steps health (λ calls. IsBeginCut config request calls) health'
+  cut_status is some = record {
+    items = looks_from 0 some.servers;
+    gains = some.looks;
+    is = in_status some.servers some.unlooked is some.parts refl;
+  }

@@ -1,31 +1,23 @@
 -- Laws of what is done for a request: what each call of an answer does, and what is sent with it.
-use Rattle.std.proofs.Common.{◌≡◌, ℕ, ◌+◌, List, [], ◌∷◌, ◌++◌, map, refl, sym, ap, ◌∙◌, add-zero, arith}
+use Rattle.std.proofs.Common.{◌≡◌, ℕ, ◌+◌, List, [], ◌∷◌, ◌++◌, map, refl, sym, ap, subst, ◌∙◌, add-zero, arith}
 use Rattle.std.specs.Prelude.{sum_by}
 use Rattle.std.proofs.lemmas.List.Sums.{sum_by-append}
 use Rattle.tko_model.specs.Records.{Gains, HealthItem, Lead}
-use Rattle.tko_model.proofs.RecordLemmas.{gains_append, gains_one}
+use Rattle.tko_model.proofs.RecordLemmas.{gains_none, gains_one}
 use Rattle.tko_text.specs.declared.request.Request.{Request}
 use Rattle.tko_pools.specs.Configs.{Configuration}
 use Rattle.tko_route.specs.Calls.{Call, Came, Told, sends_of}
 use Rattle.tko_route.specs.Trail.{sends_in}
-use Rattle.tko_route.specs.declared.routing.Stage.{Stage}
-use Rattle.tko_route.specs.declared.routing.Stage.TheVariants as stage
+use Rattle.tko_route.specs.declared.attempt.Attempt.{Attempt}
 use Rattle.tko_route.proofs.TrailLemmas.{sends_by_trail}
 use Rattle.tko_answer.specs.Answers.{Answers, AreKeysRouted, request_answer}
 use Rattle.tko_answer.specs.Answers as answers
-use Rattle.tko_answer.specs.Asking.{CourseCalls, Goes, Settles, key_at_stage}
-use Rattle.tko_answer.specs.Ghosts.{PartsGhosts, Recording, recording}
-use Rattle.tko_answer.specs.Interactions.{Interaction, Interacts, Made, Noted, Performs, Recorded, health_calls, sends_by, with_health}
+use Rattle.tko_answer.specs.Ghosts.{PartsGhosts}
+use Rattle.tko_answer.specs.Interactions.{Interaction, Interacts, Made, Noted, Performs, Recorded, health_calls, sends_by, with_health, with_noted}
 use Rattle.tko_answer.specs.Replies.{RoutedKey, sends_to, trails_in}
-use Rattle.tko_answer.specs.Standing.{AnswerState, key_state}
 use Rattle.tko_answer.specs.TrailEvents.{Asked, Tried}
-use Rattle.tko_answer.specs.declared.asking.OneKey.{OneKey}
 use Rattle.tko_answer.specs.declared.parts.Parts.{Parts}
-use Rattle.tko_answer.proofs.DrivingLemmas.{ending}
-
--- what the health and the trails of these parts record
-abbrev pub recording_of : {H L T C : Type 0} → PartsGhosts H L T C → Recording H T
-recording_of ghosts = recording ghosts.backend.steps ghosts.records
+use Rattle.tko_answer.proofs.CutLemmas.{NotedAs, marks, no_marks}
 
 module _ {H L T C : Type 0} (ghosts : PartsGhosts H L T C) where
   lead_told : (old : Parts H L T C) (items : List HealthItem) (health : H) → Lead ghosts.backend.steps old.backend.health items health
@@ -38,19 +30,6 @@ module _ {H L T C : Type 0} (ghosts : PartsGhosts H L T C) where
   pub gains_told : {old : Parts H L T C} {items : List HealthItem} {health : H} → Gains ghosts.backend.steps old.backend.health items health
       → Gains (Interacts ghosts) old (health_calls items) (with_health health old)
   gains_told {old} {items} {health} gains = record { leads = lead_told old items health gains.leads }
-
-  -- a key was settled
-  gains_settled : (old : Parts H L T C) (outbox : List ℕ) (at : Stage) (one : OneKey) (to : AnswerState (Parts H L T C × List ℕ))
-      → Settles ghosts.records at (key_state one (old, outbox)) to → Gains (Interacts ghosts) old (ending at) to.state.0
-  gains_settled old outbox (stage.Away clear waiting) one to (asks, same) = record { leads = ap (λ (w : Parts H L T C × List ℕ). w.0) same }
-  gains_settled old outbox (stage.Done routed) one to ends = gains_one (ends.recorded, ends.others)
-
-  -- a key went on
-  pub gains_goes : {it : CourseCalls} {old : Parts H L T C × List ℕ} {to : AnswerState (Parts H L T C × List ℕ)} → (goes : Goes (recording_of ghosts) it old to)
-      → Gains (Interacts ghosts) old.0 (health_calls goes.on.items ++ ending goes.stage) to.state.0
-  gains_goes {it} {old} {to} goes =
-      gains_append (gains_told goes.on.gains)
-      (gains_settled (with_health goes.health old.0) old.1 goes.stage (key_at_stage it.course goes.stage) to goes.settles)
 
 module _ {H L T C : Type 0} (ghosts : PartsGhosts H L T C) (server : ℕ) where
   -- the configuration is as it was, and a server was sent to so often and not probed
@@ -80,6 +59,15 @@ module _ {H L T C : Type 0} (ghosts : PartsGhosts H L T C) (server : ℕ) where
       let later = counted_all mid done new rest in
       let split : sum_by (sends_by server) (it ∷ done) ≡ 0 + sends_by server it + sum_by (sends_by server) done = sum_by-append (sends_by server) (it ∷ []) done in
       (later.0 ∙ here.0, omega (arith, split, here.1, later.1), later.2 ∙ here.2)
+
+module _ {H L T C : Type 0} (ghosts : PartsGhosts H L T C) where
+  -- the marks of attempts were noted, if there are any
+  pub gains_noted : {attempts : List Attempt} {last : List Interaction} (old : Parts H L T C) → NotedAs attempts last → Gains (Interacts ghosts) old last (with_noted attempts old)
+  gains_noted {attempts} old (no_marks none is) =
+      subst (λ done. Gains (Interacts ghosts) old done (with_noted attempts old)) (sym is)
+      (subst (λ trail. Gains (Interacts ghosts) old [] (with_noted trail old)) (sym none) (gains_none old))
+  gains_noted {attempts} old (marks is) =
+      subst (λ done. Gains (Interacts ghosts) old done (with_noted attempts old)) (sym is) (gains_one refl)
 
 -- the configuration is as it was
 pub config_kept : {H L T C : Type 0} (ghosts : PartsGhosts H L T C) {old new : Parts H L T C} {done : List Interaction} → Gains (Interacts ghosts) old done new → new.config ≡ old.config

@@ -5,8 +5,10 @@ pub mod DrivingLemmas
 pub mod GoingLemmas
 pub mod HeldLemmas
 pub mod InteractionLemmas
+pub mod JoiningLemmas
 mod OutboxLemmas
 mod PieceLemmas
 pub mod ReachLemmas
 pub mod ResultLemmas
+pub mod StandsLemmas
 mod StatusLemmas

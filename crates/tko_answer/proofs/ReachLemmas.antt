@@ -1,25 +1,20 @@
 -- That health, links and probers have the servers of the configuration, and keep them.
-use Rattle.std.proofs.Common.{◌≡◌, ℕ, List, length, sym, ap, ◌∙◌}
-use Rattle.tko_pools.specs.Configs.{Configuration}
+use Rattle.std.proofs.Common.{◌≡◌, ℕ, List, ◌∙◌}
 use Rattle.tko_route.specs.declared.attempt.Attempt.{Attempt}
 use Rattle.tko_backend.proofs.ProberLemmas.{length-noted}
 use Rattle.tko_answer.specs.Answers.{Reaches}
-use Rattle.tko_answer.specs.Asking.{Stays}
-use Rattle.tko_answer.specs.Interactions.{with_links, with_noted}
+use Rattle.tko_answer.specs.Interactions.{with_health, with_links, with_noted}
 use Rattle.tko_answer.specs.declared.parts.Parts.{Parts}
 
 module _ {H L T C : Type 0} {servers : H → ℕ} {linked : L → ℕ} where
-  -- the servers are still as many
-  pub stays_reach : {old new : Parts H L T C} → Reaches servers linked old → Stays servers old new → Reaches servers linked new
-  stays_reach {old} {new} reach stays =
-      let config : new.config ≡ old.config = ap (λ (p : Parts H L T C). p.config) stays.others in
-      let links : new.backend.links ≡ old.backend.links = ap (λ (p : Parts H L T C). p.backend.links) stays.others in
-      let addresses : length new.config.addresses ≡ length old.config.addresses = ap (λ (c : Configuration). length c.addresses) config in
-      record {
-        health = stays.health ∙ reach.health ∙ sym addresses;
-        links = ap linked links ∙ reach.links ∙ sym addresses;
-        probers = stays.slots ∙ reach.probers ∙ sym addresses;
-      }
+  -- health was asked or told something
+  pub told_reach : {at : Parts H L T C} {after : H} → Reaches servers linked at → servers after ≡ servers at.backend.health
+      → Reaches servers linked (with_health after at)
+  told_reach reach same = record { health = same ∙ reach.health; links = reach.links; probers = reach.probers }
+
+  -- a request or a trail was recorded
+  pub recorded_reach : {at : Parts H L T C} {after : T} → Reaches servers linked at → Reaches servers linked (record at { trails = after })
+  recorded_reach reach = record { health = reach.health; links = reach.links; probers = reach.probers }
 
   -- the links are other ones with as many servers
   pub linked_reach : {at : Parts H L T C} {after : L} → Reaches servers linked at → linked after ≡ linked at.backend.links

@@ -34,6 +34,13 @@ request_keys Version = []
 request_keys Quit = []
 request_keys StatsTko = []
 
+-- a request that is routed, and that the proxy does not answer itself
+abbrev pub IsKeyed : Request → Type 0
+IsKeyed Version = ⊥
+IsKeyed Quit = ⊥
+IsKeyed StatsTko = ⊥
+IsKeyed _ = Unit {0}
+
 -- the request that is routed for a key: of several keys each is asked for by itself
 abbrev pub request_for : Request → List ℕ → Request
 request_for (Get keys) key = Get (key ∷ [])

@@ -4,10 +4,12 @@ use Rattle.tko_model.specs.Records.{HealthItem, Gains}
 use Rattle.tko_text.specs.declared.request.Request.{Request}
 use Rattle.tko_text.specs.declared.request.Request.TheVariants.{StatsTko}
 use Rattle.tko_pools.specs.Configs.{Configuration, targets_of}
-use Rattle.tko_route.specs.Calls.{Call, came}
+use Rattle.tko_route.specs.Calls.{Call, Told, came}
 use Rattle.tko_route.specs.Routing.{FindsUp}
 use Rattle.tko_route.specs.Trail.{IsCutTrail, IsTrail, Makes, next_target}
 use Rattle.tko_route.specs.declared.attempt.Attempt.{Attempt}
+use Rattle.tko_route.specs.declared.routing.Stage.{Stage}
+use Rattle.tko_route.specs.declared.routing.Stage.TheVariants as stage
 use Rattle.tko_answer.specs.Answers.{AreKeysRouted, form_in, request_for, request_keys}
 use Rattle.tko_answer.specs.Interactions.{Interaction, Made, Noted, health_calls}
 use Rattle.tko_answer.specs.Replies.{HasValues, RoutedKey, keys_in}
@@ -20,6 +22,34 @@ pub record LooksSome {H : Type 0} (steps : H → HealthItem → H → Type 0)
   pub unlooked : List (List ℕ)
   pub parts : addresses ≡ addresses_in servers ++ unlooked
   pub looks : Gains steps old (looks_from 0 servers) new
+
+-- memory ran out where a request began, after these calls: nothing was asked; or the first servers
+-- were looked up for their status
+pub data IsBeginCut (config : Configuration) (request : Request) (calls : List Call) : Type 0 where
+  nothing : calls ≡ [] → IsBeginCut config request calls
+  in_status : (servers : List Looked) (unlooked : List (List ℕ)) → request ≡ StatsTko
+      → config.addresses ≡ addresses_in servers ++ unlooked
+      → calls ≡ map Told (looks_from 0 servers) → IsBeginCut config request calls
+
+-- these calls ended the routing of a key over these targets with this trail
+pub record EndsBy (targets : List ℕ) (form : ℕ → Request) (calls : List Call)
+    (trail : List Attempt) : Type 0 where
+  pub tried : IsTrail targets trail
+  pub make : Makes form calls trail
+
+-- the trail with which a routing ended
+abbrev pub IsEndOf : Stage → List Attempt → Type 0
+IsEndOf (stage.Away clear waiting) trail = ⊥
+IsEndOf (stage.Done routed) trail = trail ≡ routed.trail
+
+-- memory ran out where the request of a key began, after these calls and attempts: none; or all
+-- that there are, so that the reply is lost
+pub data KeyLost (config : Configuration) (request : Request) (calls : List Call)
+    (trail : List Attempt) : Type 0 where
+  untried : calls ≡ [] → trail ≡ [] → KeyLost config request calls trail
+  tried : ((key : List ℕ) → request_keys request ≡ key ∷ []
+      → EndsBy (targets_of config key) (form_in config request) calls trail)
+      → KeyLost config request calls trail
 
 -- memory ran out at this key of a request: after its attempts, so that nothing but their marks was
 -- noted; or at the send to the next target, after attempts at the first ones, none of them answered

@@ -1,5 +1,4 @@
 -- What the traits of the parts show, in one record for those relations that need it.
-use Rattle.tko_model.specs.Records.{HealthItem}
 use Rattle.tko_health.specs.declared.health.Health.{Ghosts as HealthGhosts}
 use Rattle.tko_links.specs.declared.links.Links.{Ghosts as LinksGhosts}
 use Rattle.tko_route.specs.Calls.{Upstream}
@@ -7,15 +6,6 @@ use Rattle.tko_backend.specs.declared.clock.Clock.{Ghosts as ClockGhosts}
 use Rattle.tko_backend.specs.Ghosts.{BackendGhosts, backend_ghosts}
 use Rattle.tko_answer.specs.TrailEvents.{TrailEvent}
 use Rattle.tko_answer.specs.declared.trails.Trails.{Ghosts as TrailsGhosts}
-
--- what health and the trails record
-pub record Recording (H T : Type 0) : Type 1 where
-  pub steps : H → HealthItem → H → Type 0
-  pub records : T → TrailEvent → T → Type 0
-
-abbrev pub recording : {H T : Type 0} → (H → HealthItem → H → Type 0)
-    → (T → TrailEvent → T → Type 0) → Recording H T
-recording steps records = record { steps = steps; records = records }
 
 -- what a backend shows, and what the trails record
 pub record PartsGhosts (H L T C : Type 0) : Type 1 where

@@ -6,6 +6,7 @@ pub mod Cuts
 pub mod Ghosts
 pub mod Interactions
 pub mod Replies
+pub mod Sends
 pub mod Standing
 pub mod Status
 pub mod TrailEvents

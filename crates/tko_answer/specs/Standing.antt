@@ -1,10 +1,19 @@
 -- How far the answer to a request came, and with which key: what a call of the answer says, and the
 -- key as the call left it.
-use Rattle.std.specs.Prelude.{ℕ, Option, Some, None}
+use Rattle.std.specs.Prelude.{ℕ, List}
+use Rattle.tko_text.specs.declared.request.Request.{Request}
+use Rattle.tko_text.specs.SentRequests.{is_silent}
 use Rattle.tko_route.specs.Underway.{Awaited}
+use Rattle.tko_route.specs.declared.attempt.Attempt.{Attempt}
 use Rattle.tko_answer.specs.declared.asking.Answer.{Answer}
 use Rattle.tko_answer.specs.declared.asking.Answer.TheVariants as answer
 use Rattle.tko_answer.specs.declared.asking.OneKey.{OneKey}
+use Rattle.tko_answer.specs.declared.asking.Share.TheVariants as share
+
+-- a request as it was read: the response to it is all of the reply, which goes to the client unless
+-- the request is silent
+abbrev pub whole_of : Request → OneKey
+whole_of request = record { request = request; share = share.Whole (is_silent request) }
 
 -- a key whose request was sent to a server, until the outcome is recorded
 pub record Asking : Type 0 where
@@ -14,35 +23,20 @@ pub record Asking : Type 0 where
 abbrev pub asking : Awaited → OneKey → Asking
 asking waiting one = record { waiting = waiting; key = one }
 
--- a send is out to this server; this key is to be asked for; or the reply is complete
+-- a send is out to this server; or these were the attempts at a key, which stands so
 pub data Standing : Type 0 where
   Asks : ℕ → Asking → Standing
-  Next : OneKey → Standing
-  Done : Standing
+  Tried : List Attempt → OneKey → Standing
 
 -- what a call said, of the key as it left it
 abbrev pub standing_of : Answer → OneKey → Standing
 standing_of (answer.Asks clear waiting) one = Asks clear (asking waiting one)
-standing_of answer.Next one = Next one
-standing_of answer.Done one = Done
+standing_of (answer.Tried trail) one = Tried trail one
 
--- where a request has a key it is to be asked for
-abbrev pub first_standing : Option OneKey → Standing
-first_standing (Some one) = Next one
-first_standing None = Done
-
--- how far an answer came, and the state then: the parts and the outbox, or the outbox alone
-pub record AnswerState (W : Type 0) : Type 0 where
+-- how far an answer came, and the outbox then
+pub record AnswerState : Type 0 where
   pub at : Standing
-  pub state : W
+  pub outbox : List ℕ
 
-abbrev pub answer_state : {W : Type 0} → Standing → W → AnswerState W
-answer_state at state = record { at = at; state = state }
-
--- a key that is at work, and the state then
-pub record KeyState (W : Type 0) : Type 0 where
-  pub key : OneKey
-  pub state : W
-
-abbrev pub key_state : {W : Type 0} → OneKey → W → KeyState W
-key_state key state = record { key = key; state = state }
+abbrev pub answer_state : Standing → List ℕ → AnswerState
+answer_state at outbox = record { at = at; outbox = outbox }

@@ -1,26 +1,29 @@
 //! One request of a client, answered by the proxy itself or key by key.
 //!
-//! - `Parts`: what a request is answered over: the `Backend` of the worker, the configuration, and
+//! - `OneKey`: a key of a request as a value that sends nothing itself, changed in place to the
+//!   next one. Its calls are lent the servers' health and the configuration, and return an
+//!   `Answer`: how far the key came. Where memory runs out they return the `Dropped` attempts;
+//!   `stop` does where it runs out at a send. The reply is put at the end of an `Outbox`, the
+//!   replies that wait to be written.
+//! - `Parts`: what a session is served over: the `Backend` of the worker, the configuration, and
 //!   `Trails`, which records each request and each trail. `Kept` keeps the trails, and `Counts`
 //!   of tko_counts counts what is in them.
-//! - `OneKey`: a key of a request as a value that sends nothing itself, changed in place to the
-//!   next one; `Answer`: how far its answer came; `stop`, where memory ran out at a send. The reply
-//!   is put at the end of an `Outbox`, the replies that wait to be written.
 //! - `status`: the mark of each server as text.
 #![tactic(auto)]
 
 mod asking;
 mod counting;
-mod ending;
+mod dropped;
 mod keys_left;
 mod outbox;
 mod parts;
 mod requests;
+mod routes;
 mod status_text;
 mod trails;
 
 pub use asking::{Answer, OneKey};
-pub use ending::stop;
+pub use dropped::{Dropped, stop};
 pub use outbox::Outbox;
 pub use parts::Parts;
 pub use status_text::status;

@@ -1,8 +1,8 @@
 //! Requests by their keys.
-ghost use Rattle.std.specs.Prelude.{◌≡◌, ◌<◌, [], ◌∷◌, ℕ, Bool, List, false, true, IfOk, OnOk, length, slice_get};
+ghost use Rattle.std.specs.Prelude.{◌≡◌, ◌<◌, ◌↔◌, [], ◌∷◌, ℕ, Bool, List, false, true, IfOk, IsTrue, OnOk, length, slice_get};
 ghost use Rattle.std.specs.Option.{option_copied};
 ghost use Rattle.tko_text.specs.declared.request.Request.TheVariants.{Get, Gets};
-ghost use Rattle.tko_answer.specs.Answers.{request_keys};
+ghost use Rattle.tko_answer.specs.Answers.{IsKeyed, request_keys};
 ghost use Rattle.tko_answer.specs.Answering.{retrieval};
 
 use std::mem::replace;
@@ -25,6 +25,18 @@ pub(crate) fn first_key(request: &Request) -> Option<&Key>
         Request::Version => None,
         Request::Quit => None,
         Request::StatsTko => None,
+    }
+}
+
+/// Whether it is a request for the values of several keys.
+pub(crate) fn has_several(request: &Request) -> bool
+    ensures several { IsTrue result ↔ (1 < length (request_keys request.now)) }
+    ensures some { IsKeyed request.now → 0 < length (request_keys request.now) }
+{
+    match request {
+        Request::Get { keys } => keys.as_slice().len() > 1,
+        Request::Gets { keys } => keys.as_slice().len() > 1,
+        _ => false,
     }
 }
 

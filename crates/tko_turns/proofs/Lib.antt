@@ -1,4 +1,7 @@
 mod CallLemmas
 mod DrivenLemmas
+mod DroppedLemmas
 pub mod EventLemmas
+mod FollowingLemmas
+mod ReadyLemmas
 pub mod TurnLemmas

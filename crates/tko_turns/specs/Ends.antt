@@ -1,13 +1,15 @@
 -- What items are answered from, and how answering them ends.
-use Rattle.std.specs.Prelude.{◌≡◌, Bool, true, false, MatchBool, Result, Ok, Err}
+use Rattle.std.specs.Prelude.{◌≡◌, Bool, true, false, List, MatchBool, Result, Ok, Err}
 use Rattle.tko_bytes.specs.declared.memory.NoMemory.{NoMemory}
 use Rattle.tko_backend.specs.Ghosts.{BackendGhosts}
 use Rattle.tko_backend.specs.Probers.{AreQuiet, NoneMarked}
+use Rattle.tko_route.specs.declared.attempt.Attempt.{Attempt}
+use Rattle.tko_answer.specs.Interactions.{with_noted}
 use Rattle.tko_answer.specs.declared.parts.Parts.{Parts}
 use Rattle.tko_turns.specs.declared.step.Progress.{Progress}
 use Rattle.tko_turns.specs.Working.{Between}
 use Rattle.tko_turns.specs.Events.{Effects, Rounded}
-use Rattle.tko_turns.specs.SessionState.{Answered, AnsweredPart, SessionState, Snapshot}
+use Rattle.tko_turns.specs.SessionState.{Answered, AnsweredPart, SessionState, Snapshot, snapshot}
 
 -- no request is being answered, and no round is owed
 pub record IsSettled (state : SessionState) : Type 0 where
@@ -38,6 +40,14 @@ pub record ItemEnds {H L T C : Type 0} (effects : Effects (Parts H L T C))
   pub unowed : new.state.owes ≡ false
       → new.parts.backend.probers ≡ old.parts.backend.probers
   pub between : new.state.work ≡ Between
+
+-- how driving an item to its end ends: where memory ran out, the marks of these attempts are still
+-- to be noted
+abbrev pub DriveEnds : {H L T C : Type 0} → Effects (Parts H L T C) → Snapshot (Parts H L T C)
+    → Result Progress (List Attempt) → Snapshot (Parts H L T C) → Type 0
+DriveEnds effects old (Ok progress) new = ItemEnds effects old (Ok progress) new
+DriveEnds effects old (Err attempts) new = (fault : NoMemory)
+    → ItemEnds effects old (Err fault) (snapshot new.state (with_noted attempts new.parts))
 
 -- nothing was done, for which no memory is needed
 pub record NoneRun {W : Type 0} (short : Bool) (old new : W) : Type 0 where

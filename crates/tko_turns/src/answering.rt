@@ -6,11 +6,12 @@ ghost use Rattle.tko_backend.specs.Probers.{NoneMarked};
 ghost use Rattle.tko_answer.specs.Answers.{Reaches};
 ghost use Rattle.tko_answer.specs.Replies.{reply_bound};
 ghost use Rattle.tko_turns.specs.Effects.{effects};
-ghost use Rattle.tko_turns.specs.Ends.{AnsweringEnds, IsRun, IsSettled, ItemEnds, KeepsBegun, OwesWhereBusy};
+ghost use Rattle.tko_turns.specs.Ends.{AnsweringEnds, DriveEnds, IsRun, IsSettled, ItemEnds, KeepsBegun, OwesWhereBusy};
 ghost use Rattle.tko_turns.specs.SessionState.{snapshot};
 ghost use Rattle.tko_turns.specs.Working.{Between};
 
-use crate::{Parts, Progress, Session, Step, Trails, round};
+use crate::observing::{observe_drop, observe_request, observe_trail};
+use crate::{Dropped, Parts, Progress, Session, Step, Trails, round};
 use std::alloc::Global;
 use tko_backend::Clock;
 use tko_bytes::NoMemory;
@@ -100,8 +101,8 @@ fn answer_next<R: IoRuntime, H: Health, L: Links, T: Trails, C: Clock>(
     Ok(progress)
 }
 
-/// Answers the next item, if one is decided: sends what its answer asks for, until its reply is
-/// complete.
+/// Answers the next item, if one is decided. Where memory runs out, the servers that the attempts
+/// until then marked are going to be probed.
 fn answer_item<R: IoRuntime, H: Health, L: Links, T: Trails, C: Clock>(
     rt: &R,
     alloc: Global,
@@ -116,16 +117,47 @@ fn answer_item<R: IoRuntime, H: Health, L: Links, T: Trails, C: Clock>(
     ensures more { result ≡ Ok Progress.More → ¬ NeedsMore session.old.reading }
     ensures reach { Reaches H.servers L.servers parts.new }
 {
-    let mut step = session.next(rt, alloc, parts)?;
+    match drive(rt, alloc, session, parts) {
+        Ok(progress) => Ok(progress),
+        Err(dropped) => Err(observe_drop(parts, &dropped)),
+    }
+}
+
+/// Drives the session to the end of its next item: sends what it asks for, and hands on what it did.
+fn drive<R: IoRuntime, H: Health, L: Links, T: Trails, C: Clock>(
+    rt: &R,
+    alloc: Global,
+    session: &mut Session,
+    parts: &mut Parts<H, L, T, C>,
+) -> Result<Progress, Dropped>
+    requires reach { Reaches H.servers L.servers parts.old }
+    requires settled { IsSettled session.old }
+    requires room { length session.old.outbox < reply_bound }
+    ensures ends { DriveEnds (effects H.Health L.Links T.Trails C.Clock)
+        (snapshot session.old parts.old) result (snapshot session.new parts.new) }
+    ensures more { result ≡ Ok Progress.More → ¬ NeedsMore session.old.reading }
+    ensures reach { Reaches H.servers L.servers parts.new }
+{
+    let mut step = session.next(rt, alloc, &mut parts.backend.health, &parts.config)?;
     for _ in rt.forever() {
         match step {
             Step::At(progress) => return Ok(progress),
-            Step::Next => step = session.next(rt, alloc, parts)?,
             Step::Asks(clear) => {
                 match parts.backend.links.exchange(rt, clear, session.request()) {
-                    Ok(outcome) => step = session.answered(rt, parts, outcome)?,
-                    Err(fault) => return Err(session.stop(parts, fault)),
+                    Ok(outcome) => {
+                        let health = &mut parts.backend.health;
+                        step = session.answered(rt, health, &parts.config, outcome)?;
+                    }
+                    Err(fault) => return Err(session.stop(fault)),
                 }
+            }
+            Step::Began => {
+                observe_request(rt, session, &mut parts.trails)?;
+                step = session.next(rt, alloc, &mut parts.backend.health, &parts.config)?;
+            }
+            Step::Tried(trail) => {
+                observe_trail(rt, session, parts, trail)?;
+                step = session.next(rt, alloc, &mut parts.backend.health, &parts.config)?;
             }
         }
     }

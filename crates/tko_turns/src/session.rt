@@ -1,27 +1,28 @@
 //! One client's session as a value that is driven: bytes in, requests to be sent out, what came of
-//! each in, replies out. It sends and waits for nothing itself.
-ghost use Rattle.std.specs.Prelude.{◌≡◌, ◌≢◌, ◌≤◌, ◌↔◌, ◌++◌, [], false, IfNone, IfOk, IfSome, IsErrOf, IsTrue, OnErr, OnOk, drop, length};
+//! each in, replies out. It is lent the servers' health and the configuration, and returns what it
+//! did; it sends, records and waits for nothing itself.
+ghost use Rattle.std.specs.Prelude.{◌≡◌, ◌≤◌, ◌↔◌, ◌++◌, [], false, IfErr, IfNone, IfOk, IfSome, IsErrOf, IsSome, IsTrue, OnErr, OnOk, Some, drop, length};
 ghost use Rattle.tko_text.specs.Reading.{Emits, NeedsMore, Never};
 ghost use Rattle.tko_text.specs.Requests.{fault_text};
+ghost use Rattle.tko_route.specs.Routing.{GoesOn};
 ghost use Rattle.tko_answer.specs.Answering.{Extends};
-ghost use Rattle.tko_answer.specs.Asking.{BeginsAt, HasServers, Stays};
-ghost use Rattle.tko_answer.specs.Ghosts.{recording};
-ghost use Rattle.tko_answer.specs.Interactions.{with_noted};
+ghost use Rattle.tko_answer.specs.Asking.{BeginsAt};
 ghost use Rattle.tko_answer.specs.Replies.{reply_bound};
-ghost use Rattle.tko_turns.specs.Driven.{AwaitedDropped, AwaitedTaken, IsAwaiting, IsReady, ItemDropped, ItemRead, KeyAtWorkBegun, KeyAtWorkDropped, MayGoOn, RequestBegun, RequestDropped, WasDropped, WentOn, dropped, step_of, stepped, went};
-ghost use Rattle.tko_answer.specs.Standing.{Asking, Done, standing_of};
+ghost use Rattle.tko_answer.specs.Standing.{Asking, standing_of, whole_of};
 ghost use Rattle.tko_answer.specs.declared.asking.OneKey.{OneKey};
-ghost use Rattle.tko_turns.specs.Working.{AtKey, Awaits, Between, IsAtKey};
-ghost use Rattle.tko_turns.specs.SessionState.{fed_state, fresh, progress_after, progress_of, snapshot};
+ghost use Rattle.tko_turns.specs.Driven.{AwaitedDropped, AwaitedTaken, IsAwaiting, IsReady, ItemDropped, ItemRead, KeyBegun, KeyDropped, MayGoOn, WasDropped, WentOn, begun_at, dropped, finished, step_of, went};
+ghost use Rattle.tko_turns.specs.Working.{Awaits, Between, ended_in, key_in, key_work, read_in};
+ghost use Rattle.tko_turns.specs.SessionState.{fed_state, fresh, progress_after, progress_of};
 
 use crate::step::{Progress, Report, Step};
-use crate::{Parts, Trails};
 use std::alloc::Global;
 use std::marker::Model;
 use std::mem::replace;
-use tko_answer::{Answer, OneKey, Outbox, stop};
+use std::sync::Wait;
+use tko_answer::{Answer, Dropped, OneKey, Outbox, stop};
 use tko_bytes::NoMemory;
-use tko_links::{IoRuntime, Outcome};
+use tko_links::Outcome;
+use tko_pools::Config;
 use tko_route::{Health, Waiting};
 use tko_text::{FeedFault, Item, Reader, Request, TextFault};
 
@@ -42,12 +43,23 @@ pub struct Session {
     targets: Vec<usize>,
 }
 
-/// A key of a request, and what is known of its send while one is out. It stays where it is from
-/// the first key to the last.
+/// A request, or a key of it, and how far that is. It stays where it is from the first key to the
+/// last.
 #[derive(Drop)]
 struct KeyAtWork {
     key: OneKey,
-    waiting: Option<Waiting>,
+    stage: KeyStage,
+}
+
+/// How far a request or a key of it is.
+#[derive(Drop)]
+enum KeyStage {
+    /// The request was read, and is to be begun.
+    Read,
+    /// It may be sent, and what comes of that is awaited.
+    Sent(Waiting),
+    /// The attempts at the key ended, and its response is in the outbox.
+    Tried,
 }
 
 impl Model for Session {
@@ -92,34 +104,52 @@ impl Session {
         self.reader.feed(piece)
     }
 
-    /// Goes on with the next key of the request that is being answered, or else with the next item,
-    /// if one is decided.
-    pub fn next<R: IoRuntime, H: Health, L, T: Trails, C>(
+    /// Begins the request that was read, goes on after a key whose attempts ended, or else reads the
+    /// next item, if one is decided.
+    pub fn next<R: Wait, H: Health>(
         &mut self,
         rt: &R,
         alloc: Global,
-        parts: &mut Parts<H, L, T, C>,
-    ) -> Result<Step, NoMemory>
-        requires servers { HasServers H.servers parts.old }
-        requires ready { IsReady parts.old.config self.old }
+        health: &mut H,
+        config: &Config,
+    ) -> Result<Step, Dropped>
+        requires servers { H.servers health.old ≡ length config.now.addresses }
+        requires ready { IsReady config.now self.old }
         requires may { MayGoOn self.old.work }
-        ensures ok { IfOk result (λ step. WentOn (recording H.steps T.records) self.old.work
-            (snapshot self.old parts.old) (stepped step (snapshot self.new parts.new))) }
-        ensures err { OnErr result (WasDropped (recording H.steps T.records) self.old.work
-            (snapshot self.old parts.old) (snapshot self.new parts.new)) }
-        ensures ready { OnOk result (IsReady parts.new.config self.new) }
-        ensures stays { Stays H.servers parts.old parts.new }
+        ensures ok { IfOk result (λ step. GoesOn H.steps health.old
+            (λ calls. WentOn config.now self.old calls step self.new) health.new) }
+        ensures err { IfErr result (λ attempts. GoesOn H.steps health.old
+            (λ calls. WasDropped config.now self.old calls attempts self.new) health.new) }
+        ensures ready { OnOk result (IsReady config.now self.new) }
+        ensures servers { H.servers health.new ≡ H.servers health.old }
     {
-        if self.is_between() {
-            return self.next_item(rt, alloc, parts);
+        match &self.work {
+            None => Ok(self.next_item()?),
+            Some(
+                KeyAtWork {
+                    key: _,
+                    stage: KeyStage::Read,
+                },
+            ) => { self.begin_request(rt, alloc, health, config) }
+            Some(
+                KeyAtWork {
+                    key: _,
+                    stage: KeyStage::Tried,
+                },
+            ) => { self.go_on(rt, alloc, health, config) }
+            Some(
+                KeyAtWork {
+                    key: _,
+                    stage: KeyStage::Sent(_),
+                },
+            ) => unreachable!(),
         }
-        self.begin_key(rt, alloc, parts)
     }
 
-    /// The request that may be sent, to the server that the last permission names.
+    /// The request that was read, or that may be sent to the server that the last permission names.
     pub fn request(&self) -> &Request
-        requires { IsAwaiting self.now.work }
-        ensures { (it : Asking) → self.now.work ≡ Awaits it → result.now ≡ it.key.request }
+        requires { IsSome (key_in self.now.work) }
+        ensures { (one : OneKey) → key_in self.now.work ≡ Some one → result.now ≡ one.request }
     {
         match &self.work {
             Some(at) => at.key.request(),
@@ -128,56 +158,61 @@ impl Session {
     }
 
     /// Records what came of the send, and goes on to the next target unless it was answered.
-    pub fn answered<R: IoRuntime, H: Health, L, T: Trails, C>(
+    pub fn answered<R: Wait, H: Health>(
         &mut self,
         rt: &R,
-        parts: &mut Parts<H, L, T, C>,
+        health: &mut H,
+        config: &Config,
         outcome: Outcome,
-    ) -> Result<Step, NoMemory>
-        requires servers { HasServers H.servers parts.old }
-        requires ready { IsReady parts.old.config self.old }
+    ) -> Result<Step, Dropped>
+        requires servers { H.servers health.old ≡ length config.now.addresses }
+        requires ready { IsReady config.now self.old }
         requires awaiting { IsAwaiting self.old.work }
-        ensures ok { IfOk result (λ step. AwaitedTaken (recording H.steps T.records) outcome
-            (snapshot self.old parts.old) (stepped step (snapshot self.new parts.new))) }
-        ensures err { OnErr result (AwaitedDropped (recording H.steps T.records) outcome
-            (snapshot self.old parts.old) (snapshot self.new parts.new)) }
-        ensures ready { OnOk result (IsReady parts.new.config self.new) }
-        ensures stays { Stays H.servers parts.old parts.new }
+        ensures ok { IfOk result (λ step. GoesOn H.steps health.old
+            (λ calls. AwaitedTaken config.now outcome self.old calls step self.new) health.new) }
+        ensures err { IfErr result (λ attempts. GoesOn H.steps health.old
+            (λ calls. AwaitedDropped config.now outcome self.old calls attempts self.new)
+            health.new) }
+        ensures ready { OnOk result (IsReady config.now self.new) }
+        ensures servers { H.servers health.new ≡ H.servers health.old }
     {
-        let Some(KeyAtWork { key, waiting }) = &mut self.work else {
+        let Some(KeyAtWork { key, stage }) = &mut self.work else {
             unreachable!();
         };
-        let Some(sent) = replace(waiting, None) else {
+        let KeyStage::Sent(sent) = replace(stage, KeyStage::Tried) else {
             unreachable!();
         };
         let targets = self.targets.as_slice();
         let outbox = &mut self.outbox;
-        let Ok(answer) = key.answered(rt, parts, targets, outbox, sent, outcome) else {
-            return Err(self.drop_request());
-        };
-        Ok(self.go_to(answer))
+        match key.answered(rt, health, config, targets, outbox, sent, outcome) {
+            Ok(answer) => Ok(self.go_to(answer)),
+            Err(lost) => Err(self.drop_after(lost)),
+        }
     }
 
-    /// Drops the request where memory ran out at the send. The servers that the attempts before it
-    /// marked are going to be probed.
-    pub fn stop<H, L, T, C>(
-        &mut self,
-        parts: &mut Parts<H, L, T, C>,
-        fault: tko_links::NoMemory,
-    ) -> NoMemory
+    /// Drops the request where memory ran out at the send.
+    pub fn stop(&mut self, fault: tko_links::NoMemory) -> Dropped
         requires awaiting { IsAwaiting self.old.work }
         ensures dropped { self.new ≡ dropped self.old }
-        ensures noted { (it : Asking) → self.old.work ≡ Awaits it
-            → parts.new ≡ with_noted it.waiting.attempts parts.old }
+        ensures attempts { (it : Asking) → self.old.work ≡ Awaits it
+            → result ≡ it.waiting.attempts }
     {
-        let Some(KeyAtWork { key: _, waiting }) = &mut self.work else {
+        let Some(KeyAtWork { key: _, stage }) = &mut self.work else {
             unreachable!();
         };
-        let Some(sent) = replace(waiting, None) else {
+        let KeyStage::Sent(sent) = replace(stage, KeyStage::Tried) else {
             unreachable!();
         };
-        let _stopped = stop(parts, sent, fault);
-        self.drop_request()
+        self.drop_after(stop(sent, fault))
+    }
+
+    /// Drops the request that is being answered, with what there is of its reply: where memory ran
+    /// out as it was recorded, or as the trail of a key was.
+    pub fn drop_request(&mut self)
+        ensures { self.new ≡ dropped self.old }
+    {
+        self.work = None;
+        self.outbox.truncate(self.begin);
     }
 
     /// The first of the replies that wait to be written, in one piece; it is empty only if none
@@ -240,34 +275,16 @@ impl Session {
         }
     }
 
-    /// Whether no request is being answered.
-    #[inline(always)]
-    fn is_between(&self) -> bool
-        ensures { IsTrue result ↔ (self.now.work ≡ Between) }
-    {
-        self.work.is_none()
-    }
-
-    /// Reads the next item, if one is decided. A fault is answered at once, a request begun.
-    fn next_item<R: IoRuntime, H: Health, L, T: Trails, C>(
-        &mut self,
-        rt: &R,
-        alloc: Global,
-        parts: &mut Parts<H, L, T, C>,
-    ) -> Result<Step, NoMemory>
-        requires servers { HasServers H.servers parts.old }
+    /// Reads the next item, if one is decided. A fault is answered at once.
+    fn next_item(&mut self) -> Result<Step, NoMemory>
         requires between { self.old.work ≡ Between }
-        ensures ok { IfOk result (λ step. ItemRead (recording H.steps T.records)
-            (snapshot self.old parts.old) (stepped step (snapshot self.new parts.new))) }
-        ensures err { OnErr result (ItemDropped (recording H.steps T.records)
-            (snapshot self.old parts.old) (snapshot self.new parts.new)) }
-        ensures ready { OnOk result (IsReady parts.new.config self.new) }
-        ensures stays { Stays H.servers parts.old parts.new }
+        ensures ok { IfOk result (λ step. ItemRead self.old step self.new) }
+        ensures err { OnErr result (ItemDropped self.old self.new) }
     {
         match self.read_item()? {
             None => Ok(Step::At(Progress::NeedsInput)),
             Some(Item::Fault(fault)) => self.answer_fault(fault),
-            Some(Item::Request(request)) => self.begin_request(rt, alloc, parts, request),
+            Some(Item::Request(request)) => Ok(self.take_request(request)),
         }
     }
 
@@ -292,103 +309,156 @@ impl Session {
         Ok(Step::At(progress_after(fault)))
     }
 
-    /// Records a request, and begins to answer it or its first key. From here on its round is owed.
-    fn begin_request<R: IoRuntime, H: Health, L, T: Trails, C>(
-        &mut self,
-        rt: &R,
-        alloc: Global,
-        parts: &mut Parts<H, L, T, C>,
-        request: Request,
-    ) -> Result<Step, NoMemory>
-        requires servers { HasServers H.servers parts.old }
-        requires between { self.old.work ≡ Between }
-        ensures ok { IfOk result (λ step. RequestBegun (recording H.steps T.records) request
-            (snapshot self.old parts.old) (stepped step (snapshot self.new parts.new))) }
-        ensures err { OnErr result (RequestDropped (recording H.steps T.records) request
-            (snapshot self.old parts.old) (snapshot self.new parts.new)) }
-        ensures ready { OnOk result (IsReady parts.new.config self.new) }
-        ensures stays { Stays H.servers parts.old parts.new }
+    /// Keeps a request that was read. From here on its round is owed.
+    fn take_request(&mut self, request: Request) -> Step
+        ensures step { result ≡ Step.Began }
+        ensures state { self.new ≡ begun_at (whole_of request) self.old }
     {
         self.owes = true;
         self.begin = self.outbox.len();
-        parts.trails.request(rt, &request)?;
-        let progress = progress_of(&request);
-        let Ok(first) = OneKey::first(rt, alloc, parts, &mut self.outbox, request) else {
-            return Err(self.drop_request());
+        let key = OneKey::whole(request);
+        let stage = KeyStage::Read;
+        self.work = Some(KeyAtWork { key, stage });
+        Step::Began
+    }
+
+    /// Begins to answer the request that was read, or its first key.
+    fn begin_request<R: Wait, H: Health>(
+        &mut self,
+        rt: &R,
+        alloc: Global,
+        health: &mut H,
+        config: &Config,
+    ) -> Result<Step, Dropped>
+        requires servers { H.servers health.old ≡ length config.now.addresses }
+        requires ready { IsReady config.now self.old }
+        requires read { IsSome (read_in self.old.work) }
+        ensures ok { IfOk result (λ step. GoesOn H.steps health.old
+            (λ calls. WentOn config.now self.old calls step self.new) health.new) }
+        ensures err { IfErr result (λ attempts. GoesOn H.steps health.old
+            (λ calls. WasDropped config.now self.old calls attempts self.new) health.new) }
+        ensures servers { H.servers health.new ≡ H.servers health.old }
+    {
+        let Some(KeyAtWork { key, stage: _ }) = &mut self.work else {
+            unreachable!();
         };
-        match first {
-            Some(key) => {
-                self.work = Some(KeyAtWork { key, waiting: None });
-                self.begin_key(rt, alloc, parts)
-            }
-            None => Ok(self.finish(progress)),
+        let progress = progress_of(key.request());
+        let Ok(keyed) = key.first(rt, alloc, health, config, &mut self.outbox) else {
+            return Err(self.drop_after(Dropped::from(NoMemory)));
+        };
+        if keyed {
+            return self.begin_key(rt, alloc, health, config);
         }
+        Ok(self.finish(progress))
+    }
+
+    /// Goes on once the attempts at a key ended: to the next of several, or to the end of the reply.
+    fn go_on<R: Wait, H: Health>(
+        &mut self,
+        rt: &R,
+        alloc: Global,
+        health: &mut H,
+        config: &Config,
+    ) -> Result<Step, Dropped>
+        requires servers { H.servers health.old ≡ length config.now.addresses }
+        requires ready { IsReady config.now self.old }
+        requires tried { IsSome (ended_in self.old.work) }
+        ensures ok { IfOk result (λ step. GoesOn H.steps health.old
+            (λ calls. WentOn config.now self.old calls step self.new) health.new) }
+        ensures err { IfErr result (λ attempts. GoesOn H.steps health.old
+            (λ calls. WasDropped config.now self.old calls attempts self.new) health.new) }
+        ensures servers { H.servers health.new ≡ H.servers health.old }
+    {
+        let Some(KeyAtWork { key, stage: _ }) = &mut self.work else {
+            unreachable!();
+        };
+        let Ok(keyed) = key.go_on(&mut self.outbox) else {
+            return Err(self.drop_after(Dropped::from(NoMemory)));
+        };
+        if keyed {
+            return self.begin_key(rt, alloc, health, config);
+        }
+        Ok(self.finish(Progress::More))
     }
 
     /// Begins the key that is at work.
     #[inline(always)]
-    fn begin_key<R: IoRuntime, H: Health, L, T: Trails, C>(
+    fn begin_key<R: Wait, H: Health>(
         &mut self,
         rt: &R,
         alloc: Global,
-        parts: &mut Parts<H, L, T, C>,
-    ) -> Result<Step, NoMemory>
-        requires servers { HasServers H.servers parts.old }
-        requires at { IsAtKey self.old.work }
-        requires ready { IsReady parts.old.config self.old }
-        ensures ok { IfOk result (λ step. KeyAtWorkBegun (recording H.steps T.records)
-            (snapshot self.old parts.old) (stepped step (snapshot self.new parts.new))) }
-        ensures err { OnErr result (KeyAtWorkDropped (recording H.steps T.records)
-            (snapshot self.old parts.old) (snapshot self.new parts.new)) }
-        ensures ready { OnOk result (IsReady parts.new.config self.new) }
-        ensures stays { Stays H.servers parts.old parts.new }
+        health: &mut H,
+        config: &Config,
+    ) -> Result<Step, Dropped>
+        requires servers { H.servers health.old ≡ length config.now.addresses }
+        requires begins { (one : OneKey) → key_in self.old.work ≡ Some one
+            → BeginsAt self.old.begin one.share self.old.outbox }
+        requires answering { IsSome (key_in self.old.work) }
+        ensures ok { IfOk result (λ step. GoesOn H.steps health.old
+            (λ calls. (one : OneKey) → key_in self.old.work ≡ Some one
+            → KeyBegun config.now one self.old calls step self.new) health.new) }
+        ensures err { IfErr result (λ attempts. GoesOn H.steps health.old
+            (λ calls. (one : OneKey) → key_in self.old.work ≡ Some one
+            → KeyDropped config.now one self.old calls attempts self.new) health.new) }
+        ensures servers { H.servers health.new ≡ H.servers health.old }
     {
-        let Some(KeyAtWork { key, waiting: _ }) = &mut self.work else {
+        let Some(KeyAtWork { key, stage: _ }) = &mut self.work else {
             unreachable!();
         };
-        let Ok(answer) = key.begin(rt, alloc, parts, &mut self.targets, &mut self.outbox) else {
-            return Err(self.drop_request());
-        };
-        Ok(self.go_to(answer))
+        let targets = &mut self.targets;
+        match key.begin(rt, alloc, health, config, targets, &mut self.outbox) {
+            Ok(answer) => Ok(self.go_to(answer)),
+            Err(lost) => Err(self.drop_after(lost)),
+        }
     }
 
-    /// Keeps how far the answer came, and says what it asks for.
+    /// Keeps how far the key came, and says what is next.
     #[inline(always)]
     fn go_to(&mut self, answer: Answer) -> Step
-        ensures asks { (one : OneKey) → self.old.work ≡ AtKey one
-            → result ≡ step_of Progress.More (standing_of answer one) }
-        ensures went { (one : OneKey) → self.old.work ≡ AtKey one
+        ensures step { (one : OneKey) → key_in self.old.work ≡ Some one
+            → result ≡ step_of (standing_of answer one) }
+        ensures went { (one : OneKey) → key_in self.old.work ≡ Some one
             → self.new ≡ went (standing_of answer one) self.old }
     {
         match answer {
             Answer::Asks(clear, waiting) => {
-                if let Some(at) = &mut self.work {
-                    at.waiting = Some(waiting);
-                }
+                self.set_stage(KeyStage::Sent(waiting));
                 Step::Asks(clear)
             }
-            Answer::Next => Step::Next,
-            Answer::Done => self.finish(Progress::More),
+            Answer::Tried(trail) => {
+                self.set_stage(KeyStage::Tried);
+                Step::Tried(trail)
+            }
+        }
+    }
+
+    #[inline(always)]
+    fn set_stage(&mut self, stage: KeyStage)
+        ensures { (one : OneKey) → key_in self.old.work ≡ Some one
+            → self.new ≡ record self.old { work = key_work one stage } }
+    {
+        if let Some(at) = &mut self.work {
+            at.stage = stage;
         }
     }
 
     /// Counts a request that was answered.
     fn finish(&mut self, progress: Progress) -> Step
         ensures step { result ≡ Step.At progress }
-        ensures went { self.new ≡ went Done self.old }
+        ensures finished { self.new ≡ finished self.old }
     {
         self.work = None;
         self.requests = self.requests.saturating_add(1);
         Step::At(progress)
     }
 
-    /// Drops what there is of the reply to the request.
-    fn drop_request(&mut self) -> NoMemory
-        ensures { self.new ≡ dropped self.old }
+    /// Drops the request after these attempts.
+    fn drop_after(&mut self, lost: Dropped) -> Dropped
+        ensures dropped { self.new ≡ dropped self.old }
+        ensures attempts { result ≡ lost }
     {
-        self.work = None;
-        self.outbox.truncate(self.begin);
-        NoMemory
+        self.drop_request();
+        lost
     }
 }
 

@@ -1,6 +1,7 @@
 //! What a session is at, and what it asks of who drives it.
 
 use tko_model::Clear;
+use tko_route::Trail;
 
 /// What a session came to, at the end of its input.
 #[derive(Clone, Copy, Debug, PartialEq, Eq)]
@@ -24,13 +25,17 @@ pub enum Progress {
     Quit,
 }
 
-/// What a session asks for next.
+/// What a call of a session came to, and what its driver does before the next call.
 #[derive(Drop)]
 pub enum Step {
-    /// Its request is to be sent once, to the server that the permission names.
+    /// A request was read, and `request` lends it. It is to be recorded before `next` begins it.
+    Began,
+    /// `request` is to be sent once, to the server that the permission names. What comes of it is
+    /// passed to `answered`.
     Asks(Clear),
-    /// It is to be called again, for the next key of the request.
-    Next,
+    /// These were the attempts at a key, and its response is in the outbox. Their marks are to be
+    /// noted, and the trail to be recorded, before `next` goes on to another key or ends the reply.
+    Tried(Trail),
     /// An item was answered, or none is decided.
     At(Progress),
 }

@@ -1,7 +1,7 @@
 use Rattle.std.proofs.Common.{ap, subst, sym, ◌∙◌}
 use Rattle.std.proofs.lemmas.Result.{err_from_is_err_and}
 use Rattle.tko_backend.specs.Probers.{NoneMarked}
-use Rattle.tko_turns.proofs.DrivenLemmas.{owed_or_not}
+use Rattle.tko_turns.proofs.FollowingLemmas.{owed_or_not}
 use Rattle.tko_turns.proofs.EventLemmas.{begun_paid}
 use Rattle.tko_turns.proofs.TurnLemmas.{answered_paid, part_paid}
 use Rattle.tko_turns.proofs.answering.answer_next.Goals as goal

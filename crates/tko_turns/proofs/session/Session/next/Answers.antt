@@ -1,40 +1,21 @@
-use Rattle.tko_answer.proofs.ResultLemmas.{both_ok, on_errs}
-use Rattle.tko_turns.proofs.CallLemmas.{at_key, dropped_item, dropped_key, false_true, went_item, went_key}
+use Rattle.std.proofs.Common.{ap, map, sym, ◌∙◌}
+use Rattle.tko_route.specs.Calls.{Told}
+use Rattle.tko_answer.proofs.ResultLemmas.{on_ok_if}
+use Rattle.tko_turns.specs.SessionState.{SessionState}
+use Rattle.tko_turns.specs.Working.{work_at}
+use Rattle.tko_turns.proofs.ReadyLemmas.{went_item, went_ready}
 use Rattle.tko_turns.proofs.session.Session.next.Goals as goal
 
-pub next_item-requires-clause-between : goal.next_item-requires-clause-between
-next_item-requires-clause-between g c = c.is_between.ensures.0 c.if-is_between.true
+pub returns-in_ok-next_item-in-None-clause-ok : goal.returns-in_ok-next_item-in-None-clause-ok
+returns-in_ok-next_item-in-None-clause-ok g c =
+    went_item c.args.config.now c.args.health.now (sym (ap (λ (s : SessionState). s.work) c.self.view_is) ∙ ap work_at c.in-None.is) c.in_ok-next_item-in-None.ensures.ok
 
-pub returns-then-is_between-clause-ok : goal.returns-then-is_between-clause-ok
-returns-then-is_between-clause-ok g c =
-    both_ok c.next_item.result c.next_item.ensures.ready c.next_item.ensures.ok
-    (λ step ready read. went_item (c.is_between.ensures.0 c.if-is_between.true) read)
+pub returns-in-Some-Read-clause-ready : goal.returns-in-Some-Read-clause-ready
+returns-in-Some-Read-clause-ready g c =
+    on_ok_if c.begin_request.result c.begin_request.ensures.ok (λ step on.
+    went_ready c.args.config.now c.args.self.now c.begin_request.new.self (map Told on.items) step c.requires.ready on.is)
 
-pub returns-then-is_between-clause-err : goal.returns-then-is_between-clause-err
-returns-then-is_between-clause-err g c =
-    on_errs c.next_item.result c.next_item.ensures.err (λ lost. dropped_item (c.is_between.ensures.0 c.if-is_between.true) lost)
-
-pub returns-then-is_between-clause-ready : goal.returns-then-is_between-clause-ready
-returns-then-is_between-clause-ready g c = c.next_item.ensures.ready
-
-pub returns-then-is_between-clause-stays : goal.returns-then-is_between-clause-stays
-returns-then-is_between-clause-stays g c = c.next_item.ensures.stays
-
-pub begin_key-requires-clause-at : goal.begin_key-requires-clause-at
-begin_key-requires-clause-at g c = at_key _ c.requires.may (λ is. false_true (c.is_between.ensures.1 is) c.if-is_between.false)
-
-pub returns-clause-ok : goal.returns-clause-ok
-returns-clause-ok g c =
-    both_ok c.begin_key.result c.begin_key.ensures.ready c.begin_key.ensures.ok
-    (λ step ready key. went_key _ c.requires.may (λ is. false_true (c.is_between.ensures.1 is) c.if-is_between.false) key)
-
-pub returns-clause-err : goal.returns-clause-err
-returns-clause-err g c =
-    on_errs c.begin_key.result c.begin_key.ensures.err
-    (λ lost. dropped_key _ c.requires.may (λ is. false_true (c.is_between.ensures.1 is) c.if-is_between.false) lost)
-
-pub returns-clause-ready : goal.returns-clause-ready
-returns-clause-ready g c = c.begin_key.ensures.ready
-
-pub returns-clause-stays : goal.returns-clause-stays
-returns-clause-stays g c = c.begin_key.ensures.stays
+pub returns-in-Some-Tried-clause-ready : goal.returns-in-Some-Tried-clause-ready
+returns-in-Some-Tried-clause-ready g c =
+    on_ok_if c.go_on.result c.go_on.ensures.ok (λ step on.
+    went_ready c.args.config.now c.args.self.now c.go_on.new.self (map Told on.items) step c.requires.ready on.is)

@@ -1,8 +1,8 @@
 use Rattle.tko_answer.specs.Answers.{Reaches}
 use Rattle.tko_turns.specs.Driven.{IsReady}
 use Rattle.tko_turns.specs.SessionState.{snapshot}
-use Rattle.tko_turns.proofs.DrivenLemmas.{IsOn}
-use Rattle.tko_turns.proofs.answering.answer_item.Given as goal
+use Rattle.tko_turns.proofs.FollowingLemmas.{IsOn}
+use Rattle.tko_turns.proofs.answering.drive.Given as goal
 
 abbrev pub invariant-loop : goal.invariant-loop
 invariant-loop g l =
