@@ -167,6 +167,59 @@ fn a_failed_write_reports_how_much_was_written(rt: HostRuntime) -> Result<(), Fa
     Ok(())
 }
 
+/// A session of one reply: its writer fails after three bytes, or takes a byte a call.
+#[test]
+fn a_writer_of_few_bytes_fails_or_takes_them_all(rt: HostRuntime) -> Result<(), Fail> {
+    let _stream: Option<TcpStream> = None;
+    let alloc = rt.alloc();
+    for (greatest, stop, text) in [
+        (
+            3,
+            (1, Stop::Fault),
+            "write after 3 bytes: END1 0 Up(0) true",
+        ),
+        (1, (9, Stop::Again), "1 and 0: END\r\n1 0 Up(0) true"),
+    ] {
+        let reader = stopping(alloc, "get a\r\n", 4096, (9, Stop::Again))?;
+        let writer = stopping(alloc, "", greatest, stop)?;
+        let given = run(
+            &rt,
+            alloc,
+            reader,
+            writer,
+            one_server(alloc, "END\r\n", &[])?,
+        )?;
+        assert_eq!(rt; given.as_slice(), text.as_bytes());
+    }
+    Ok(())
+}
+
+/// The bytes of a request whose data are cut are unfinished, and none are where the data are too
+/// large to be read.
+#[test]
+fn cut_data_are_unfinished(rt: HostRuntime) -> Result<(), Fail> {
+    let _stream: Option<TcpStream> = None;
+    let alloc = rt.alloc();
+    for (input, text) in [
+        ("set a 0 0 5\r\nhe", "0 and 15: 0 0 Up(0) true"),
+        (
+            "set a 0 0 18446744073709551615\r\n",
+            "0 and 0: SERVER_ERROR object too large for cache\r\n0 0 Up(0) true",
+        ),
+    ] {
+        let reader = stopping(alloc, input, 4096, (9, Stop::Again))?;
+        let given = run(
+            &rt,
+            alloc,
+            reader,
+            blank(alloc),
+            one_server(alloc, "END\r\n", &[])?,
+        )?;
+        assert_eq!(rt; given.as_slice(), text.as_bytes());
+    }
+    Ok(())
+}
+
 /// The first prober is due at moment 10,000. Each round takes a moment, and so does each probe.
 const DUE: &[u64] = &[0, 10_000, 10_001, 10_002];
 
