@@ -1,0 +1,114 @@
+-- What the calls on a connection leave.
+use Rattle.std.proofs.Common.{◌≡◌, ◌≢◌, ℕ, ◌-◌, ◌≤◌, Bool, true, false, List, [], ◌∷◌, refl, sym, ap, subst, ◌∙◌, arith, length, Some, None, if◌then◌else◌}
+use Rattle.std.proofs.lemmas.Bool.{leb-true}
+use Rattle.tko_text.specs.declared.request.Request.{Request}
+use Rattle.tko_text.specs.declared.response.Response.{Response}
+use Rattle.tko_pipe.specs.declared.awaited.Awaited.{Awaited}
+use Rattle.tko_pipe.specs.declared.fates.Fate.{Fate}
+use Rattle.tko_pipe.specs.declared.fates.Fates.{Fates}
+use Rattle.tko_pipe.specs.declared.fates.ShutCause.TheVariants.{Unasked}
+use Rattle.tko_pipe.specs.declared.link.Link.{Link}
+use Rattle.tko_pipe.specs.declared.link.Link.TheVariants.{Connected, Shut}
+use Rattle.tko_pipe.specs.Ends.{IsAnswered, IsChecked, IsLeaving}
+use Rattle.tko_pipe.specs.Fates.{Leaving, fate_at, fates_of}
+use Rattle.tko_pipe.specs.Fronts.{IsFront}
+use Rattle.tko_pipe.specs.Pipes.{IsLive, IsTaken, PipeState, Taking, is_asked, lengths_of, shut_by}
+
+-- where bytes are unread, the first request was written wholly
+first_written : (unread : List ℕ) (awaited : Awaited) (others : List Awaited) (unwritten : List ℕ)
+    → unread ≢ [] → is_asked unread (awaited ∷ others) unwritten ≡ true
+    → length unwritten ≤ lengths_of others
+first_written [] awaited others unwritten some asked = absurd (some refl)
+first_written (byte ∷ bytes) awaited others unwritten some asked =
+    leb-true (length unwritten) (lengths_of others) asked
+
+-- bytes that are left stay, or shut the connection
+checked : (asked : Bool) (mid : PipeState) (link : Link) (unwritten unread : List ℕ)
+    → mid.link ≡ Connected
+    → link ≡ (if asked then mid.link else Shut (fates_of mid.link Unasked))
+    → unwritten ≡ (if asked then mid.unwritten else [])
+    → unread ≡ (if asked then mid.unread else [])
+    → IsChecked asked mid (record mid { link = link; unwritten = unwritten; unread = unread })
+checked true mid link unwritten unread connected a b c =
+    ap (λ (l : Link). record mid { link = l; unwritten = unwritten; unread = unread }) a
+    ∙ ap (λ (xs : List ℕ). record mid { unwritten = xs; unread = unread }) b
+    ∙ ap (λ (xs : List ℕ). record mid { unread = xs }) c
+checked false mid link unwritten unread connected a b c =
+    let all : record mid { link = link; unwritten = unwritten; unread = unread }
+    ≡ shut_by mid Unasked =
+    ap (λ (l : Link). record mid { link = l; unwritten = unwritten; unread = unread }) a
+    ∙ ap (λ (xs : List ℕ). record (shut_by mid Unasked) { unwritten = xs; unread = unread }) b
+    ∙ ap (λ (xs : List ℕ). record (shut_by mid Unasked) { unread = xs }) c in
+    record {
+      live = subst IsLive (sym connected) tt;
+      cause = tt;
+      unwritten = refl;
+      unread = refl;
+      state = all;
+    }
+
+-- the first that waited was answered
+pub answered : (p old : PipeState) (request : Request) (awaited : Awaited) (others : List Awaited)
+    (response : Response) (left : List ℕ) (link : Link) (unwritten unread : List ℕ)
+    → p ≡ old → p.link ≡ Connected → p.waiting ≡ awaited ∷ others → p.unread ≢ []
+    → is_asked p.unread p.waiting p.unwritten ≡ true
+    → IsFront request p.unread response left
+    → link ≡ (if is_asked left others p.unwritten
+    then p.link else Shut (fates_of p.link Unasked))
+    → unwritten ≡ (if is_asked left others p.unwritten then p.unwritten else [])
+    → unread ≡ (if is_asked left others p.unwritten then left else [])
+    → IsAnswered old request awaited.by response
+    (record p { link = link; waiting = others; unwritten = unwritten; unread = unread })
+answered p old request awaited others response left link unwritten unread same connected waiting
+    some asked front a b c =
+    let mid : PipeState = record p { waiting = others; unread = left } in
+    let it : Taking = record {
+      awaited = awaited;
+      request = request;
+      response = response;
+      bytes = front.bytes;
+    } in
+    let new = record mid { link = link; unwritten = unwritten; unread = unread } in
+    let first_asked : is_asked p.unread (awaited ∷ others) p.unwritten ≡ true =
+    subst (λ (w : List Awaited). is_asked p.unread w p.unwritten ≡ true) waiting asked in
+    let taken : IsTaken p it mid = record {
+      connected = connected;
+      first = waiting;
+      written = first_written p.unread awaited others p.unwritten some first_asked;
+      front = front.whole;
+      response = front.is_response;
+      state = refl;
+    } in
+    let is : IsAnswered p request awaited.by response new = record {
+      awaited = awaited;
+      bytes = front.bytes;
+      mid = mid;
+      is_by = refl;
+      taken = taken;
+      checked = checked (is_asked left others p.unwritten) mid link unwritten unread connected a b
+          c;
+    } in
+    subst (λ (s : PipeState). IsAnswered s request awaited.by response new) same is
+
+-- the first of those that are left leaves
+pub left_first : (p old : PipeState) (left next_fates : Fates) (awaited : Awaited)
+    (others : List Awaited) (came : Fate)
+    → p ≡ old → p.link ≡ Shut left → p.waiting ≡ awaited ∷ others
+    → came ≡ fate_at left awaited.due → next_fates ≡ record left { first = None }
+    → IsLeaving old awaited.by came (record p { waiting = others; link = Shut next_fates })
+left_first p old left next_fates awaited others came same shut waiting is_fate is_next =
+    let it : Leaving = record { awaited = awaited; came = came } in
+    let new = record p { waiting = others; link = Shut next_fates } in
+    let is : IsLeaving p awaited.by came new = record {
+      it = it;
+      is_by = refl;
+      is_fate = refl;
+      left = record {
+        left = left;
+        shut = shut;
+        first = waiting;
+        came = is_fate;
+        state = ap (λ (l : Fates). record p { waiting = others; link = Shut l }) is_next;
+      };
+    } in
+    subst (λ (s : PipeState). IsLeaving s awaited.by came new) same is

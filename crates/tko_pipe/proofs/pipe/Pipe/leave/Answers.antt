@@ -1,0 +1,9 @@
+use Rattle.std.proofs.Common.{rules}
+use Rattle.tko_pipe.proofs.PipeLemmas.{left_first}
+use Rattle.tko_pipe.proofs.pipe.Pipe.leave.Goals as goal
+
+pub returns : goal.returns
+returns c =
+    left_first _ c.args.self.now c.in-Shut.fates c.without_first.result c.in_ok-awaited.awaited
+    c.pop_front.new.self.items c.fate.result c.self.view_is (search rules) (search rules)
+    c.fate.ensures c.without_first.ensures

@@ -1,0 +1,5 @@
+pub mod Ends
+pub mod Fates
+pub mod Fronts
+pub mod Lives
+pub mod Pipes

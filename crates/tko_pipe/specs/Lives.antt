@@ -1,0 +1,129 @@
+-- The life of a connection: all that was done with it, and what this means.
+use Rattle.std.specs.Prelude.{◌≡◌, ◌≤◌, ◌⊎◌, ℕ, List, [], ◌∷◌, ◌++◌, length, map, flat_map, All, Option, Some, None}
+use Rattle.tko_model.specs.Records.{Gains}
+use Rattle.tko_text.specs.Requests.{request_text}
+use Rattle.tko_text.specs.Responses.{IsResponse}
+use Rattle.tko_pipe.specs.declared.awaited.Awaited.{Awaited}
+use Rattle.tko_pipe.specs.declared.link.Link.{Link}
+use Rattle.tko_pipe.specs.declared.link.Link.TheVariants.{Connecting, Connected, Shut}
+use Rattle.tko_pipe.specs.Fates.{Leaving, fates_of, leaving}
+use Rattle.tko_pipe.specs.Pipes.{IsCause, IsConnected, IsGot, IsLeft, IsLive, IsPushed, IsShut, IsTaken, IsWritten, PipeState, Pushing, Shutting, Taking, begun, lengths_of}
+
+-- what was done with a connection
+pub data PipeItem : Type 0 where
+  WasConnected : PipeItem
+  Pushed : (it : Pushing) → PipeItem
+  Wrote : (bytes : List ℕ) → PipeItem
+  Got : (bytes : List ℕ) (now : ℕ) → PipeItem
+  Took : (it : Taking) → PipeItem
+  WasShut : (it : Shutting) → PipeItem
+  Left : (it : Leaving) → PipeItem
+
+abbrev pub IsPipeStep : PipeState → PipeItem → PipeState → Type 0
+IsPipeStep old WasConnected new = IsConnected old new
+IsPipeStep old (Pushed it) new = IsPushed old it new
+IsPipeStep old (Wrote bytes) new = IsWritten old bytes new
+IsPipeStep old (Got bytes now) new = IsGot old bytes now new
+IsPipeStep old (Took it) new = IsTaken old it new
+IsPipeStep old (WasShut it) new = IsShut old it new
+IsPipeStep old (Left it) new = IsLeft old it new
+
+abbrev pub pushed_in : PipeItem → List Pushing
+pushed_in (Pushed it) = it ∷ []
+pushed_in _ = []
+
+abbrev pub wrote_in : PipeItem → List ℕ
+wrote_in (Wrote bytes) = bytes
+wrote_in _ = []
+
+abbrev pub got_in : PipeItem → List ℕ
+got_in (Got bytes now) = bytes
+got_in _ = []
+
+abbrev pub took_in : PipeItem → List Taking
+took_in (Took it) = it ∷ []
+took_in _ = []
+
+abbrev pub shut_in : PipeItem → List Shutting
+shut_in (WasShut it) = it ∷ []
+shut_in _ = []
+
+abbrev pub left_in : PipeItem → List Leaving
+left_in (Left it) = it ∷ []
+left_in _ = []
+
+-- when bytes came last, if they came before the items at this moment
+abbrev pub heard_after : Option ℕ → List PipeItem → Option ℕ
+heard_after heard [] = heard
+heard_after heard (Got bytes now ∷ items) = heard_after (Some now) items
+heard_after heard (_ ∷ items) = heard_after heard items
+
+-- who asked, who was answered, and who left without an answer, in order
+abbrev pub asked_in : List PipeItem → List Awaited
+asked_in items = map (λ it. it.awaited) (flat_map pushed_in items)
+
+abbrev pub answered_in : List PipeItem → List Awaited
+answered_in items = map (λ it. it.awaited) (flat_map took_in items)
+
+abbrev pub unanswered_in : List PipeItem → List Awaited
+unanswered_in items = map (λ it. it.awaited) (flat_map left_in items)
+
+-- the texts of the requests, in order
+abbrev pub texts_in : List PipeItem → List ℕ
+texts_in items = flat_map (λ it. request_text it.request) (flat_map pushed_in items)
+
+abbrev pub written_in : List PipeItem → List ℕ
+written_in items = flat_map wrote_in items
+
+abbrev pub read_in : List PipeItem → List ℕ
+read_in items = flat_map got_in items
+
+-- the bytes of the responses, in order
+abbrev pub responses_in : List PipeItem → List ℕ
+responses_in items = flat_map (λ it. it.bytes) (flat_map took_in items)
+
+-- the bytes that were dropped where the connection was shut
+abbrev pub unwritten_dropped : List PipeItem → List ℕ
+unwritten_dropped items = flat_map (λ it. it.unwritten) (flat_map shut_in items)
+
+abbrev pub unread_dropped : List PipeItem → List ℕ
+unread_dropped items = flat_map (λ it. it.unread) (flat_map shut_in items)
+
+-- the response is that of the request
+abbrev pub IsAnswer : Taking → Type 0
+IsAnswer it = IsResponse it.request it.bytes it.response
+
+-- those that a connection that was shut still leaves
+abbrev pub leaving_in : Link → List Awaited → List Leaving
+leaving_in Connecting waiting = []
+leaving_in Connected waiting = []
+leaving_in (Shut left) waiting = leaving left waiting
+
+-- the connection was shut once, as it was then; after that those that waited leave, with the fates
+-- of the table, and nothing else happens
+pub record IsEnd (first : PipeState) (items : List PipeItem) (state : PipeState) : Type 0 where
+  pub before : List PipeItem
+  pub last : PipeState
+  pub it : Shutting
+  pub left : List Leaving
+  pub items_are : items ≡ before ++ WasShut it ∷ map Left left
+  pub leads : Gains IsPipeStep first before last
+  pub live : IsLive last.link
+  pub cause : IsCause last it.cause
+  pub fates : leaving (fates_of last.link it.cause) last.waiting
+      ≡ left ++ leaving_in state.link state.waiting
+
+-- What the items of a connection mean that is now in this state.
+pub record IsLife (limit : ℕ) (items : List PipeItem) (state : PipeState) : Type 0 where
+  -- the k-th that asked was answered, left, or waits as the k-th
+  pub queue : asked_in items ≡ answered_in items ++ unanswered_in items ++ state.waiting
+  -- what was written is a beginning of the requests' texts; the rest waits or was dropped
+  pub written : texts_in items ≡ written_in items ++ unwritten_dropped items ++ state.unwritten
+  -- what was read are the responses' bytes, one after another, and bytes of which none was taken
+  pub read : read_in items ≡ responses_in items ++ unread_dropped items ++ state.unread
+  -- each response is that of the request that was lent
+  pub answers : All IsAnswer (flat_map took_in items)
+  -- at each moment, the requests that were answered were written wholly
+  pub asked_first : lengths_of (answered_in items) ≤ length (written_in items)
+  pub heard : state.heard ≡ heard_after None items
+  pub end : IsLive state.link ⊎ IsEnd (begun limit) items state

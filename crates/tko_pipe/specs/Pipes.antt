@@ -1,0 +1,169 @@
+-- One pipelined connection: requests are written one after another, and each response belongs to
+-- the first request that waits.
+use Rattle.std.specs.Prelude.{◌≡◌, ◌≤◌, nat_le, ℕ, ◌-◌, Bool, true, false, List, [], ◌∷◌, ◌++◌, length, sum_by, Option, Some, None}
+use Rattle.tko_text.specs.declared.request.Request.{Request}
+use Rattle.tko_text.specs.declared.response.Response.{Response}
+use Rattle.tko_text.specs.Requests.{request_text}
+use Rattle.tko_text.specs.Responses.{IsResponse}
+use Rattle.tko_pipe.specs.declared.awaited.Asker.{Asker}
+use Rattle.tko_pipe.specs.declared.awaited.Awaited.{Awaited}
+use Rattle.tko_pipe.specs.declared.fates.Fates.{Fates}
+use Rattle.tko_pipe.specs.declared.fates.ShutCause.{ShutCause}
+use Rattle.tko_pipe.specs.declared.fates.ShutCause.TheVariants.{Silent, Late}
+use Rattle.tko_pipe.specs.declared.link.Link.{Link}
+use Rattle.tko_pipe.specs.declared.link.Link.TheVariants.{Connecting, Connected, Shut}
+use Rattle.tko_pipe.specs.Fates.{Leaving, fate_at, fates_of}
+
+-- the time limit, how far the connection is, who waits, what is not written of their requests'
+-- texts, the bytes that no response was taken from, and when the last bytes came
+pub record PipeState : Type 0 where
+  pub limit : ℕ
+  pub link : Link
+  pub waiting : List Awaited
+  pub unwritten : List ℕ
+  pub unread : List ℕ
+  pub heard : Option ℕ
+
+-- a connection that is being made
+abbrev pub begun : ℕ → PipeState
+begun limit = record {
+  limit = limit;
+  link = Connecting;
+  waiting = [];
+  unwritten = [];
+  unread = [];
+  heard = None;
+}
+
+-- the connection was not shut
+abbrev pub IsLive : Link → Type 0
+IsLive Connecting = Unit {0}
+IsLive Connected = Unit {0}
+IsLive (Shut left) = ⊥
+
+-- only on a connection that is there bytes are unread
+abbrev pub IsRead : Link → List ℕ → Type 0
+IsRead Connecting unread = unread ≡ []
+IsRead Connected unread = Unit {0}
+IsRead (Shut left) unread = unread ≡ []
+
+-- how long the texts of those that wait are
+abbrev pub lengths_of : List Awaited → ℕ
+lengths_of waiting = sum_by (λ it. it.len) waiting
+
+-- the first request was written wholly: what is unwritten are the texts of those that follow it
+abbrev pub is_first_written : List Awaited → List ℕ → Bool
+is_first_written [] unwritten = false
+is_first_written (first ∷ others) unwritten = nat_le (length unwritten) (lengths_of others)
+
+-- whether somebody can have asked for these bytes
+abbrev pub is_asked : List ℕ → List Awaited → List ℕ → Bool
+is_asked [] waiting unwritten = true
+is_asked (byte ∷ bytes) waiting unwritten = is_first_written waiting unwritten
+
+-- the first response is late at this moment
+abbrev pub is_late : List Awaited → ℕ → Bool
+is_late [] now = false
+is_late (first ∷ others) now = nat_le first.due now
+
+-- no byte came for the whole time limit, up to this moment
+abbrev pub is_silent : Option ℕ → ℕ → ℕ → Bool
+is_silent None limit now = true
+is_silent (Some heard) limit now = nat_le limit (now - heard)
+
+-- a connection can be shut for this cause. Of most causes only the caller knows whether they are so
+abbrev pub IsCause : PipeState → ShutCause → Type 0
+IsCause state (Silent now) =
+    (is_late state.waiting now ≡ true) × (is_silent state.heard state.limit now ≡ true)
+IsCause state (Late now) =
+    (is_late state.waiting now ≡ true) × (is_silent state.heard state.limit now ≡ false)
+IsCause state _ = Unit {0}
+
+-- who waits, and for what
+pub record Pushing : Type 0 where
+  pub awaited : Awaited
+  pub request : Request
+
+-- who waited, the request, and the response with its bytes
+pub record Taking : Type 0 where
+  pub awaited : Awaited
+  pub request : Request
+  pub response : Response
+  pub bytes : List ℕ
+
+-- why a connection was shut, and the bytes that were dropped with it
+pub record Shutting : Type 0 where
+  pub cause : ShutCause
+  pub unwritten : List ℕ
+  pub unread : List ℕ
+
+-- an entry for this request
+abbrev pub pushing : Asker → ℕ → Request → Pushing
+pushing by due request = record {
+  awaited = record { by = by; due = due; len = length (request_text request) };
+  request = request;
+}
+
+-- the connection was made
+pub record IsConnected (old new : PipeState) : Type 0 where
+  pub was_connecting : old.link ≡ Connecting
+  pub state : new ≡ record old { link = Connected }
+
+-- somebody waits behind the others, and the text of the request is to be written behind theirs
+pub record IsPushed (old : PipeState) (it : Pushing) (new : PipeState) : Type 0 where
+  pub live : IsLive old.link
+  pub len : it.awaited.len ≡ length (request_text it.request)
+  pub state : new ≡ record old {
+    waiting = old.waiting ++ it.awaited ∷ [];
+    unwritten = old.unwritten ++ request_text it.request;
+  }
+
+-- these bytes of what was not written were written
+pub record IsWritten (old : PipeState) (bytes : List ℕ) (new : PipeState) : Type 0 where
+  pub connected : old.link ≡ Connected
+  pub front : old.unwritten ≡ bytes ++ new.unwritten
+  pub state : new ≡ record old { unwritten = new.unwritten }
+
+-- these bytes came at this moment
+pub record IsGot (old : PipeState) (bytes : List ℕ) (now : ℕ) (new : PipeState) : Type 0 where
+  pub connected : old.link ≡ Connected
+  pub asked : is_first_written old.waiting old.unwritten ≡ true
+  pub state : new ≡ record old { unread = old.unread ++ bytes; heard = Some now }
+
+-- the first that waited had its request written wholly, and the response to this request was at the
+-- front
+pub record IsTaken (old : PipeState) (it : Taking) (new : PipeState) : Type 0 where
+  pub connected : old.link ≡ Connected
+  pub first : old.waiting ≡ it.awaited ∷ new.waiting
+  pub written : length old.unwritten ≤ lengths_of new.waiting
+  pub front : old.unread ≡ it.bytes ++ new.unread
+  pub response : IsResponse it.request it.bytes it.response
+  pub state : new ≡ record old { waiting = new.waiting; unread = new.unread }
+
+-- the connection as this cause leaves it
+abbrev pub shut_by : PipeState → ShutCause → PipeState
+shut_by old cause = record old { link = Shut (fates_of old.link cause); unwritten = []; unread = [] }
+
+-- what is dropped with a connection that is shut for this cause
+abbrev pub shutting : PipeState → ShutCause → Shutting
+shutting old cause =
+    record { cause = cause; unwritten = old.unwritten; unread = old.unread }
+
+-- the connection was shut
+pub record IsShut (old : PipeState) (it : Shutting) (new : PipeState) : Type 0 where
+  pub live : IsLive old.link
+  pub cause : IsCause old it.cause
+  pub unwritten : it.unwritten ≡ old.unwritten
+  pub unread : it.unread ≡ old.unread
+  pub state : new ≡ shut_by old it.cause
+
+-- of those whose connection was shut the first left
+pub record IsLeft (old : PipeState) (it : Leaving) (new : PipeState) : Type 0 where
+  pub left : Fates
+  pub shut : old.link ≡ Shut left
+  pub first : old.waiting ≡ it.awaited ∷ new.waiting
+  pub came : it.came ≡ fate_at left it.awaited.due
+  pub state : new ≡ record old {
+    waiting = new.waiting;
+    link = Shut (record left { first = None });
+  }

@@ -1,0 +1,118 @@
+//! Why a connection was shut, and what that makes of the requests whose responses had not come.
+ghost use Rattle.std.specs.Prelude.{◌≡◌, Some, None};
+ghost use Rattle.tko_pipe.specs.Fates.{fate_at, fate_behind, fates, fates_of};
+
+use crate::Link;
+
+/// Why a connection was shut.
+#[derive(Clone, Copy, Debug, PartialEq, Eq)]
+pub enum ShutCause {
+    /// The server ended it.
+    EndOfInput,
+    /// Connecting, or a read or a write, failed.
+    Fault,
+    /// At this moment the first response was late, and no byte had come for the whole time limit.
+    Silent(u64),
+    /// At this moment the first response was late, and bytes had come within the time limit.
+    Late(u64),
+    /// What came is no response to the first request.
+    Unreadable,
+    /// Bytes came that nobody asked for.
+    Unasked,
+    /// Memory ran out for the connection.
+    Memory,
+}
+
+/// What became of a request whose connection was shut before its response came.
+#[derive(Clone, Copy, Debug, PartialEq, Eq)]
+pub enum Fate {
+    /// The connection was never made.
+    Refused,
+    /// The response is late.
+    Timeout,
+    /// The server or the connection failed at this request.
+    Broken,
+    /// The connection was shut for what happened to another request. It says nothing about the
+    /// server.
+    Aborted,
+    /// Memory ran out while this response was read.
+    Memory,
+}
+
+/// What becomes of the requests that follow the first one.
+#[derive(Clone, Copy, Debug, PartialEq, Eq)]
+pub enum Behind {
+    /// Each has this fate.
+    Each(Fate),
+    /// `Timeout` if its response is late at this moment, else `Aborted`.
+    LateAt(u64),
+}
+
+impl Behind {
+    /// The fate of a request whose response is due at this moment.
+    pub fn fate(self, due: u64) -> Fate
+        ensures { result ≡ fate_behind self due }
+    {
+        match self {
+            Behind::Each(fate) => fate,
+            Behind::LateAt(now) if due <= now => Fate::Timeout,
+            Behind::LateAt(_) => Fate::Aborted,
+        }
+    }
+}
+
+/// What becomes of the requests that a connection leaves.
+#[derive(Clone, Copy, Debug, PartialEq, Eq)]
+pub struct Fates {
+    /// That of the first of them, until it was handed out.
+    pub first: Option<Fate>,
+    pub behind: Behind,
+}
+
+impl Fates {
+    /// The first request has the one fate, and those that follow it the other.
+    fn new(first: Fate, behind: Behind) -> Fates
+        ensures { result ≡ fates first behind }
+    {
+        Fates {
+            first: Some(first),
+            behind,
+        }
+    }
+
+    /// The table: a connection that was this far is shut for this cause.
+    pub fn of(link: Link, cause: ShutCause) -> Fates
+        ensures { result ≡ fates_of link cause }
+    {
+        match (link, cause) {
+            (_, ShutCause::Memory) => Fates::new(Fate::Memory, Behind::Each(Fate::Aborted)),
+            (Link::Connecting, _) => Fates::new(Fate::Refused, Behind::Each(Fate::Refused)),
+            (_, ShutCause::Silent(_)) => Fates::new(Fate::Timeout, Behind::Each(Fate::Timeout)),
+            (_, ShutCause::Late(now)) => Fates::new(Fate::Timeout, Behind::LateAt(now)),
+            (_, ShutCause::EndOfInput)
+            | (_, ShutCause::Fault)
+            | (_, ShutCause::Unreadable)
+            | (_, ShutCause::Unasked) => Fates::new(Fate::Broken, Behind::Each(Fate::Aborted)),
+        }
+    }
+
+    /// The fate of the next request that leaves, whose response is due at this moment.
+    pub fn fate(self, due: u64) -> Fate
+        ensures { result ≡ fate_at self due }
+    {
+        match self.first {
+            Some(fate) => fate,
+            None => self.behind.fate(due),
+        }
+    }
+
+    /// The same once the first request has left.
+    pub(crate) fn without_first(self) -> Fates
+        ensures { result ≡ record self { first = None } }
+    {
+        Fates {
+            first: None,
+            behind: self.behind,
+        }
+    }
+}

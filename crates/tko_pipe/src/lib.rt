@@ -1,0 +1,24 @@
+//! One pipelined connection to a server, as a value. There is no socket, no clock and no handle
+//! here: the caller moves the bytes, and moments come in as milliseconds.
+//!
+//! - `Pipe`: the requests that were sent on one connection, from connecting until it is shut, and
+//!   the responses to them; `Link`: how far the connection is.
+//! - `Awaited`: a response that has not come yet; `Asker`: who waits for it.
+//! - `ShutCause`: why a connection was shut; `Fate`: what that makes of a request.
+#![tactic(auto)]
+
+mod awaited;
+mod byte_queue;
+mod fates;
+mod law;
+mod link;
+mod pipe;
+
+pub use awaited::{Asker, Awaited};
+pub use fates::{Behind, Fate, Fates, ShutCause};
+pub use law::pipe_life;
+pub use link::Link;
+pub use pipe::Pipe;
+
+#[cfg(test)]
+mod tests;

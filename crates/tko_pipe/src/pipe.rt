@@ -1,0 +1,313 @@
+//! The requests on one connection, and the responses to them.
+ghost use Rattle.std.specs.Prelude.{◌≡◌, ◌≤◌, ◌<◌, ℕ, List, [], if◌then◌else◌, OnOk, OnErr, length, take, slice_get};
+ghost use Rattle.std.specs.Option.{option_copied};
+ghost use Rattle.tko_pipe.specs.Ends.{ExpireEnds, GotEnds, LeaveEnds, TakeEnds};
+ghost use Rattle.tko_pipe.specs.Fates.{fates_of};
+ghost use Rattle.tko_pipe.specs.Pipes.{IsCause, IsConnected, IsLive, IsPushed, IsShut, IsWritten, begun, is_asked, is_first_written, is_silent, lengths_of, pushing, shutting};
+
+use crate::byte_queue::ByteQueue;
+use crate::{Asker, Awaited, Fate, Fates, Link, ShutCause};
+use std::alloc::Global;
+use std::collections::VecDeque;
+use std::marker::Model;
+use tko_text::{NoMemory, ReadFault, Request, Response};
+
+/// One connection to a server, from connecting until it was shut and all that waited have left. The
+/// k-th response that comes is that to the k-th request.
+///
+/// After each read the caller calls `got`, and then `take` until that returns `None`; after each
+/// write `wrote`, and as time passes `expire`. Once the connection was shut, it closes its socket
+/// and calls `leave` until that returns `None`.
+#[derive(Drop)]
+pub struct Pipe {
+    /// How long a response may take, in milliseconds.
+    limit: u64,
+    link: Link,
+    /// Whose responses have not come, first come first.
+    waiting: VecDeque<Awaited>,
+    /// How long the texts of all their requests are.
+    queued: usize,
+    unwritten: ByteQueue,
+    unread: ByteQueue,
+    /// When bytes came last.
+    heard: Option<u64>,
+}
+
+impl Model for Pipe {
+    ghost use Rattle.std.specs.Prelude.{◌≡◌, true};
+    ghost use Rattle.tko_pipe.specs.Pipes.{IsRead, PipeState, is_asked, lengths_of};
+
+    ghost Value = { PipeState };
+
+    ghost view = { λ p. record {
+      limit = p.limit;
+      link = p.link;
+      waiting = p.waiting.items;
+      unwritten = p.unwritten;
+      unread = p.unread;
+      heard = p.heard;
+    } };
+
+    ghost invariant = { λ p. (p.queued ≡ lengths_of p.waiting.items)
+        × (is_asked p.unread p.waiting.items p.unwritten ≡ true)
+        × IsRead p.link p.unread };
+}
+
+impl Pipe {
+    /// A connection that is being made, on which a response may take `limit` milliseconds.
+    pub fn new(alloc: Global, limit: u64) -> Pipe
+        ensures { result ≡ begun limit }
+    {
+        Pipe {
+            limit,
+            link: Link::Connecting,
+            waiting: VecDeque::new(alloc),
+            queued: 0,
+            unwritten: ByteQueue::new(alloc),
+            unread: ByteQueue::new(alloc),
+            heard: None,
+        }
+    }
+
+    /// How far the connection is.
+    pub fn link(&self) -> Link
+        ensures { result ≡ self.now.link }
+    {
+        self.link
+    }
+
+    /// The connection was made.
+    pub fn connected(&mut self)
+        requires { self.old.link ≡ Link.Connecting }
+        ensures { IsConnected self.old self.new }
+    {
+        self.link = Link::Connected;
+    }
+
+    /// A request is to be sent after the others, and the response to it is due at this moment. It
+    /// must be one that the server answers, so without `noreply` and of one key at most.
+    pub fn push(&mut self, by: Asker, due: u64, request: &Request) -> Result<(), NoMemory>
+        requires { IsLive self.old.link }
+        ensures ok { OnOk result (IsPushed self.old (pushing by due request.now) self.new) }
+        ensures err { OnErr result (self.new ≡ self.old) }
+    {
+        let before = self.unwritten.len();
+        self.unwritten.append_request(request)?;
+        let len = self.unwritten.len() - before;
+        let Some(queued) = self.queued.checked_add(len) else {
+            self.unwritten.truncate(before);
+            return Err(NoMemory);
+        };
+        if self.waiting.push_back(Awaited { by, due, len }).is_err() {
+            self.unwritten.truncate(before);
+            return Err(NoMemory);
+        }
+        self.queued = queued;
+        Ok(())
+    }
+
+    /// What is to be written, once the connection was made.
+    pub fn unwritten(&self) -> &[u8]
+        ensures { result.now ≡ self.now.unwritten }
+    {
+        self.unwritten.as_slice()
+    }
+
+    /// So many bytes of it were written.
+    pub fn wrote(&mut self, count: usize)
+        requires connected { self.old.link ≡ Link.Connected }
+        requires within { count ≤ length self.old.unwritten }
+        ensures { IsWritten self.old (take count self.old.unwritten) self.new }
+    {
+        self.unwritten.pass(count);
+    }
+
+    /// These bytes were read, at this moment. An `Err` says that this shut the connection: nobody
+    /// asked for them, or memory ran out.
+    pub fn got(&mut self, now: u64, bytes: &[u8]) -> Result<(), ShutCause>
+        requires connected { self.old.link ≡ Link.Connected }
+        requires some { 0 < length bytes.now }
+        ensures { GotEnds self.old bytes.now now result self.new }
+    {
+        if !is_first_written(&self.waiting, self.queued, self.unwritten.len()) {
+            self.shut(ShutCause::Unasked);
+            return Err(ShutCause::Unasked);
+        }
+        if self.unread.append(bytes).is_err() {
+            self.shut(ShutCause::Memory);
+            return Err(ShutCause::Memory);
+        }
+        self.heard = Some(now);
+        Ok(())
+    }
+
+    /// Who waits for the next response, or is the next to leave.
+    pub fn first(&self) -> Option<&Awaited>
+        ensures { option_copied result ≡ slice_get self.now.waiting 0 }
+    {
+        self.waiting.front()
+    }
+
+    /// The response to the first request, which is lent, as soon as all of it was read. An `Err`
+    /// says that this shut the connection: what came is no response to it, or memory ran out. Bytes
+    /// that follow a response and that nobody asked for shut it too. On a connection that was shut
+    /// no response comes.
+    pub fn take(
+        &mut self,
+        alloc: Global,
+        request: &Request,
+    ) -> Result<Option<(Asker, Response)>, ShutCause>
+        ensures { TakeEnds self.old request.now result self.new }
+    {
+        match self.link {
+            Link::Connected => self.take_connected(alloc, request),
+            Link::Connecting => Ok(None),
+            Link::Shut(_) => Ok(None),
+        }
+    }
+
+    /// The same while the connection is there.
+    fn take_connected(
+        &mut self,
+        alloc: Global,
+        request: &Request,
+    ) -> Result<Option<(Asker, Response)>, ShutCause>
+        requires { self.old.link ≡ Link.Connected }
+        ensures { TakeEnds self.old request.now result self.new }
+    {
+        let Some(first) = self.waiting.front() else {
+            return Ok(None);
+        };
+        let (by, len) = (first.by, first.len);
+        if self.unread.is_empty() {
+            return Ok(None);
+        }
+        match self.unread.take_response(alloc, request) {
+            Ok(response) => {
+                self.waiting.pop_front();
+                self.queued -= len;
+                drop_unasked(
+                    &mut self.link,
+                    &self.waiting,
+                    self.queued,
+                    &mut self.unwritten,
+                    &mut self.unread,
+                );
+                Ok(Some((by, response)))
+            }
+            Err(ReadFault::Short) => Ok(None),
+            Err(ReadFault::Unreadable) => {
+                self.shut(ShutCause::Unreadable);
+                Err(ShutCause::Unreadable)
+            }
+            Err(ReadFault::Memory) => {
+                self.shut(ShutCause::Memory);
+                Err(ShutCause::Memory)
+            }
+        }
+    }
+
+    /// Shuts the connection if the first response is late at this moment, and returns for which
+    /// cause. Those behind it are not looked at: one time limit for all makes them due later.
+    pub fn expire(&mut self, now: u64) -> Option<ShutCause>
+        requires { IsLive self.old.link }
+        ensures { ExpireEnds self.old now result self.new }
+    {
+        let due = self.waiting.front()?.due;
+        if due > now {
+            return None;
+        }
+        if is_silent(self.heard, self.limit, now) {
+            self.shut(ShutCause::Silent(now));
+            return Some(ShutCause::Silent(now));
+        }
+        self.shut(ShutCause::Late(now));
+        Some(ShutCause::Late(now))
+    }
+
+    /// Gives up the connection for this cause, with all that came on it and all that is to be
+    /// written.
+    pub fn shut(&mut self, cause: ShutCause)
+        requires live { IsLive self.old.link }
+        requires cause { IsCause self.old cause }
+        ensures { IsShut self.old (shutting self.old cause) self.new }
+    {
+        self.link = Link::Shut(Fates::of(self.link, cause));
+        self.unwritten.clear();
+        self.unread.clear();
+    }
+
+    /// The next of those that waited when the connection was shut, and what became of its request.
+    /// As long as it isn't shut none leaves.
+    pub fn leave(&mut self) -> Option<(Asker, Fate)>
+        ensures { LeaveEnds self.old result self.new }
+    {
+        let Link::Shut(fates) = self.link else {
+            return None;
+        };
+        let awaited = self.waiting.pop_front()?;
+        self.queued -= awaited.len;
+        self.link = Link::Shut(fates.without_first());
+        Some((awaited.by, fates.fate(awaited.due)))
+    }
+}
+
+/// Whether the text of the first request was written wholly, where the texts of all requests have
+/// the one length and what is not written of them has the other.
+fn is_first_written(waiting: &VecDeque<Awaited>, queued: usize, unwritten: usize) -> bool
+    requires { queued ≡ lengths_of waiting.now.items }
+    ensures { (unsent : List ℕ) → unwritten ≡ length unsent
+        → result ≡ is_first_written waiting.now.items unsent }
+{
+    match waiting.front() {
+        Some(first) => unwritten <= queued - first.len,
+        None => false,
+    }
+}
+
+/// Whether somebody can have asked for the bytes that are unread.
+fn is_asked(
+    unread: &ByteQueue,
+    waiting: &VecDeque<Awaited>,
+    queued: usize,
+    unwritten: &ByteQueue,
+) -> bool
+    requires { queued ≡ lengths_of waiting.now.items }
+    ensures { result ≡ is_asked unread.now waiting.now.items unwritten.now }
+{
+    unread.is_empty() || is_first_written(waiting, queued, unwritten.len())
+}
+
+/// Shuts the connection if bytes are unread that nobody asked for.
+fn drop_unasked(
+    link: &mut Link,
+    waiting: &VecDeque<Awaited>,
+    queued: usize,
+    unwritten: &mut ByteQueue,
+    unread: &mut ByteQueue,
+)
+    requires { queued ≡ lengths_of waiting.now.items }
+    ensures link { link.new ≡ (if is_asked unread.old waiting.now.items unwritten.old
+        then link.old else Link.Shut (fates_of link.old ShutCause.Unasked)) }
+    ensures unwritten { unwritten.new ≡ (if is_asked unread.old waiting.now.items unwritten.old
+        then unwritten.old else []) }
+    ensures unread { unread.new ≡ (if is_asked unread.old waiting.now.items unwritten.old
+        then unread.old else []) }
+{
+    if is_asked(unread, waiting, queued, unwritten) {
+        return;
+    }
+    *link = Link::Shut(Fates::of(*link, ShutCause::Unasked));
+    unwritten.clear();
+    unread.clear();
+}
+
+/// Whether no byte came for the whole time limit, up to this moment.
+fn is_silent(heard: Option<u64>, limit: u64, now: u64) -> bool
+    ensures { result ≡ is_silent heard limit now }
+{
+    match heard {
+        Some(heard) => now.saturating_sub(heard) >= limit,
+        None => true,
+    }
+}
