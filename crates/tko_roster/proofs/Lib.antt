@@ -1,0 +1,2 @@
+mod RosterLemmas
+mod SlotLemmas

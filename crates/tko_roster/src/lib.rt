@@ -1,0 +1,16 @@
+//! The clients of a worker by number: their sessions, and what these share.
+//!
+//! - `Driven`: a session as its roster sees it; `Roster`: the sessions by number, over the parts
+//!   that they share.
+#![tactic(auto)]
+
+mod driven;
+mod law;
+mod roster;
+
+pub use driven::Driven;
+pub use law::own_acts;
+pub use roster::Roster;
+
+#[cfg(test)]
+mod tests;
