@@ -1,4 +1,4 @@
-"""A start where not every worker's thread can be made: the program ends, and serves fewer clients in no case."""
+"""Starts on a machine that lacks something: the program prints `ready` and serves, or it ends and never prints it."""
 import os
 import select
 import shutil
@@ -19,8 +19,50 @@ USER = 54242
 LIMIT = 20
 
 
-@unittest.skipUnless(os.getuid() == 0, "only root may run a program as a user that may have few threads")
 class Starting(ServerTest):
+    def start(self, limited, output=subprocess.PIPE, **user):
+        """The port of a program that is started by these words, and its process."""
+        port = free_port()
+        _, *words = serve_words(port, self.config, {"threads": WORKERS, "log": "off"})
+        process = start([*limited, self.program, *words], stdout=output, stderr=subprocess.PIPE, bufsize=0, **user)
+        self.addCleanup(self.close, process)
+        return port, process
+
+    def close(self, process):
+        stop(process)
+        if process.stdout:
+            process.stdout.close()
+        process.stderr.close()
+
+    def assertEnded(self, process, fault):
+        """The program ends with status 1 and this fault."""
+        self.assertEqual(process.wait(LIMIT), 1)
+        self.assertEqual(process.stderr.read().splitlines()[-1], fault)
+
+    def is_ready(self, process):
+        """Whether a program prints `ready`. Else it ends since memory is lacking, and prints nothing."""
+        came, _, _ = select.select([process.stdout], [], [], LIMIT)
+        self.assertTrue(came, "the program prints `ready`, or ends")
+        line = process.stdout.readline()
+        if line == b"ready\n":
+            return True
+        self.assertEqual(line, b"")
+        self.assertEnded(process, b"fault: memory")
+        return False
+
+    def assertServesAll(self, port):
+        """As many clients as there are workers are answered while all are connected."""
+        clients = []
+        try:
+            clients.extend(Client(port, limit=LIMIT) for _ in range(WORKERS))
+            self.assertEqual([client.ask(b"version\r\n") for client in clients], [VERSION] * WORKERS)
+        finally:
+            for client in clients:
+                client.close()
+
+
+@unittest.skipUnless(os.getuid() == 0, "only root may run a program as a user that may have few threads")
+class FewThreads(Starting):
     def setUp(self):
         self.config = configuration(only=[self.memcached()])
         # Where the program was built that user may read nothing.
@@ -30,45 +72,44 @@ class Starting(ServerTest):
         self.program = shutil.copy(parts.PROGRAM, folder.name)
         os.chmod(self.program, 0o755)
 
-    def started(self, threads):
-        """The port of a program that may have so many threads, and its process."""
-        port = free_port()
-        _, *words = serve_words(port, self.config, {"threads": WORKERS, "log": "off"})
-        process = start(["prlimit", f"--nproc={threads}:{threads}", self.program, *words], stdout=subprocess.PIPE,
-                        stderr=subprocess.PIPE, bufsize=0, user=USER, group=USER, extra_groups=[])
-        self.addCleanup(self.close, process)
-        came, _, _ = select.select([process.stdout], [], [], LIMIT)
-        self.assertTrue(came, "the program prints `ready`, or ends")
-        return port, process
-
-    def close(self, process):
-        stop(process)
-        process.stdout.close()
-        process.stderr.close()
-
-    def served(self, port):
-        """How many of as many clients as there are workers are answered while all are connected."""
-        clients = []
-        try:
-            clients.extend(Client(port, limit=LIMIT) for _ in range(WORKERS))
-            return sum(client.ask(b"version\r\n") == VERSION for client in clients)
-        except (ConnectionError, EOFError):
-            return 0
-        finally:
-            for client in clients:
-                client.close()
-
-    def serves(self, threads):
-        """Whether a program that may have so many threads serves as many clients as it has workers; else it ends."""
-        port, process = self.started(threads)
-        if self.served(port) == WORKERS:
-            stop(process)
-            return True
-        self.assertEqual(process.wait(LIMIT), 1)
-        self.assertEqual(process.stderr.read().splitlines()[-1], b"fault: memory")
-        return False
-
     def test_each_worker_has_a_thread_or_the_program_ends(self):
         # One thread accepts.
         for threads in range(1, WORKERS + 3):
-            self.assertEqual(self.serves(threads), threads > WORKERS, threads)
+            with self.subTest(threads=threads):
+                limited = ["prlimit", f"--nproc={threads}:{threads}"]
+                port, process = self.start(limited, user=USER, group=USER, extra_groups=[])
+                self.assertEqual(self.is_ready(process), threads > WORKERS)
+                if threads > WORKERS:
+                    self.assertServesAll(port)
+                stop(process)
+
+
+class LittleMemory(Starting):
+    def setUp(self):
+        self.config = configuration(only=[self.memcached()])
+        self.program = parts.PROGRAM
+
+    def test_each_worker_has_its_memory_or_the_program_ends(self):
+        ready, answered = [], []
+        for memory in range(14_000, 60_001, 500):
+            with self.subTest(memory=memory):
+                port, process = self.start(["prlimit", f"--as={memory * 1024}"])
+                ready.append(self.is_ready(process))
+                answered.append(ready[-1] and self.is_answered(port))
+                # A session that lacks memory ends, and the program stays.
+                self.assertEqual(process.poll(), None if ready[-1] else 1)
+                stop(process)
+        self.assertEqual({False, True}, set(ready), "some are too small")
+        self.assertTrue(answered[-1])
+
+    def is_answered(self, port):
+        with Client(port, limit=LIMIT) as client:
+            try:
+                return client.ask(b"version\r\n") == VERSION
+            except (ConnectionError, EOFError):
+                return False
+
+    def test_an_output_that_is_full_is_a_fault(self):
+        with open("/dev/full", "wb") as full:
+            _, process = self.start([], output=full)
+        self.assertEnded(process, b"fault: write")

@@ -1,8 +1,9 @@
 -- What `serve` writes, and why it fails.
-use Rattle.std.proofs.Common.{◌≡◌, ◌<◌, ℕ, List, Option, Some, Ok, Err, IfErr, OnErr, OnOk, Result, inl, inr, refl, subst, sym}
+use Rattle.std.proofs.Common.{◌≡◌, ◌<◌, ℕ, List, Option, Some, Ok, Err, IfErr, OnErr, OnOk, Result, ap, inl, inr, refl, subst, sym}
 use Rattle.tko_model.specs.Ranges.{IsWithinRanges, first_fault}
 use Rattle.tko_model.specs.Settings.{Settings}
 use Rattle.tko_model.specs.declared.settings.SettingsFault.{SettingsFault}
+use Rattle.tko_server.specs.Announcing.{After, Before, IsAnnounced}
 use Rattle.tko_server.specs.Runs.{tracker_settings}
 use Rattle.tko_server.specs.declared.run_fault.RunFault.{RunFault as ServerFault}
 use Rattle.tko_server.specs.declared.run_fault.RunFault.TheVariants as server_fault
@@ -11,7 +12,9 @@ use Rattle.tko_commands.proofs.GroupedLemmas.{no_fault}
 use Rattle.tko_commands.specs.declared.fault.Fault.{Fault}
 use Rattle.tko_commands.specs.declared.fault.Fault.TheVariants as fault
 use Rattle.tko_cli.specs.Planned.{IsPlanned, IsServerOf}
-use Rattle.tko_cli.specs.Serving.{HasBegun, HasNoListener, HasNoMetrics, HasPlan, IsExplained, IsPrepared, IsRunnable, IsUnprepared, NotWritten, PreparedFails, Ready, ServeFails, TotalsFail, fault_of_server, ready_text}
+use Rattle.tko_cli.specs.Announcements.{HasNotPrinted, HasPrinted, ready_text}
+use Rattle.tko_cli.specs.Serving.{HasFailed, HasNoListener, HasNoMetrics, HasPlan, IsExplained, IsPrepared, IsRunnable, IsUnprepared, NotReady, NotWritten, PreparedFails, Ready, ServeFails, TotalsFail, fault_of_server}
+use Rattle.tko_cli.specs.declared.announcement.Announcement.{Announcement}
 use Rattle.tko_cli.specs.declared.planned.Plan.{Plan}
 use Rattle.tko_cli.specs.declared.serving.Prepared.{Prepared}
 use Rattle.tko_options.specs.declared.serve_options.ServeOptions.{ServeOptions}
@@ -48,21 +51,38 @@ never_unset settings name within first =
     let none = no_fault settings within in
     absurd (cc)
 
--- after `ready` a server fails without another word
-pub server_fails : {O : Type 0} (takes : O → List ℕ → O → Type 0) (failures : O → ℕ) (from to : O)
-    (cause : ServerFault) → takes from ready_text to
-    → ((name : SettingsFault) → cause ≡ server_fault.Settings name → ⊥)
-    → PreparedFails takes failures from to (fault_of_server cause)
-server_fails takes failures from to (server_fault.Settings name) ready never = absurd (never name refl)
-server_fails takes failures from to server_fault.Memory ready never = ready
-server_fails takes failures from to server_fault.Accept ready never = ready
+-- an announcement keeps its output
+pub same_output : {O T : Type 0} (takes : O → List ℕ → O → Type 0) (failures : O → ℕ) (old new : Announcement O)
+    (result : Result T ServerFault) → IsAnnounced (HasPrinted takes failures) (HasNotPrinted failures) old new result
+    → new.output.ghost_name ≡ old.output.ghost_name
+same_output takes failures old new (Ok ended) is = is.same_reference
+same_output takes failures old new (Err (server_fault.Settings name)) is = ap (λ one. one.output.ghost_name) is
+same_output takes failures old new (Err server_fault.Memory) (Before same) = ap (λ one. one.output.ghost_name) same
+same_output takes failures old new (Err server_fault.Memory) (After printed) = printed.same_reference
+same_output takes failures old new (Err server_fault.Announce) is = is.same_reference
+same_output takes failures old new (Err server_fault.Accept) is = is.same_reference
+
+-- why a server fails that had announced to this output, or had not
+pub server_fails : {O T : Type 0} (takes : O → List ℕ → O → Type 0) (failures : O → ℕ) (old new : Announcement O)
+    (to : O) (result : Result T ServerFault) → to ≡ new.output.now
+    → ((name : SettingsFault) → result ≡ Err (server_fault.Settings name) → ⊥)
+    → IsAnnounced (HasPrinted takes failures) (HasNotPrinted failures) old new result
+    → IfErr result (λ cause. PreparedFails takes failures old.output.now to (fault_of_server cause))
+server_fails takes failures old new to (Ok ended) kept never is = tt
+server_fails takes failures old new to (Err (server_fault.Settings name)) kept never is = absurd (never name refl)
+server_fails takes failures old new to (Err server_fault.Memory) kept never (Before same) =
+    inl (rw kept (ap (λ one. one.output.now) same))
+server_fails takes failures old new to (Err server_fault.Memory) kept never (After printed) =
+    inr (rw kept printed.written.ready)
+server_fails takes failures old new to (Err server_fault.Announce) kept never is = rw kept is.failed
+server_fails takes failures old new to (Err server_fault.Accept) kept never is = rw kept is.written.ready
 
 -- after `ready` the totals were not written
 pub totals_fail : {O : Type 0} (takes : O → List ℕ → O → Type 0) (failures : O → ℕ) (from middle to : O)
     (reason : Fault) → takes from ready_text middle → failures middle ≡ failures from
     → TotalsFail failures middle to reason → PreparedFails takes failures from to reason
 totals_fail takes failures from middle to fault.Write ready calm is = subst (λ n. n < failures to) calm is
-totals_fail takes failures from middle to fault.Memory ready calm is = subst (takes from ready_text) (sym is) ready
+totals_fail takes failures from middle to fault.Memory ready calm is = inr (subst (takes from ready_text) (sym is) ready)
 totals_fail takes failures from middle to fault.Read ready calm is = absurd is
 totals_fail takes failures from middle to fault.LineTooLong ready calm is = absurd is
 totals_fail takes failures from middle to (fault.Settings name) ready calm is = absurd is
@@ -136,7 +156,8 @@ pub prepared_fails : {O : Type 0} (takes : O → List ℕ → O → Type 0) (fai
     → ServeFails takes failures options from to reason
 prepared_fails takes failures options from to fault.Write plan is = is
 prepared_fails takes failures options from to fault.Accept plan is = record { plan = plan; ready = is }
-prepared_fails takes failures options from to fault.Memory plan is = inr (record { plan = plan; ready = is })
+prepared_fails takes failures options from to fault.Memory plan (inl same) = inl same
+prepared_fails takes failures options from to fault.Memory plan (inr ready) = inr (record { plan = plan; ready = ready })
 prepared_fails takes failures options from to fault.Read plan is = absurd is
 prepared_fails takes failures options from to fault.LineTooLong plan is = absurd is
 prepared_fails takes failures options from to (fault.Settings name) plan is = absurd is
@@ -149,23 +170,24 @@ prepared_fails takes failures options from to fault.Delays plan is = absurd is
 prepared_fails takes failures options from to (fault.Listen cause) plan is = absurd is
 prepared_fails takes failures options from to fault.Metrics plan is = absurd is
 
--- such a server had begun
-pub has_begun : {O : Type 0} (takes : O → List ℕ → O → Type 0) (failures : O → ℕ) (from to : O) (reason : Fault)
-    → PreparedFails takes failures from to reason → HasBegun takes failures from to
-has_begun takes failures from to fault.Write is = NotWritten is
-has_begun takes failures from to fault.Accept is = Ready is
-has_begun takes failures from to fault.Memory is = Ready is
-has_begun takes failures from to fault.Read is = absurd is
-has_begun takes failures from to fault.LineTooLong is = absurd is
-has_begun takes failures from to (fault.Settings name) is = absurd is
-has_begun takes failures from to (fault.Config cause) is = absurd is
-has_begun takes failures from to fault.ConfigFile is = absurd is
-has_begun takes failures from to (fault.Outcomes number) is = absurd is
-has_begun takes failures from to (fault.Line number) is = absurd is
-has_begun takes failures from to fault.Check is = absurd is
-has_begun takes failures from to fault.Delays is = absurd is
-has_begun takes failures from to (fault.Listen cause) is = absurd is
-has_begun takes failures from to fault.Metrics is = absurd is
+-- how such a server has failed
+pub has_failed : {O : Type 0} (takes : O → List ℕ → O → Type 0) (failures : O → ℕ) (from to : O) (reason : Fault)
+    → PreparedFails takes failures from to reason → HasFailed takes failures from to
+has_failed takes failures from to fault.Write is = NotWritten is
+has_failed takes failures from to fault.Accept is = Ready is
+has_failed takes failures from to fault.Memory (inl same) = NotReady same
+has_failed takes failures from to fault.Memory (inr ready) = Ready ready
+has_failed takes failures from to fault.Read is = absurd is
+has_failed takes failures from to fault.LineTooLong is = absurd is
+has_failed takes failures from to (fault.Settings name) is = absurd is
+has_failed takes failures from to (fault.Config cause) is = absurd is
+has_failed takes failures from to fault.ConfigFile is = absurd is
+has_failed takes failures from to (fault.Outcomes number) is = absurd is
+has_failed takes failures from to (fault.Line number) is = absurd is
+has_failed takes failures from to fault.Check is = absurd is
+has_failed takes failures from to fault.Delays is = absurd is
+has_failed takes failures from to (fault.Listen cause) is = absurd is
+has_failed takes failures from to fault.Metrics is = absurd is
 
 -- and no line says why there is its fault
 pub never_explained : {O : Type 0} (takes : O → List ℕ → O → Type 0) (failures : O → ℕ) (from to : O) (reason : Fault)

@@ -1,3 +1,4 @@
+pub mod Announcements
 pub mod Endings
 pub mod Limits
 pub mod Notices

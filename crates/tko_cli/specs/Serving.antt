@@ -1,6 +1,7 @@
 -- What `serve` writes, and why it fails.
-use Rattle.std.specs.Prelude.{◌≡◌, ◌<◌, ◌⊎◌, ℕ, true, List, Option, codes, is_some}
+use Rattle.std.specs.Prelude.{◌≡◌, ◌<◌, ◌⊎◌, ℕ, true, List, Option, is_some}
 use Rattle.tko_counts.specs.declared.counts.Counts.{Counts}
+use Rattle.tko_cli.specs.Announcements.{ready_text}
 use Rattle.tko_cli.specs.Notices.{HasNotices}
 use Rattle.tko_cli.specs.Planned.{IsPlanned, IsServerOf, NoPlan}
 use Rattle.tko_cli.specs.Totals.{totals_text}
@@ -15,10 +16,6 @@ use Rattle.tko_server.specs.Runs.{tracker_settings}
 use Rattle.tko_server.specs.declared.run_fault.RunFault.{RunFault}
 use Rattle.tko_server.specs.declared.run_fault.RunFault.TheVariants as server_fault
 use Rattle.tko_options.specs.declared.serve_options.ServeOptions.{ServeOptions}
-
--- what is printed once clients can connect
-abbrev pub ready_text : List ℕ
-ready_text = codes "ready\n"
 
 -- the options name what to run on
 pub record HasPlan (options : ServeOptions) : Type 0 where
@@ -53,20 +50,23 @@ IsRunnable prepared = IsWithinRanges (tracker_settings prepared.server)
 abbrev pub fault_of_server : RunFault → Fault
 fault_of_server (server_fault.Settings name) = fault.Settings name
 fault_of_server server_fault.Memory = fault.Memory
+fault_of_server server_fault.Announce = fault.Write
 fault_of_server server_fault.Accept = fault.Accept
 
--- a server that had begun ended by a fault: the outlet failed, or `ready` went out and nothing else
-pub data HasBegun {O : Type 0} (takes : O → List ℕ → O → Type 0) (failures : O → ℕ)
+-- a server that was ready to run ended by a fault: the outlet failed, or `ready` went out and
+-- nothing else, or nothing at all
+pub data HasFailed {O : Type 0} (takes : O → List ℕ → O → Type 0) (failures : O → ℕ)
     (from to : O) : Type 0 where
-  NotWritten : failures from < failures to → HasBegun takes failures from to
-  Ready : takes from ready_text to → HasBegun takes failures from to
+  NotWritten : failures from < failures to → HasFailed takes failures from to
+  Ready : takes from ready_text to → HasFailed takes failures from to
+  NotReady : to ≡ from → HasFailed takes failures from to
 
--- nothing was noted, or the server had begun and there are notices
-pub data IsSilentOrBegun {O F : Type 0} (takes : O → List ℕ → O → Type 0) (failures : O → ℕ)
+-- nothing was noted, or a server that was ready to run failed and there are notices
+pub data IsSilentOrNoted {O F : Type 0} (takes : O → List ℕ → O → Type 0) (failures : O → ℕ)
     (notes : F → List ℕ → F → Type 0) (faults : F → ℕ) (from to : O) (old new : F) : Type 0 where
-  Silent : new ≡ old → IsSilentOrBegun takes failures notes faults from to old new
-  Begun : HasBegun takes failures from to → HasNotices notes faults old new
-      → IsSilentOrBegun takes failures notes faults from to old new
+  Silent : new ≡ old → IsSilentOrNoted takes failures notes faults from to old new
+  WithNotices : HasFailed takes failures from to → HasNotices notes faults old new
+      → IsSilentOrNoted takes failures notes faults from to old new
 
 -- a line of its own says why there is this fault
 abbrev pub IsExplained : Fault → Type 0
@@ -115,12 +115,12 @@ TotalsFail failures from to fault.Memory = to ≡ from
 TotalsFail failures from to _ = ⊥
 
 module _ {O : Type 0} (takes : O → List ℕ → O → Type 0) (failures : O → ℕ) where
-  -- why a server that was ready to run fails: the outlet failed; or accepting failed or memory ran
-  -- out after `ready`, and then nothing else went out
+  -- why a server that was ready to run fails: the outlet failed; accepting failed after `ready`, and
+  -- then nothing else went out; or memory ran out, and then `ready` went out or nothing
   abbrev pub PreparedFails : O → O → Fault → Type 0
   PreparedFails from to fault.Write = failures from < failures to
   PreparedFails from to fault.Accept = takes from ready_text to
-  PreparedFails from to fault.Memory = takes from ready_text to
+  PreparedFails from to fault.Memory = (to ≡ from) ⊎ takes from ready_text to
   PreparedFails from to _ = ⊥
 
   -- why it fails: the options name nothing to run on, the system refuses the address there, or

@@ -6,6 +6,7 @@
 //!   tko_commands.
 #![tactic(auto)]
 
+mod announcement;
 mod notice;
 mod open_files;
 mod planned;

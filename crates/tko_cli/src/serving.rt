@@ -1,9 +1,11 @@
 //! The command `serve`: a server over TCP, and its totals.
-ghost use Rattle.std.specs.Prelude.{◌≡◌, ◌<◌, IfOk, OnOk, IfErr, OnErr, bytes_eq, codes, is_some, string_bytes};
+ghost use Rattle.std.specs.Prelude.{◌≡◌, IfOk, OnOk, IfErr, OnErr, bytes_eq, codes, is_some, string_bytes};
+ghost use Rattle.tko_cli.specs.Announcements.{IsReadyWritten};
 ghost use Rattle.tko_cli.specs.Notices.{HasNotices};
-ghost use Rattle.tko_cli.specs.Serving.{HasNoListener, HasNoMetrics, HasServed, HasTotals, IsExplained, IsPrepared, IsRunnable, IsSilentOrBegun, IsUnprepared, PreparedFails, ServeFails, TotalsFail, fault_of_server, ready_text};
+ghost use Rattle.tko_cli.specs.Serving.{HasNoListener, HasNoMetrics, HasServed, HasTotals, IsExplained, IsPrepared, IsRunnable, IsSilentOrNoted, IsUnprepared, PreparedFails, ServeFails, TotalsFail, fault_of_server};
 ghost use Rattle.tko_cli.specs.Totals.{totals_text};
 
+use crate::announcement::{Announcement, give_back};
 use crate::notice::{Notice, write_notice, write_notice_if};
 use crate::open_files::{has_no_memory_limit, open_file_limit};
 use crate::planned::{Plan, plan_of};
@@ -12,17 +14,16 @@ use std::alloc::{AllocError, Global};
 use std::fs::{File, Files};
 use std::net::TcpListener;
 use std::thread::Threads;
-use tko_commands::{Fault, ListenFault, WriteFault, write_text};
+use tko_commands::{Fault, ListenFault, write_text};
 use tko_desk::Totals;
-use tko_events::What;
 use tko_io::Outlet;
 use tko_links::IoRuntime;
 use tko_metrics::Process;
 use tko_options::ServeOptions;
 use tko_pools::is_address;
-use tko_server::{Logging, Metering, RunFault, WorkerReport, run_metered};
+use tko_server::{Ended, Logging, Metering, RunFault, WorkerReport, run_metered};
 
-/// A server that is ready to run: clients can connect to its listener.
+/// A server that is ready to run, with its listener.
 #[derive(Drop)]
 pub(crate) struct Prepared {
     pub server: tko_server::Options,
@@ -32,8 +33,9 @@ pub(crate) struct Prepared {
 }
 
 /// Serves clients over TCP until the last of the connections has ended, and then prints the totals.
-/// `ready` is printed once clients can connect. Before it a notice says what the server does with
-/// its descriptors, and before the totals notices say what the workers met.
+/// `ready` is printed once clients can connect: when each worker has asked for its first one. Before
+/// it a notice says what the server does with its descriptors, and before the totals notices say
+/// what the workers met.
 pub(crate) fn serve<
     R: IoRuntime<Listener = TcpListener>
         + Threads
@@ -55,7 +57,7 @@ pub(crate) fn serve<
     ensures ok { OnOk result (HasServed O.takes options.now output.old output.new) }
     ensures err { IfErr result (ServeFails O.takes O.failures options.now output.old output.new) }
     ensures noted { OnOk result (HasNotices F.takes F.failures faults.old faults.new) }
-    ensures told { OnErr result (IsSilentOrBegun O.takes O.failures F.takes F.failures
+    ensures told { OnErr result (IsSilentOrNoted O.takes O.failures F.takes F.failures
         output.old output.new faults.old faults.new) }
     ensures refused { IfErr result (λ fault. IsExplained fault → faults.new ≡ faults.old) }
 {
@@ -106,14 +108,8 @@ fn run_prepared<
     ensures err { IfErr result (PreparedFails O.takes O.failures output.old output.new) }
     ensures noted { HasNotices F.takes F.failures faults.old faults.new }
 {
-    let Prepared {
-        server,
-        listener,
-        logging,
-        metering,
-    } = prepared;
-    announce(rt, alloc, &server, &logging, output, faults)?;
-    match run_metered(rt, alloc, &listener, &server, logging, metering) {
+    note_descriptors(rt, alloc, faults, &prepared.server);
+    match run_announced(rt, alloc, prepared, output) {
         Ok(ended) => {
             report(rt, alloc, faults, &ended.report);
             write_totals(rt, alloc, output, &ended.totals)
@@ -122,24 +118,35 @@ fn run_prepared<
     }
 }
 
-/// Tells that clients can connect: on standard error what the server does with its descriptors, to
-/// the event log, and by `ready`.
-fn announce<R: IoRuntime, O: Outlet, F: Outlet>(
-    rt: &R,
-    alloc: Global,
-    server: &tko_server::Options,
-    logging: &Option<Logging>,
-    output: &mut O,
-    faults: &mut F,
-) -> Result<(), WriteFault>
-    ensures ready { OnOk result (O.takes output.old ready_text output.new) }
-    ensures calm { OnOk result (O.failures output.new ≡ O.failures output.old) }
-    ensures err { OnErr result (O.failures output.old < O.failures output.new) }
-    ensures noted { HasNotices F.takes F.failures faults.old faults.new }
+/// Runs the server to its end, and prints `ready` once clients can connect.
+fn run_announced<
+    R: IoRuntime<Listener = TcpListener> + Threads + Sync + Copy + Send + 'static + Eprint,
+    O: Outlet,
+>(rt: &R, alloc: Global, prepared: Prepared, output: &mut O) -> Result<Ended, RunFault>
+    requires { IsRunnable prepared }
+    ensures ok { OnOk result (IsReadyWritten O.takes O.failures output.old output.new) }
+    ensures err { IfErr result (λ cause.
+        PreparedFails O.takes O.failures output.old output.new (fault_of_server cause)) }
 {
-    note_descriptors(rt, alloc, faults, server);
-    tell_listening(rt, logging);
-    write_text(rt, output, b"ready\n")
+    let Prepared {
+        server,
+        listener,
+        logging,
+        metering,
+    } = prepared;
+    let announcement = Announcement { output };
+    let (announcement, ended) = run_metered(
+        rt,
+        alloc,
+        &listener,
+        &server,
+        logging,
+        metering,
+        announcement,
+    );
+    let Announcement { output } = announcement;
+    give_back(output);
+    ended
 }
 
 /// Writes a line for each kind of total.
@@ -164,6 +171,7 @@ fn fault_of_server(cause: RunFault) -> Fault
     match cause {
         RunFault::Settings(setting) => Fault::Settings(setting),
         RunFault::Memory => Fault::Memory,
+        RunFault::Announce => Fault::Write,
         RunFault::Accept => Fault::Accept,
     }
 }
@@ -233,13 +241,6 @@ fn listener_at<R: IoRuntime<Listener = TcpListener>>(rt: &R, address: &str) -> O
         return None;
     }
     TcpListener::bind(rt, address).ok()
-}
-
-/// Tells the log that clients can connect.
-fn tell_listening<R: IoRuntime>(rt: &R, logging: &Option<Logging>) {
-    if let Some(logging) = logging {
-        logging.tell(rt, What::Listening);
-    }
 }
 
 /// Writes what a server does with the descriptors that it may have open.

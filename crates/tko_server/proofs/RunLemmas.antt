@@ -103,6 +103,10 @@ failed_later one other first value run.Memory is ends after told fault = (
   λ e. cc,
   λ h. let named : one ≡ Err (run.Settings fault) = (told fault).1 h in cc,
 )
+failed_later one other first value run.Announce is ends after told fault = (
+  λ e. cc,
+  λ h. let named : one ≡ Err (run.Settings fault) = (told fault).1 h in cc,
+)
 failed_later one other first value run.Accept is ends after told fault = (
   λ e. cc,
   λ h. let named : one ≡ Err (run.Settings fault) = (told fault).1 h in cc,

@@ -1,8 +1,9 @@
 -- What is left of a server's tracker.
-use Rattle.std.specs.Prelude.{◌≡◌, All, List, MatchOption}
+use Rattle.std.specs.Prelude.{◌≡◌, All, List, MatchOption, Result, Err}
 use Rattle.tko_model.specs.Settings.{Settings}
+use Rattle.tko_server.specs.declared.run_fault.RunFault.{RunFault}
 use Rattle.tko_server.specs.declared.run_fault.RunFault.TheVariants as run
-use Rattle.tko_server.specs.declared.running.Failed.{Failed}
+use Rattle.tko_server.specs.declared.tracked.Failed.{Failed}
 use Rattle.tko_server.specs.Runs.{IsAfterOpening}
 use Rattle.tko_table.specs.Closing.{Left}
 use Rattle.tko_tracker.specs.Closing.{HoldsEachOnce, IsFinal}
@@ -23,8 +24,21 @@ pub record HasClosed (settings : Settings) (left : Left) : Type 0 where
   pub same : tracker.settings ≡ settings
   pub closed : IsClosed tracker left
 
+-- the fault of a server whose tracker could not be closed: memory ran out, unless announcing failed
+-- before
+abbrev pub unclosed : {T : Type 0} → Result T RunFault → RunFault
+unclosed (Err run.Announce) = run.Announce
+unclosed _ = run.Memory
+
+-- such a fault
+abbrev pub IsUnclosed : RunFault → Type 0
+IsUnclosed (run.Settings fault) = ⊥
+IsUnclosed run.Memory = Unit {0}
+IsUnclosed run.Announce = Unit {0}
+IsUnclosed run.Accept = ⊥
+
 -- a run over this tracker failed after it was opened: the tracker was closed all the same, or a
--- pass did not come back and memory ran out
+-- pass did not come back, since memory ran out, maybe after announcing had failed
 pub record HasFailed (tracker : TrackerId) (failed : Failed) : Type 0 where
   pub fault : IsAfterOpening failed.fault
-  pub closed : MatchOption failed.closed (failed.fault ≡ run.Memory) (IsClosed tracker)
+  pub closed : MatchOption failed.closed (IsUnclosed failed.fault) (IsClosed tracker)

@@ -1,5 +1,6 @@
 pub mod Accepting
 pub mod Allotments
+pub mod Announcing
 pub mod ClientEnds
 pub mod Closing
 pub mod Pacing

@@ -21,4 +21,12 @@ fault_of_opening opening.Memory = run.Memory
 abbrev pub IsAfterOpening : RunFault → Type 0
 IsAfterOpening (run.Settings fault) = ⊥
 IsAfterOpening run.Memory = Unit {0}
+IsAfterOpening run.Announce = Unit {0}
 IsAfterOpening run.Accept = Unit {0}
+
+-- the server had not begun
+abbrev pub IsBeforeStart : RunFault → Type 0
+IsBeforeStart (run.Settings fault) = Unit {0}
+IsBeforeStart run.Memory = Unit {0}
+IsBeforeStart run.Announce = ⊥
+IsBeforeStart run.Accept = ⊥

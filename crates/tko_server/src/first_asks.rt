@@ -1,4 +1,6 @@
 //! The first time that each worker of a server asks for a connection.
+ghost use Rattle.std.specs.Prelude.{◌≡◌, ◌<◌, ◌+◌, true, IfOk};
+ghost use Rattle.tko_server.specs.Announcing.{HaveAllAsked};
 
 use crossbeam_channel::{Receiver, Sender, bounded};
 use std::alloc::{AllocError, Global};
@@ -12,15 +14,22 @@ pub(crate) struct FirstAsk {
 
 /// The reports of all workers.
 #[derive(Drop)]
-pub(crate) struct FirstAsks {
+pub struct FirstAsks {
     reports: Receiver<()>,
-    workers: u32,
+    /// How many workers have not reported yet.
+    pub(crate) missing: u32,
 }
 
 /// The reports of so many workers, and the means of one of them to report.
-pub(crate) fn first_asks(alloc: Global, workers: u32) -> Result<(FirstAsk, FirstAsks), AllocError> {
+pub(crate) fn first_asks(alloc: Global, workers: u32) -> Result<(FirstAsk, FirstAsks), AllocError>
+    ensures { IfOk result (λ both. both.1.missing ≡ workers) }
+{
     let (sender, reports) = bounded(alloc, workers as usize)?;
-    Ok((FirstAsk { reports: sender }, FirstAsks { reports, workers }))
+    let first_asks = FirstAsks {
+        reports,
+        missing: workers,
+    };
+    Ok((FirstAsk { reports: sender }, first_asks))
 }
 
 impl FirstAsk {
@@ -39,12 +48,26 @@ impl FirstAsk {
 impl FirstAsks {
     /// Waits until each worker has reported. Returns whether all did: a worker that ends before
     /// never does.
-    pub(crate) fn are_all_made<R: Wait>(&self, rt: &R) -> bool {
-        for _ in 0..self.workers {
-            if self.reports.recv(rt).is_err() {
+    pub(crate) fn hear_all<R: Wait>(&mut self, rt: &R) -> bool
+        ensures { result ≡ true → HaveAllAsked self.new }
+    {
+        while 0 < self.missing {
+            if !self.hear(rt) {
                 return false;
             }
         }
         true
+    }
+
+    /// Waits until another worker has reported. Returns whether it did.
+    fn hear<R: Wait>(&mut self, rt: &R) -> bool
+        requires { 0 < self.old.missing }
+        ensures { result ≡ true → self.new.missing + 1 ≡ self.old.missing }
+    {
+        let has_reported = self.reports.recv(rt).is_ok();
+        if has_reported {
+            self.missing -= 1;
+        }
+        has_reported
     }
 }

@@ -7,7 +7,8 @@
 //! - `Member`: what one worker of a `pool` is started with.
 //! - `run`: accepts connections over TCP and serves them by a pool, as its `Options` say;
 //!   `run_to_end` says what the workers met too, and `run_logged` has a `Logging` write the event
-//!   log meanwhile, and `run_metered` has the metrics answered for too.
+//!   log meanwhile, and `run_metered` has the metrics answered for too. It takes an `Announce`,
+//!   which announces that clients can connect once the `FirstAsks` of all workers are there.
 //! - `Allotment`: how many workers and clients the process has descriptors for; `Patience`: how
 //!   long a server waits for a client.
 #![tactic(auto)]
@@ -15,6 +16,7 @@
 mod accepting;
 mod account;
 mod allotment;
+mod announce;
 mod attended;
 mod clients;
 mod first_asks;
@@ -26,6 +28,7 @@ mod members;
 mod metered;
 mod metering;
 mod naming;
+mod opening;
 mod pace;
 mod paced;
 mod patience;
@@ -36,12 +39,16 @@ mod run_fault;
 mod running;
 mod serving;
 mod source;
+mod starting;
 mod threads;
+mod tracked;
 mod watch;
 mod working;
 
 pub use account::Account;
 pub use allotment::Allotment;
+pub use announce::{Announce, AnnounceFault};
+pub use first_asks::FirstAsks;
 pub use logging::{Logging, run_logged};
 pub use metering::{Metering, run_metered};
 pub use patience::Patience;

@@ -1,11 +1,13 @@
 //! The server over TCP, and its event log beside it.
 ghost use Rattle.std.specs.Prelude.{◌≡◌, ◌↔◌, Err, IfOk, Some};
 ghost use Rattle.tko_model.specs.Ranges.{first_fault};
+ghost use Rattle.tko_server.specs.Announcing.{IsAnnounced};
 ghost use Rattle.tko_server.specs.Closing.{HasClosed};
 ghost use Rattle.tko_server.specs.Runs.{tracker_settings};
 
-use crate::RunFault;
+use crate::announce::Silent;
 use crate::running::{Ended, Options, run_told};
+use crate::{Announce, RunFault};
 use std::alloc::{AllocError, Global};
 use std::net::TcpListener;
 use std::sync::Wait;
@@ -51,11 +53,6 @@ impl Logging {
             journal,
         })
     }
-
-    /// Tells what happens.
-    pub fn tell<R: Wait + Clock>(&self, rt: &R, what: What) {
-        self.log.tell(rt, what);
-    }
 }
 
 /// What `run_to_end` does, while the log, if there is one, is written to standard error. It returns
@@ -74,12 +71,16 @@ pub fn run_logged<
         ↔ (first_fault (tracker_settings options.now) ≡ Some fault) }
     ensures closed { IfOk result (λ ended. HasClosed (tracker_settings options.now) ended.closed) }
 {
-    run_beside_meter(rt, alloc, listener, options, logging, Meter::off())
+    let meter = Meter::off();
+    let (_, ended) = run_beside_meter(rt, alloc, listener, options, logging, meter, Silent);
+    ended
 }
 
-/// The same, where the workers count on this meter.
+/// The same, where the workers count on this meter, and where it is announced that clients can
+/// connect. Returns the announcement too, as the run left it.
 pub(crate) fn run_beside_meter<
     R: IoRuntime<Listener = TcpListener> + Threads + Sync + Copy + Send + 'static + Eprint,
+    A: Announce + Drop,
 >(
     rt: &R,
     alloc: Global,
@@ -87,30 +88,42 @@ pub(crate) fn run_beside_meter<
     options: &Options,
     logging: Option<Logging>,
     meter: Meter,
-) -> Result<Ended, RunFault>
-    ensures settings { (fault : SettingsFault) → (result ≡ Err (RunFault.Settings fault))
+    announcement: A,
+) -> (A, Result<Ended, RunFault>)
+    ensures settings { (fault : SettingsFault) → (result.1 ≡ Err (RunFault.Settings fault))
         ↔ (first_fault (tracker_settings options.now) ≡ Some fault) }
-    ensures closed { IfOk result (λ ended. HasClosed (tracker_settings options.now) ended.closed) }
+    ensures closed { IfOk result.1 (λ ended.
+        HasClosed (tracker_settings options.now) ended.closed) }
+    ensures announced { IsAnnounced A.announces A.fails announcement result.0 result.1 }
 {
     match logging {
-        Some(logging) => run_beside(rt, alloc, listener, options, logging, meter),
-        None => run_told(rt, alloc, listener, options, Some(&Log::metered(meter))),
+        Some(logging) => run_beside(rt, alloc, listener, options, logging, meter, announcement),
+        None => {
+            let log = Log::metered(meter);
+            run_told(rt, alloc, listener, options, Some(&log), announcement)
+        }
     }
 }
 
 /// Runs the server and then ends the log.
-fn run_and_end<R: IoRuntime<Listener = TcpListener> + Threads + Sync + Copy + Send + 'static>(
+fn run_and_end<
+    R: IoRuntime<Listener = TcpListener> + Threads + Sync + Copy + Send + 'static,
+    A: Announce + Drop,
+>(
     rt: &R,
     alloc: Global,
     listener: &TcpListener,
     options: &Options,
     log: &Log,
-) -> Result<Ended, RunFault>
-    ensures settings { (fault : SettingsFault) → (result ≡ Err (RunFault.Settings fault))
+    announcement: A,
+) -> (A, Result<Ended, RunFault>)
+    ensures settings { (fault : SettingsFault) → (result.1 ≡ Err (RunFault.Settings fault))
         ↔ (first_fault (tracker_settings options.now) ≡ Some fault) }
-    ensures closed { IfOk result (λ ended. HasClosed (tracker_settings options.now) ended.closed) }
+    ensures closed { IfOk result.1 (λ ended.
+        HasClosed (tracker_settings options.now) ended.closed) }
+    ensures announced { IsAnnounced A.announces A.fails announcement result.0 result.1 }
 {
-    let ended = run_told(rt, alloc, listener, options, Some(log));
+    let ended = run_told(rt, alloc, listener, options, Some(log), announcement);
     log.end(rt);
     ended
 }
@@ -118,6 +131,7 @@ fn run_and_end<R: IoRuntime<Listener = TcpListener> + Threads + Sync + Copy + Se
 /// The same with a log.
 fn run_beside<
     R: IoRuntime<Listener = TcpListener> + Threads + Sync + Copy + Send + 'static + Eprint,
+    A: Announce + Drop,
 >(
     rt: &R,
     alloc: Global,
@@ -125,10 +139,13 @@ fn run_beside<
     options: &Options,
     logging: Logging,
     meter: Meter,
-) -> Result<Ended, RunFault>
-    ensures settings { (fault : SettingsFault) → (result ≡ Err (RunFault.Settings fault))
+    announcement: A,
+) -> (A, Result<Ended, RunFault>)
+    ensures settings { (fault : SettingsFault) → (result.1 ≡ Err (RunFault.Settings fault))
         ↔ (first_fault (tracker_settings options.now) ≡ Some fault) }
-    ensures closed { IfOk result (λ ended. HasClosed (tracker_settings options.now) ended.closed) }
+    ensures closed { IfOk result.1 (λ ended.
+        HasClosed (tracker_settings options.now) ended.closed) }
+    ensures announced { IsAnnounced A.announces A.fails announcement result.0 result.1 }
 {
     let Logging {
         log,
@@ -140,12 +157,14 @@ fn run_beside<
     let (_written, ended) = thread::join(
         rt,
         || reader.write_lines(rt, alloc, &mut journal),
-        || -> Result<Ended, RunFault>
-            ensures settings { (fault : SettingsFault) → (result ≡ Err (RunFault.Settings fault))
+        || -> (A, Result<Ended, RunFault>)
+            ensures settings { (fault : SettingsFault) → (result.1 ≡ Err (RunFault.Settings fault))
                 ↔ (first_fault (tracker_settings options.entry.now) ≡ Some fault) }
-            ensures closed { IfOk result (λ ended.
+            ensures closed { IfOk result.1 (λ ended.
                 HasClosed (tracker_settings options.entry.now) ended.closed) }
-        { run_and_end(rt, alloc, listener, options, &log) },
+            ensures announced { IsAnnounced A.announces A.fails announcement
+                result.0 result.1 }
+        { run_and_end(rt, alloc, listener, options, &log, announcement) },
     );
     ended
 }

@@ -1,12 +1,13 @@
 //! The server over TCP, and its metrics beside it.
 ghost use Rattle.std.specs.Prelude.{◌≡◌, ◌↔◌, Err, IfOk, Some};
 ghost use Rattle.tko_model.specs.Ranges.{first_fault};
+ghost use Rattle.tko_server.specs.Announcing.{IsAnnounced};
 ghost use Rattle.tko_server.specs.Closing.{HasClosed};
 ghost use Rattle.tko_server.specs.Runs.{tracker_settings};
 
 use crate::logging::run_beside_meter;
 use crate::running::{Ended, Options};
-use crate::{Logging, RunFault, run_logged};
+use crate::{Announce, Logging, RunFault};
 use std::alloc::{AllocError, Global};
 use std::net::TcpListener;
 use std::thread;
@@ -41,9 +42,11 @@ impl Metering {
 }
 
 /// What `run_logged` does, while the metrics, if there are any, are answered for on a thread of
-/// their own. Where the system gives it no thread, nobody answers for them.
+/// their own. Where the system gives it no thread, nobody answers for them. It announces that
+/// clients can connect, and returns the announcement too, as the run left it.
 pub fn run_metered<
     R: IoRuntime<Listener = TcpListener> + Threads + Sync + Copy + Send + 'static + Eprint,
+    A: Announce + Drop,
 >(
     rt: &R,
     alloc: Global,
@@ -51,20 +54,37 @@ pub fn run_metered<
     options: &Options,
     logging: Option<Logging>,
     metering: Option<Metering>,
-) -> Result<Ended, RunFault>
-    ensures settings { (fault : SettingsFault) → (result ≡ Err (RunFault.Settings fault))
+    announcement: A,
+) -> (A, Result<Ended, RunFault>)
+    ensures settings { (fault : SettingsFault) → (result.1 ≡ Err (RunFault.Settings fault))
         ↔ (first_fault (tracker_settings options.now) ≡ Some fault) }
-    ensures closed { IfOk result (λ ended. HasClosed (tracker_settings options.now) ended.closed) }
+    ensures closed { IfOk result.1 (λ ended.
+        HasClosed (tracker_settings options.now) ended.closed) }
+    ensures announced { IsAnnounced A.announces A.fails announcement result.0 result.1 }
 {
     match metering {
-        Some(metering) => run_beside(rt, alloc, listener, options, logging, metering),
-        None => run_logged(rt, alloc, listener, options, logging),
+        Some(metering) => {
+            run_beside(
+                rt,
+                alloc,
+                listener,
+                options,
+                logging,
+                metering,
+                announcement,
+            )
+        }
+        None => {
+            let meter = Meter::off();
+            run_beside_meter(rt, alloc, listener, options, logging, meter, announcement)
+        }
     }
 }
 
 /// The same with metrics.
 fn run_beside<
     R: IoRuntime<Listener = TcpListener> + Threads + Sync + Copy + Send + 'static + Eprint,
+    A: Announce + Drop,
 >(
     rt: &R,
     alloc: Global,
@@ -72,22 +92,38 @@ fn run_beside<
     options: &Options,
     logging: Option<Logging>,
     metering: Metering,
-) -> Result<Ended, RunFault>
-    ensures settings { (fault : SettingsFault) → (result ≡ Err (RunFault.Settings fault))
+    announcement: A,
+) -> (A, Result<Ended, RunFault>)
+    ensures settings { (fault : SettingsFault) → (result.1 ≡ Err (RunFault.Settings fault))
         ↔ (first_fault (tracker_settings options.now) ≡ Some fault) }
-    ensures closed { IfOk result (λ ended. HasClosed (tracker_settings options.now) ended.closed) }
+    ensures closed { IfOk result.1 (λ ended.
+        HasClosed (tracker_settings options.now) ended.closed) }
+    ensures announced { IsAnnounced A.announces A.fails announcement result.0 result.1 }
 {
     let Metering { meter, scrapes } = metering;
     // (where the system gives no thread, what the first of the two does comes last)
     let (_answered, ended) = thread::join(
         rt,
         || scrapes.answer_all(rt, alloc),
-        || -> Result<Ended, RunFault>
-            ensures settings { (fault : SettingsFault) → (result ≡ Err (RunFault.Settings fault))
+        || -> (A, Result<Ended, RunFault>)
+            ensures settings { (fault : SettingsFault) → (result.1 ≡ Err (RunFault.Settings fault))
                 ↔ (first_fault (tracker_settings options.entry.now) ≡ Some fault) }
-            ensures closed { IfOk result (λ ended.
+            ensures closed { IfOk result.1 (λ ended.
                 HasClosed (tracker_settings options.entry.now) ended.closed) }
-        { run_and_end(rt, alloc, listener, options, logging, meter, &scrapes) },
+            ensures announced { IsAnnounced A.announces A.fails announcement
+                result.0 result.1 }
+        {
+            run_and_end(
+                rt,
+                alloc,
+                listener,
+                options,
+                logging,
+                meter,
+                &scrapes,
+                announcement,
+            )
+        },
     );
     ended
 }
@@ -95,6 +131,7 @@ fn run_beside<
 /// Runs the server and then ends the meter.
 fn run_and_end<
     R: IoRuntime<Listener = TcpListener> + Threads + Sync + Copy + Send + 'static + Eprint,
+    A: Announce + Drop,
 >(
     rt: &R,
     alloc: Global,
@@ -103,12 +140,15 @@ fn run_and_end<
     logging: Option<Logging>,
     meter: Meter,
     scrapes: &Scrapes,
-) -> Result<Ended, RunFault>
-    ensures settings { (fault : SettingsFault) → (result ≡ Err (RunFault.Settings fault))
+    announcement: A,
+) -> (A, Result<Ended, RunFault>)
+    ensures settings { (fault : SettingsFault) → (result.1 ≡ Err (RunFault.Settings fault))
         ↔ (first_fault (tracker_settings options.now) ≡ Some fault) }
-    ensures closed { IfOk result (λ ended. HasClosed (tracker_settings options.now) ended.closed) }
+    ensures closed { IfOk result.1 (λ ended.
+        HasClosed (tracker_settings options.now) ended.closed) }
+    ensures announced { IsAnnounced A.announces A.fails announcement result.0 result.1 }
 {
-    let ended = run_beside_meter(rt, alloc, listener, options, logging, meter);
+    let ended = run_beside_meter(rt, alloc, listener, options, logging, meter, announcement);
     scrapes.end();
     ended
 }

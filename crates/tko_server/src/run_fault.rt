@@ -1,5 +1,6 @@
 //! Why a server ends.
 
+use crate::AnnounceFault;
 use std::alloc::AllocError;
 use thiserror::Error;
 use tko_bytes::NoMemory;
@@ -12,6 +13,9 @@ pub enum RunFault {
     Settings(SettingsFault),
     #[error("memory")]
     Memory,
+    /// Announcing that clients can connect failed.
+    #[error("announce")]
+    Announce,
     /// Accepting connections failed.
     #[error("accept")]
     Accept,
@@ -36,6 +40,17 @@ impl From<AllocError> for RunFault {
 
     fn from(_: AllocError) -> RunFault {
         RunFault::Memory
+    }
+}
+
+impl From<AnnounceFault> for RunFault {
+    ghost use Rattle.std.specs.Prelude.{◌≡◌};
+    ghost use Rattle.tko_server.specs.declared.run_fault.RunFault.TheVariants.{Announce};
+
+    ghost from_gives = { λ _ fault. fault ≡ Announce };
+
+    fn from(_: AnnounceFault) -> RunFault {
+        RunFault::Announce
     }
 }
 

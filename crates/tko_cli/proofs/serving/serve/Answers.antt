@@ -1,8 +1,8 @@
 use Rattle.std.proofs.lemmas.Result.{IfErr-weaker}
 use Rattle.tko_commands.proofs.FaultLineLemmas.{on_ok}
 use Rattle.tko_cli.proofs.NoticeLemmas.{more_notices}
-use Rattle.tko_cli.proofs.ServingLemmas.{from_err, has_begun, has_plan, in_any_case, never_explained, prepared_fails}
-use Rattle.tko_cli.specs.Serving.{Begun}
+use Rattle.tko_cli.proofs.ServingLemmas.{from_err, has_failed, has_plan, in_any_case, never_explained, prepared_fails}
+use Rattle.tko_cli.specs.Serving.{WithNotices}
 use Rattle.tko_cli.proofs.serving.serve.Goals as goal
 
 pub returns-clause-ok : goal.returns-clause-ok
@@ -28,7 +28,7 @@ returns-clause-noted g c =
 pub returns-clause-told : goal.returns-clause-told
 returns-clause-told g c =
     from_err c.run_prepared.result c.run_prepared.ensures.err
-    (λ fault fails. Begun (has_begun g.O.Outlet.takes g.O.Outlet.failures c.args.output.now c.run_prepared.new.output fault fails)
+    (λ fault fails. WithNotices (has_failed g.O.Outlet.takes g.O.Outlet.failures c.args.output.now c.run_prepared.new.output fault fails)
     (more_notices g.F.Outlet.takes g.F.Outlet.failures c.args.faults.now c.note_memory.new.faults c.run_prepared.new.faults
     c.note_memory.ensures c.run_prepared.ensures.noted))
 

@@ -2,7 +2,7 @@
 use Rattle.std.proofs.Common.{◌∙◌, ap, refl, Err}
 use Rattle.std.proofs.lemmas.Result.{err_from_is_err_and}
 use Rattle.tko_server.proofs.RunLemmas.{all_well, of_servers, out_of_memory, refused}
-use Rattle.tko_server.proofs.running.settings_of.Goals as goal
+use Rattle.tko_server.proofs.opening.settings_of.Goals as goal
 
 pub returns-in_err-check_with_servers-clause-err : goal.returns-in_err-check_with_servers-clause-err
 returns-in_err-check_with_servers-clause-err c =

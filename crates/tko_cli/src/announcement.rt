@@ -1,0 +1,33 @@
+//! What `serve` prints once clients can connect.
+ghost use Rattle.std.specs.Prelude.{◌≡◌};
+ghost use Rattle.tko_cli.specs.Announcements.{HasPrinted, HasNotPrinted};
+
+use tko_commands::write_text;
+use tko_io::Outlet;
+use tko_links::IoRuntime;
+use tko_server::{Announce, AnnounceFault, FirstAsks};
+
+/// The output on which `ready` is to be printed.
+#[derive(Drop)]
+pub(crate) struct Announcement<'a, O> {
+    pub(crate) output: &'a mut O,
+}
+
+impl<O: Outlet> Announce for Announcement<'_, O> {
+    ghost announces = { HasPrinted O.takes O.failures };
+
+    ghost fails = { HasNotPrinted O.failures };
+
+    fn announce<R: IoRuntime>(&mut self, rt: &R, _asks: &FirstAsks) -> Result<(), AnnounceFault> {
+        match write_text(rt, self.output, b"ready\n") {
+            Ok(()) => Ok(()),
+            Err(_) => Err(AnnounceFault),
+        }
+    }
+}
+
+/// Does nothing. Proofs know what was written to an output that an announcement had only where the
+/// output is used once more.
+pub(crate) fn give_back<O>(output: &mut O)
+    ensures { output.new ≡ output.old }
+{}

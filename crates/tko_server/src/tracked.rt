@@ -1,0 +1,188 @@
+//! A server over its tracker, from the opened one to the closed one.
+ghost use Rattle.std.specs.Prelude.{◌≡◌, IfErr, IfOk, length};
+ghost use Rattle.tko_tracker.specs.Seated.{ArePasses};
+ghost use Rattle.tko_server.specs.Announcing.{IsAnnounced, fault_in};
+ghost use Rattle.tko_server.specs.Closing.{HasFailed, IsClosed, unclosed};
+ghost use Rattle.tko_server.specs.Runs.{IsAfterOpening, tracker_settings};
+
+use crate::members::Shared;
+use crate::naming::Naming;
+use crate::serving::serve_all;
+use crate::{Announce, Ended, Options, RunFault, WorkerReport};
+use std::alloc::Global;
+use std::net::TcpListener;
+use std::sync::Mutex;
+use std::thread::Threads;
+use tko_bytes::NoMemory;
+use tko_desk::{Book, Desk, Share, Totals, gather};
+use tko_events::{Log, LoggedSeating};
+use tko_health::SharedSeating;
+use tko_links::IoRuntime;
+use tko_tracker::{Final, IdlePass, Named, Tracker, close};
+
+/// Why a server ended without its totals, and what was left of its tracker.
+#[derive(Drop)]
+pub(crate) struct Failed {
+    pub(crate) fault: RunFault,
+    /// None where a pass did not come back, so that the tracker could not be closed.
+    pub(crate) closed: Option<Final>,
+}
+
+/// Runs a server over this tracker, which `N` names, with the passes of its threads. They lie at a
+/// desk while no worker has them. At the end the tracker is closed with those that the desk then has.
+pub(crate) fn run_with<
+    N: Named + Send + Sync,
+    R: IoRuntime<Listener = TcpListener> + Threads + Sync + Copy + Send + 'static,
+    A: Announce + Drop,
+>(
+    rt: &R,
+    alloc: Global,
+    listener: &TcpListener,
+    options: &Options,
+    log: Option<&Log>,
+    tracker: Tracker,
+    passes: Vec<IdlePass>,
+    announcement: A,
+) -> (A, Result<Ended, Failed>)
+    requires named { tracker ≡ N.tracker }
+    requires asked { N.tracker.settings ≡ tracker_settings options.now }
+    requires passes { ArePasses N.tracker passes.items }
+    ensures closed { IfOk result.1 (λ ended. IsClosed N.tracker ended.closed) }
+    ensures failed { IfErr result.1 (HasFailed N.tracker) }
+    ensures announced { IsAnnounced A.announces A.fails announcement result.0
+        (fault_in result.1) }
+{
+    let desk = Desk::<N>::open(passes);
+    let (announcement, served) = serve_over(
+        rt,
+        alloc,
+        listener,
+        options,
+        log,
+        &tracker,
+        &desk,
+        announcement,
+    );
+    let Ok(closed) = close(tracker, desk.end()) else {
+        // (a pass is lost only where memory runs out before its worker has ended)
+        let fault = unclosed(&served);
+        let closed = None;
+        return (announcement, Err(Failed { fault, closed }));
+    };
+    match served {
+        Ok((totals, report)) => {
+            let ended = Ended {
+                totals,
+                report,
+                closed,
+            };
+            (announcement, Ok(ended))
+        }
+        Err(fault) => {
+            let failed = Failed {
+                fault,
+                closed: Some(closed),
+            };
+            (announcement, Err(failed))
+        }
+    }
+}
+
+/// The fault of a server that came to this, and whose tracker could not be closed.
+fn unclosed<T>(served: &Result<T, RunFault>) -> RunFault
+    ensures { result ≡ unclosed served.now }
+{
+    match served {
+        Err(RunFault::Announce) => RunFault::Announce,
+        _ => RunFault::Memory,
+    }
+}
+
+/// Serves over this tracker, which `N` names, by workers with the passes of this desk. Returns the
+/// announcement, and the totals with what the workers met.
+fn serve_over<
+    'o,
+    N: Named + Send + Sync,
+    R: IoRuntime<Listener = TcpListener> + Threads + Sync + Copy + Send + 'static,
+    A: Announce + Drop,
+>(
+    rt: &R,
+    alloc: Global,
+    listener: &TcpListener,
+    options: &'o Options,
+    log: Option<&'o Log>,
+    tracker: &'o Tracker,
+    desk: &Desk<N>,
+    announcement: A,
+) -> (A, Result<(Totals, WorkerReport), RunFault>)
+    requires named { tracker.now ≡ N.tracker }
+    requires asked { N.tracker.settings ≡ tracker_settings options.now }
+    ensures fault { IfErr result.1 IsAfterOpening }
+    ensures announced { IsAnnounced A.announces A.fails announcement result.0 result.1 }
+{
+    let Ok((shared, mut shares)) = shared_by_all::<N, R>(rt, alloc, options, log, tracker) else {
+        return (announcement, Err(RunFault::Memory));
+    };
+    let (announcement, report) = serve_all(
+        rt,
+        alloc,
+        listener,
+        &shared,
+        desk,
+        &mut shares,
+        announcement,
+    );
+    match report {
+        Ok(report) => {
+            let totals = totals_of(shared.book.into_inner(), shares);
+            (announcement, Ok((totals, report)))
+        }
+        Err(fault) => (announcement, Err(fault)),
+    }
+}
+
+/// What all workers share over this tracker, which `N` names, and the share of each.
+fn shared_by_all<
+    'o,
+    N: Named,
+    R: IoRuntime<Listener = TcpListener> + Threads + Copy + Send + 'static,
+>(
+    rt: &R,
+    alloc: Global,
+    options: &'o Options,
+    log: Option<&'o Log>,
+    tracker: &'o Tracker,
+) -> Result<(Shared<'o, N>, Vec<Share>), NoMemory>
+    requires named { tracker.now ≡ N.tracker }
+    requires asked { N.tracker.settings ≡ tracker_settings options.now }
+    ensures options { IfOk result (λ both. both.0.options.now ≡ options.now) }
+    ensures shares { IfOk result (λ both. length both.1.items ≡ N.tracker.settings.threads) }
+{
+    let naming = Naming::start(rt, alloc, options.config.addresses())?;
+    let (book, shares) = Book::open(alloc, 0, options.settings.threads)?;
+    let shared = Shared {
+        options,
+        seating: LoggedSeating::new(SharedSeating::<N>::new(
+            tracker,
+            options.config.servers() as usize,
+        )),
+        book: Mutex::new(book),
+        log,
+        naming,
+        workers: options.allotment().workers,
+    };
+    Ok((shared, shares))
+}
+
+/// The totals of the book. Each worker gave its share back, so `gather` does not refuse them; what
+/// a lock had in it is known by its type alone, so no contract says that.
+fn totals_of(book: Book, shares: Vec<Share>) -> Totals
+    ensures { result.counts ≡ book.totals }
+{
+    match gather(book, shares) {
+        Ok(totals) => totals,
+        Err((book, _)) => Totals {
+            counts: book.totals(),
+        },
+    }
+}
