@@ -1,5 +1,5 @@
 -- What a read or a write moved, and which results are failures.
-use Rattle.std.specs.Prelude.{◌≡◌, ◌≤◌, ◌+◌, ◌-◌, ◌^◌, ℕ, min, List, [], take, length, nat_lt, ◌&&◌, ◌==◌, if◌then◌else◌, Result, Ok, Err}
+use Rattle.std.specs.Prelude.{◌≡◌, ◌<◌, ◌≤◌, ◌+◌, ◌-◌, ◌^◌, ℕ, min, List, [], take, length, nat_lt, ◌&&◌, ◌==◌, if◌then◌else◌, Result, Ok, Err}
 use Rattle.std.specs.IoError.{error_kind}
 use Rattle.std.specs.declared.io.Error.{Error}
 use Rattle.std.specs.declared.io.ErrorKind.{ErrorKind}
@@ -69,9 +69,9 @@ pub record Writes {O : Type 0} (takes : O → List ℕ → O → Type 0)
   pub output : takes old.0 text new.0
   pub counted : capped new.1 ≡ capped (old.1 + length text)
 
--- the front of a text was written, and counted
+-- the front of a text was written, and counted, and not all of it
 pub record WritesPart {O : Type 0} (takes : O → List ℕ → O → Type 0)
     (old : O × ℕ) (text : List ℕ) (new : O × ℕ) : Type 0 where
   pub count : ℕ
-  pub within : count ≤ length text
+  pub within : count < length text
   pub front : Writes takes old (take count text) new

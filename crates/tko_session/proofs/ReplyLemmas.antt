@@ -1,5 +1,5 @@
 -- The replies of a session, which are written piece by piece.
-use Rattle.std.proofs.Common.{◌≡◌, ℕ, ◌+◌, ◌≤◌, List, [], ◌++◌, length, length-append, take, drop, refl, sym, ap, ◌∙◌, subst, arith, append_assoc, append-nil}
+use Rattle.std.proofs.Common.{◌≡◌, ◌≢◌, ℕ, ◌+◌, ◌<◌, ◌≤◌, List, [], ◌++◌, length, length-append, length-drop, take, drop, refl, sym, ap, ◌∙◌, subst, arith, append_assoc, append-nil}
 use Rattle.std.proofs.lemmas.List.{drop_at, take-append-le, take_at}
 use Rattle.std.proofs.Math.Seq.{take-append-add}
 use Rattle.tko_io.specs.Io.{Writes, WritesPart}
@@ -16,6 +16,10 @@ pub record Writing (O : Type 0) : Type 0 where
 
 abbrev pub writing : {O : Type 0} → SessionState → O → ℕ → Writing O
 writing state writer written = record { state = state; writer = writer; written = written }
+
+-- a part of a text that is not all of it leaves some
+pub left_over : (count : ℕ) (text : List ℕ) → count < length text → drop count text ≢ []
+left_over count text within = λ none. omega (arith, within, length-drop count text, ap length none)
 
 -- the front of the replies was written, and the others wait
 pub record WrittenSoFar {O : Type 0} (outlet : OutletGhosts O) (old new : Writing O) : Type 0 where
@@ -74,8 +78,9 @@ module _ {O : Type 0} (outlet : OutletGhosts O)
   written_part {old} {mid} {writer} {written} piece before front part =
       let whole : old.state.outbox ≡ before.front ++ (piece ++ front.more) =
       before.whole ∙ ap (λ xs. before.front ++ xs) front.is in
+      let least : part.count ≤ length piece = omega (arith, part.within) in
       let taken : before.front ++ take part.count piece ≡ take (length before.front + part.count) old.state.outbox =
-      ap (λ xs. before.front ++ xs) (sym (take-append-le part.count piece front.more part.within))
+      ap (λ xs. before.front ++ xs) (sym (take-append-le part.count piece front.more least))
       ∙ sym (take-append-add before.front (piece ++ front.more) part.count)
       ∙ ap (take (length before.front + part.count)) (sym whole) in
       record {

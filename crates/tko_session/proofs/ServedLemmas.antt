@@ -24,7 +24,7 @@ use Rattle.tko_io.proofs.WriteLemmas.{writes_append, writes_none}
 use Rattle.tko_bytes.specs.declared.memory.NoMemory.{NoMemory}
 use Rattle.tko_turns.specs.Effects.{effects_of}
 use Rattle.tko_turns.specs.Ends.{AnsweringEnds, IsRun, NoneRun}
-use Rattle.tko_session.specs.Ends.{AllDelivered, DeliveryStops, PieceStops, SessionStops}
+use Rattle.tko_session.specs.Ends.{AllDelivered, DeliveryStops, PieceStops, SessionStops, WriterFailed}
 use Rattle.tko_turns.specs.Events.{Effects, Event, IdleRound, Rounded, idle_rounds, turns_of}
 use Rattle.tko_session.specs.Faults.{fault_of}
 use Rattle.tko_turns.specs.SessionState.{SessionState, Snapshot, Answered, AnsweredPart, GoesOn, InSession, IsBehind, ProgressIs, fed_state, fresh, items_of, snapshot, text_of, cut_short, no_more, stop_point}
@@ -222,9 +222,11 @@ module _ {O W : Type 0} {outlet : OutletGhosts O} {does : Effects W} where
   pub piece_stopped : Joins outlet.takes → (cause : SessionFault) {old mid : Delivery O W} (new : Delivery O W)
       → AllDelivered (delivering outlet does) More old mid → DeliveryStops (delivering outlet does) mid cause new
       → PieceStops (delivering outlet does) old cause new
+  unfolding part_append
   piece_stopped joins fault.Read new front stops = absurd stops
   piece_stopped joins (fault.Write count) new front stops = record {
     part = part_append joins front.delivered front.idle stops.part;
+    cut = stops.cut;
     counted = stops.counted;
     failed = omega (arith, front.calm, stops.failed);
   }
@@ -362,33 +364,45 @@ module _ {I O W : Type 0} {inlet : InletGhosts I} {outlet : OutletGhosts O} {doe
   -- a part of what a piece completed was answered and written
   stopped_early : Joins inlet.gives → Joins outlet.takes
       → {old : Context I O W} {reader reader' : I} {mid new : Delivery O W}
-      → (count : ℕ) (piece : List ℕ) → ServedSoFar (serving inlet outlet does) NeedsInput old (serve_state reader mid)
+      → (piece : List ℕ) → ServedSoFar (serving inlet outlet does) NeedsInput old (serve_state reader mid)
       → inlet.gives reader piece reader' → inlet.idles reader' ≡ inlet.idles reader
       → DeliveredPart (delivering outlet does) 0 (delivery (fed_state mid.session.state piece) mid.session.parts mid.writer mid.written) new
-      → count ≡ capped new.written
-      → StoppedByWrite (serving inlet outlet does) old count (context reader' new.writer new.session.parts)
-  stopped_early joins_in joins_out {old} {reader} {reader'} {mid} {new} count piece so_far read calm part is =
+      → StoppedEarly (serving inlet outlet does) old (context reader' new.writer new.session.parts)
+  stopped_early joins_in joins_out {old} {reader} {reader'} {mid} {new} piece so_far read calm part =
       let rounds : idle_rounds so_far.delivered.events ≡ idle_rounds so_far.delivered.events = refl in
       let all = part_append joins_out (delivered_fed piece so_far.delivered) rounds part in record {
-        early = record {
-          bytes = so_far.bytes ++ piece;
-          events = all.events;
-          left = all.left;
-          reached = all.reached;
-          input = joins_in old.reader reader reader' so_far.bytes piece so_far.input read;
-          items = subst (λ from. Gives from (items_of (turns_of all.events)) all.left) (fed-fed start so_far.bytes piece) all.gives;
-          gains = all.gains;
-          counts = all.counts;
-          order = all.order;
-          idles = omega (arith, so_far.idles, calm, all.idle);
-          ends = all.ends;
-          in_session = all.in_session;
-          front = all.front;
-          unwritten = all.unwritten;
-          text = all.text;
-          output = all.output.output;
-        };
-        counted = is ∙ omega (arith, all.output.counted);
+        bytes = so_far.bytes ++ piece;
+        events = all.events;
+        left = all.left;
+        reached = all.reached;
+        input = joins_in old.reader reader reader' so_far.bytes piece so_far.input read;
+        items = subst (λ from. Gives from (items_of (turns_of all.events)) all.left) (fed-fed start so_far.bytes piece) all.gives;
+        gains = all.gains;
+        counts = all.counts;
+        order = all.order;
+        idles = omega (arith, so_far.idles, calm, all.idle);
+        ends = all.ends;
+        in_session = all.in_session;
+        front = all.front;
+        unwritten = all.unwritten;
+        text = all.text;
+        output = all.output.output;
+      }
+
+  -- the writer failed in it
+  stopped_by_write : Joins inlet.gives → Joins outlet.takes
+      → {old : Context I O W} {reader reader' : I} {mid new : Delivery O W}
+      → (count : ℕ) (piece : List ℕ) → ServedSoFar (serving inlet outlet does) NeedsInput old (serve_state reader mid)
+      → inlet.gives reader piece reader' → inlet.idles reader' ≡ inlet.idles reader
+      → WriterFailed (delivering outlet does) (delivery (fed_state mid.session.state piece) mid.session.parts mid.writer mid.written) count new
+      → StoppedByWrite (serving inlet outlet does) old count (context reader' new.writer new.session.parts)
+  unfolding stopped_early part_append
+  stopped_by_write joins_in joins_out {old} {mid} {new} count piece so_far read calm failed =
+      let rounds : idle_rounds so_far.delivered.events ≡ idle_rounds so_far.delivered.events = refl in
+      let all = part_append joins_out (delivered_fed piece so_far.delivered) rounds failed.part in record {
+        early = stopped_early joins_in joins_out piece so_far read calm failed.part;
+        cut = failed.cut;
+        counted = failed.counted ∙ omega (arith, all.output.counted);
       }
 
   -- a piece was read, and the session stopped at it
@@ -401,16 +415,17 @@ module _ {I O W : Type 0} {inlet : InletGhosts I} {outlet : OutletGhosts O} {doe
       → SessionStops (serving inlet outlet does) old cause (context reader' new.writer new.session.parts)
   session_stopped joins_in joins_out fault.Read new piece so_far read still reads writes stops = absurd stops
   session_stopped joins_in joins_out (fault.Write count) new piece so_far read still reads writes stops = (
-    stopped_early joins_in joins_out count piece so_far read still stops.part stops.counted,
+    stopped_by_write joins_in joins_out count piece so_far read still stops,
     omega (arith, writes, stops.failed),
   )
   session_stopped joins_in joins_out fault.LineTooLong new piece so_far read still reads writes stops = (
     stopped_by_line (so_far_more joins_in joins_out piece so_far read still stops),
     record { reads = reads; writes = stops.calm ∙ writes },
   )
-  session_stopped joins_in joins_out fault.Memory new piece so_far read still reads writes stops =
-      let early = stopped_early joins_in joins_out (capped new.written) piece so_far read still stops.part refl in
-      (early.early, record { reads = reads; writes = stops.calm ∙ writes })
+  session_stopped joins_in joins_out fault.Memory new piece so_far read still reads writes stops = (
+    stopped_early joins_in joins_out piece so_far read still stops.part,
+    record { reads = reads; writes = stops.calm ∙ writes },
+  )
 
   -- nothing was read or written
   pub stopped_at_once : (reader : I) (writer : O) (parts : W) → inlet.gives reader [] reader → outlet.takes writer [] writer
@@ -548,15 +563,25 @@ module _ {O H L T C : Type 0} {outlet : OutletGhosts O} {ghosts : PartsGhosts H 
   err_delivered front unwritten part run empty split wrote =
       part_delivered front unwritten part (ends_paid {ghosts = ghosts} part.behind run) empty split wrote
 
-  -- the same, whichever it was
-  pub ends_delivered : {short : Bool} {old new : Delivery O (Parts H L T C)} (mid : Snapshot (Parts H L T C))
+  -- the same, whichever it was, where the writer failed at the others
+  pub writer_failed : {short : Bool} {old new : Delivery O (Parts H L T C)} (mid : Snapshot (Parts H L T C))
       → (front unwritten : List ℕ) (answered : Result Progress NoMemory)
       → AnsweringEnds (effects_of ghosts) old.session answered mid
       → IsRun ghosts.backend mid short new.session.parts
       → old.session.state.outbox ≡ [] → mid.state.outbox ≡ front ++ unwritten
       → Writes outlet.takes (old.writer, old.written) front (new.writer, new.written)
-      → DeliveredPart (delivering outlet (effects_of ghosts)) 0 old new
-  ends_delivered mid front unwritten (Ok progress) all run empty split wrote =
-      ok_delivered front unwritten all run empty split wrote
-  ends_delivered mid front unwritten (Err fault) part run empty split wrote =
-      err_delivered front unwritten part run empty split wrote
+      → unwritten ≢ [] → outlet.failures old.writer < outlet.failures new.writer
+      → WriterFailed (delivering outlet (effects_of ghosts)) old (capped new.written) new
+  unfolding ok_delivered part_delivered err_delivered
+  writer_failed mid front unwritten (Ok progress) all run empty split wrote cut failed = record {
+    part = ok_delivered front unwritten all run empty split wrote;
+    cut = cut;
+    counted = refl;
+    failed = failed;
+  }
+  writer_failed mid front unwritten (Err fault) part run empty split wrote cut failed = record {
+    part = err_delivered front unwritten part run empty split wrote;
+    cut = cut;
+    counted = refl;
+    failed = failed;
+  }

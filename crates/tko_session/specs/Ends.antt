@@ -1,5 +1,5 @@
 -- How a session ends, and how the steps of its loop do: what holds for each result.
-use Rattle.std.specs.Prelude.{◌≡◌, ◌<◌, ℕ, Bool, Result, Ok, Err}
+use Rattle.std.specs.Prelude.{◌≡◌, ◌≢◌, ◌<◌, ℕ, [], Bool, Result, Ok, Err}
 use Rattle.tko_io.specs.Io.{capped}
 use Rattle.tko_session.specs.declared.fault.SessionFault.{SessionFault}
 use Rattle.tko_session.specs.declared.fault.SessionFault.TheVariants.{Read, Write, LineTooLong, Memory}
@@ -22,9 +22,10 @@ module _ {O W : Type 0} (ghosts : Delivering O W) where
     pub part : DeliveredPart ghosts 0 old new
     pub calm : ghosts.outlet.failures new.writer ≡ ghosts.outlet.failures old.writer
 
-  -- the writer failed, after `count` bytes of the session
+  -- the writer failed, after `count` bytes of the session, and some of the replies stay unwritten
   pub record WriterFailed (old : Delivery O W) (count : ℕ) (new : Delivery O W) : Type 0 where
     pub part : DeliveredPart ghosts 0 old new
+    pub cut : part.unwritten ≢ []
     pub counted : count ≡ capped new.written
     pub failed : ghosts.outlet.failures old.writer < ghosts.outlet.failures new.writer
 

@@ -1,5 +1,5 @@
 -- What a whole session did.
-use Rattle.std.specs.Prelude.{◌≡◌, ℕ, ◌+◌, false, List, [], ◌++◌, Some, length}
+use Rattle.std.specs.Prelude.{◌≡◌, ◌≢◌, ℕ, ◌+◌, false, List, [], ◌++◌, Some, length}
 use Rattle.tko_model.specs.Records.{Gains}
 use Rattle.tko_text.specs.declared.item.Item.{Item}
 use Rattle.tko_text.specs.declared.item.Item.TheVariants as item
@@ -125,9 +125,10 @@ module _ {I O W : Type 0} (ghosts : Serving I O W) where
     pub text : text_of (turns_of events) ≡ front ++ unwritten
     pub output : ghosts.delivering.outlet.takes old.writer front new.writer
 
-  -- the writer failed after `written` bytes
+  -- the writer failed after `written` bytes, and some of the replies stayed unwritten
   pub record StoppedByWrite (old : Context I O W) (written : ℕ) (new : Context I O W) : Type 0 where
     pub early : StoppedEarly old new
+    pub cut : early.unwritten ≢ []
     pub counted : written ≡ capped (length early.front)
 
 -- the items of the bytes that were read end with a line too long

@@ -1,4 +1,4 @@
-use Rattle.std.proofs.Common.{◌∙◌, arith, length-take, length-drop}
+use Rattle.std.proofs.Common.{rules, ◌∙◌, arith, length-take, length-drop}
 use Rattle.tko_io.proofs.ListLemmas.{take-next}
 use Rattle.tko_io.proofs.WriteLemmas.{writes_some, writes_failed}
 use Rattle.tko_io.proofs.writing.write_all.Goals as goal
@@ -6,7 +6,7 @@ use Rattle.tko_io.proofs.writing.write_all.Goals as goal
 pub returns-in_default-clause-part : goal.returns-in_default-clause-part
 returns-in_default-clause-part g c = record {
   count = c.loop.at;
-  within = c.loop.invariant.0;
+  within = search rules;
   front = writes_failed g.met.O.Outlet.goes_on c.loop.invariant.1 c.in_default.ensures.none;
 }
 

@@ -3,7 +3,8 @@ use Rattle.std.proofs.lemmas.List.{take-append-drop}
 use Rattle.std.proofs.lemmas.Result.{err_from_is_err_and}
 use Rattle.tko_turns.proofs.EventLemmas.{begun_paid}
 use Rattle.tko_turns.specs.SessionState.{SessionState, snapshot}
-use Rattle.tko_session.proofs.ServedLemmas.{all_of, ends_delivered, err_delivered, ok_delivered}
+use Rattle.tko_session.proofs.ReplyLemmas.{left_over}
+use Rattle.tko_session.proofs.ServedLemmas.{all_of, err_delivered, ok_delivered, writer_failed}
 use Rattle.tko_turns.proofs.TurnLemmas.{answered_paid}
 use Rattle.tko_session.proofs.serving.deliver.Goals as goal
 
@@ -17,11 +18,10 @@ returns-in_err-wrote-clause-ends g c =
     let run = rw wrote.others at c.run_owed_round-rounded.ensures.round in
     let text = c.answer-answered.new.session.outbox in
     let split = sym (take-append-drop wrote.part.count text) in
-    rw (p.1, p.2, wrote.fault) (record {
-      part = ends_delivered (snapshot c.answer-answered.new.session c.answer-answered.new.parts) (take wrote.part.count text) (drop wrote.part.count text) c.answer-answered.result c.answer-answered.ensures.ends (record { ran = run.ran }) c.requires.outbox split wrote.part.front;
-      counted = refl;
-      failed = wrote.failed;
-    })
+    rw (p.1, p.2, wrote.fault) (writer_failed (snapshot c.answer-answered.new.session c.answer-answered.new.parts)
+    (take wrote.part.count text) (drop wrote.part.count text) c.answer-answered.result c.answer-answered.ensures.ends
+    (record { ran = run.ran }) c.requires.outbox split wrote.part.front (left_over wrote.part.count text wrote.part.within)
+    wrote.failed)
 
 pub returns-in_err-wrote-clause-begun : goal.returns-in_err-wrote-clause-begun
 returns-in_err-wrote-clause-begun g c = λ begun.
