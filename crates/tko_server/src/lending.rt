@@ -71,20 +71,25 @@ pub(crate) fn work<
 {
     let ended = pool(rt, alloc, members)?;
     let report = WorkerReport::of_all(&ended);
-    give_all(rt, desk, ended);
+    give_all(rt, desk, ended)?;
     Ok(report)
 }
 
 /// Gives the passes of these workers back to the desk. A desk that is full drops a pass, and then
-/// the tracker cannot be closed.
+/// the tracker cannot be closed: an error like the lack of memory, after all others were given.
 fn give_all<R: Wait, N: Named>(
     rt: &R,
     desk: &Desk<N>,
     ended: Vec<(LoggedIdle<IdlePass>, WorkerReport)>,
-)
+) -> Result<(), NoMemory>
     requires { All (λ one. IsOf N.tracker one.0) ended.items }
 {
+    let mut is_full = false;
     for (seat, _) in ended {
-        let _ = desk.give(rt, seat.into_inner());
+        is_full |= desk.give(rt, seat.into_inner()).is_err();
     }
+    if is_full {
+        return Err(NoMemory);
+    }
+    Ok(())
 }
