@@ -1,5 +1,5 @@
 -- Words: runs of bytes other than the space. Any spaces before, between and after them are skipped.
-use Rattle.std.specs.Prelude.{◌≡◌, ℕ, Bool, true, false, List, [], ◌∷◌, ◌++◌, ◌==◌, if◌then◌else◌}
+use Rattle.std.specs.Prelude.{◌≡◌, ℕ, Bool, true, false, List, [], ◌∷◌, ◌==◌, if◌then◌else◌}
 
 abbrev pub space : ℕ
 space = 32
