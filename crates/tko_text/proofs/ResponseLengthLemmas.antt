@@ -1,13 +1,12 @@
 -- Where responses end, and how long they are at least.
-use Rattle.std.proofs.Common.{◌≡◌, ◌≢◌, ℕ, ◌+◌, ◌-◌, ◌<◌, ◌≤◌, List, [], ◌∷◌, ◌++◌, length, take, drop, get_or, refl, ap, sym, ◌∙◌, subst, inl, inr, arith, append_assoc, length-append, None, Some}
+use Rattle.std.proofs.Common.{◌≡◌, ℕ, ◌+◌, ◌-◌, ◌<◌, ◌≤◌, List, [], ◌∷◌, ◌++◌, length, take, drop, get_or, refl, ap, sym, ◌∙◌, subst, inl, inr, arith, append_assoc, length-append, Some}
 use Rattle.std.proofs.lemmas.List.{get_or-append_right, get_or-take, get_or_at, length-take-le, take-append-drop, take-append-le}
 use Rattle.std.proofs.lemmas.Bool.{cases_lt}
 use Rattle.tko_bytes.specs.Lines.{HasNoEnd}
 use Rattle.tko_text.specs.declared.request.Request.{Request}
 use Rattle.tko_text.specs.declared.response.Response.{Response}
-use Rattle.tko_text.specs.declared.response.body.Value.{Value}
-use Rattle.tko_text.specs.ResponseLines.{IsLine, Split, SplitsLine}
-use Rattle.tko_text.specs.Responses.{Kind, Retrieval, IsBody, IsHead, IsResponse, NoResponse, Says, block, kind_of}
+use Rattle.tko_text.specs.ResponseLines.{Split, SplitsLine}
+use Rattle.tko_text.specs.Responses.{Kind, IsBody, IsHead, IsResponse, NoResponse, Says, block, kind_of}
 use Rattle.tko_text.specs.ResponseFaults.{IsOf, value_line}
 use Rattle.tko_text.specs.ResponseLengths.{IsLeastLength, IsLeastOf}
 use Rattle.tko_text.proofs.ResponseBodyLemmas.{head_is_one}

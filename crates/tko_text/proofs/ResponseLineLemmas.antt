@@ -1,9 +1,10 @@
 -- Lines: where the first one ends, and that there is one first line at most.
 use Rattle.std.proofs.Common.{◌≡◌, ◌≢◌, ℕ, ◌-◌, ◌<◌, ◌≤◌, eqb, List, [], ◌∷◌, ◌++◌, length, get_or, refl, ap, sym, ◌∙◌, subst, inl, inr, arith, append_assoc, length-append}
 use Rattle.std.specs.List.{AllByRecursion}
+use Rattle.std.specs.Prelude.{codes}
 use Rattle.std.proofs.lemmas.Bool.{cases_Bool, cond-true, cond-false}
 use Rattle.std.proofs.lemmas.List.{get_or_append_left, get_or_at}
-use Rattle.std.proofs.lemmas.List.Elements.{recursion_from_All, All-take}
+use Rattle.std.proofs.lemmas.List.Elements.{recursion_from_All, All-from_recursion, All-take}
 use Rattle.tko_bytes.specs.Lines.{content, SplitsAtEnd}
 use Rattle.tko_text.specs.ResponseLines.{IsText, IsOpenLine, IsLine, IsOverlong, Split, SplitsLine, split_of}
 use Rattle.tko_text.proofs.ResponseTextLemmas.{rest_is_text}
@@ -86,3 +87,15 @@ arguments_are_text bytes line rest split =
     let first = split.1 in
     subst IsText (sym (ap (λ (l : Split). l.rest) first.holds))
     (rest_is_text (content first.before) (content_text first.before first.open_line.text))
+
+end_text : AllByRecursion (λ b. b ≢ 10) (codes "END\r")
+end_text = (λ e. omega (arith, e), (λ e. omega (arith, e), (λ e. omega (arith, e), (λ e. omega (arith, e), tt))))
+
+-- the line `END` as a server writes it
+pub end_line : IsLine (codes "END\r\n") (record { word = codes "END"; rest = [] })
+end_line = record {
+  before = codes "END\r";
+  whole = refl;
+  open_line = record { text = All-from_recursion (λ b. b ≢ 10) (codes "END\r") end_text; few = omega arith };
+  holds = refl;
+}

@@ -1,8 +1,12 @@
 //! The keys of a request.
-ghost use Rattle.std.specs.Prelude.{◌≡◌, ◌<◌, length};
+ghost use Rattle.std.specs.Prelude.{◌≡◌, ◌<◌, ◌++◌, ◌∷◌, [], IfOk, OnErr, OnOk, length};
+ghost use Rattle.std.specs.Vec.Iter.{into_iter_items};
 
-use crate::Key;
+use crate::{Key, NoMemory};
+use std::alloc::Global;
 use std::marker::Model;
+use std::mem::replace;
+use std::vec::IntoIter;
 
 /// One key or more. Contracts see the list of them.
 #[derive(Debug, Drop)]
@@ -35,11 +39,26 @@ impl Keys {
         self.keys.as_slice()
     }
 
-    pub fn into_keys(self) -> Vec<Key>
-        ensures value { result.items ≡ self }
-        ensures some { 0 < length self }
+    /// Keeps the first key alone, and returns those that follow it.
+    pub fn split_first(&mut self, alloc: Global) -> Result<IntoIter<Key>, NoMemory>
+        ensures parts { IfOk result (λ others. self.old ≡ self.new ++ into_iter_items others) }
+        ensures one { OnOk result (length self.new ≡ 1) }
+        ensures err { OnErr result (self.new ≡ self.old) }
     {
-        let Keys { keys } = self;
-        keys
+        let room = Vec::with_capacity(alloc, 1)?;
+        let mut others = replace(&mut self.keys, room).into_iter();
+        let Some(first) = others.next() else {
+            unreachable!();
+        };
+        self.keys.push_reserved(first);
+        Ok(others)
+    }
+
+    /// Puts a key in the place of all of them, which takes no memory.
+    pub fn set_only(&mut self, key: Key)
+        ensures { self.new ≡ key ∷ [] }
+    {
+        self.keys.truncate(1);
+        self.keys[0] = key;
     }
 }

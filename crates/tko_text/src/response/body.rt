@@ -1,10 +1,16 @@
 //! What a response carries.
-ghost use Rattle.std.specs.Prelude.{◌≡◌, ◌↔◌, IsTrue};
+ghost use Rattle.std.specs.Prelude.{◌≡◌, ◌↔◌, ◌++◌, IfSome, IsTrue, OnErr, OnOk};
 ghost use Rattle.tko_text.specs.ResponseLines.{IsText};
+ghost use Rattle.tko_text.specs.Responses.{value_text};
 
-use crate::{Data, Key};
+use super::writer::{append_value, shared_text};
+use crate::{Data, Key, NoMemory};
+use bytes::Bytes;
 use memchr::memchr;
 use std::marker::Model;
+
+/// How many bytes the line `END` has.
+const END_LEN: usize = 5;
 
 /// What is stored under a key.
 #[derive(Debug, Drop)]
@@ -14,6 +20,27 @@ pub struct Value {
     pub data: Data,
     /// The cas number, where it was asked for.
     pub unique: Option<u64>,
+}
+
+impl Value {
+    /// Puts the written form at the end of a buffer: the first line and the data, without the line
+    /// `END` of a response.
+    pub fn append_to(&self, out: &mut Vec<u8>) -> Result<(), NoMemory>
+        ensures ok { OnOk result (out.new.items ≡ out.old.items ++ value_text self.now) }
+        ensures err { OnErr result (out.new.items ≡ out.old.items) }
+    {
+        append_value(self, b"\r\n", out)
+    }
+
+    /// The written form without a copy, if the value shares the text that it was read from and that
+    /// is the written form of the response.
+    pub fn shared_text(&self) -> Option<Bytes>
+        ensures { IfSome result (λ text. text ≡ value_text self.now) }
+    {
+        let mut text = shared_text(self)?;
+        text.truncate(text.len().saturating_sub(END_LEN));
+        Some(text)
+    }
 }
 
 /// The text of an error or a version: bytes without LF. Contracts see their list.

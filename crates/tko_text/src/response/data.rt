@@ -24,7 +24,7 @@ enum Held {
 
 /// A part of a text, which is kept whole and may have other owners.
 #[derive(Debug, Drop)]
-struct Part {
+pub(crate) struct Part {
     text: Bytes,
     begin: usize,
     size: usize,
@@ -44,6 +44,8 @@ impl Model for Data {
 }
 
 impl Data {
+    ghost use Rattle.tko_text.specs.Data.{part_bytes};
+
     pub fn new(bytes: Vec<u8>) -> Data
         requires { IsData bytes.items }
         ensures { result ≡ bytes.items }
@@ -79,15 +81,13 @@ impl Data {
         }
     }
 
-    /// The text that the data is a part of, if these pieces are all that comes before the data, and
-    /// this all that comes after it. It is shared and not copied.
-    pub(crate) fn text_around(&self, front: &[&[u8]], back: &[u8]) -> Option<Bytes>
-        ensures { IfSome result (λ text.
-            text ≡ flat_map (λ piece. piece.now) front.now ++ self.now ++ back.now) }
+    /// The part of a text that it is, if it is one.
+    pub(crate) fn part(&self) -> Option<&Part>
+        ensures { IfSome result (λ part. part_bytes part.now ≡ self.now) }
     {
         match &self.held {
             Held::Own(_) => None,
-            Held::Part(part) => part.text_around(front, back),
+            Held::Part(part) => Some(part),
         }
     }
 }
@@ -95,7 +95,9 @@ impl Data {
 impl Part {
     ghost use Rattle.tko_text.specs.Data.{part_bytes};
 
-    fn text_around(&self, front: &[&[u8]], back: &[u8]) -> Option<Bytes>
+    /// The text that it is a part of, if these pieces are all that comes before it, and this all
+    /// that comes after it. The text is shared and not copied.
+    pub(crate) fn text_around(&self, front: &[&[u8]], back: &[u8]) -> Option<Bytes>
         ensures { IfSome result (λ text.
             text ≡ flat_map (λ piece. piece.now) front.now ++ part_bytes self.now ++ back.now) }
     {

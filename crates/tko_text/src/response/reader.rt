@@ -336,6 +336,9 @@ fn split_end(bytes: &[u8]) -> Result<&[u8], ReadFault>
     ensures { MatchResult result (λ rest. SplitsEnd bytes.now rest.now)
         (λ fault. EndFault fault bytes.now) }
 {
+    if let Some(rest) = bytes.strip_prefix(b"END\r\n") {
+        return Ok(rest);
+    }
     let (word, arguments, rest) = split_line(bytes)?;
     if word != b"END".as_slice() {
         return Err(ReadFault::Unreadable);

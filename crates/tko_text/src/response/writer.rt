@@ -1,8 +1,10 @@
 //! Writes a response.
-ghost use Rattle.std.specs.Prelude.{◌≡◌, ◌++◌, [], Some, IfSome, OnOk, OnErr, codes};
+ghost use Rattle.std.specs.Prelude.{◌≡◌, ◌++◌, ℕ, [], List, Some, IfSome, OnOk, OnErr, codes};
 ghost use Rattle.std.specs.Fmt.{decimal};
-ghost use Rattle.tko_text.specs.Responses.{response_text, value_with};
+ghost use Rattle.tko_text.specs.Data.{part_bytes};
+ghost use Rattle.tko_text.specs.Responses.{found_text, response_text, value_text, value_with};
 
+use super::data::Part;
 use super::{Response, Value};
 use crate::NoMemory;
 use bytes::Bytes;
@@ -17,7 +19,7 @@ pub(crate) fn append_response(response: &Response, out: &mut Vec<u8>) -> Result<
 {
     match response {
         Response::Values(None) => append(out, &[b"END\r\n"]),
-        Response::Values(Some(value)) => append_value(value, out),
+        Response::Values(Some(value)) => append_value(value, b"\r\nEND\r\n", out),
         Response::Stored => append(out, &[b"STORED\r\n"]),
         Response::NotStored => append(out, &[b"NOT_STORED\r\n"]),
         Response::Exists => append(out, &[b"EXISTS\r\n"]),
@@ -46,22 +48,27 @@ fn append_number(n: u64, out: &mut Vec<u8>) -> Result<(), NoMemory>
     append(out, &[digits.format(n).as_bytes(), b"\r\n"])
 }
 
-/// Puts the written form of a value and the line `END` at the end.
-#[tactic(auto, unfolding(crate::specs::Responses::response_text))]
-fn append_value(value: &Value, out: &mut Vec<u8>) -> Result<(), NoMemory>
-    ensures ok { OnOk result
-        (out.new.items ≡ out.old.items ++ response_text (Response.Values (Some value.now))) }
+/// Puts the written form of a value at the end, and what follows it: `last` is that after the CR LF
+/// of the data.
+pub(crate) fn append_value<'a>(
+    value: &'a Value,
+    last: &'a [u8],
+    out: &mut Vec<u8>,
+) -> Result<(), NoMemory>
+    ensures ok { OnOk result ((end : List ℕ) → last.now ≡ codes "\r\n" ++ end
+        → out.new.items ≡ out.old.items ++ value_text value.now ++ end) }
     ensures err { OnErr result (out.new.items ≡ out.old.items) }
 {
     match value.unique {
-        None => append_plain(value, out),
-        Some(unique) => append_unique(value, unique, out),
+        None => append_plain(value, last, out),
+        Some(unique) => append_unique(value, unique, last, out),
     }
 }
 
 /// The same for a value without a cas number.
-fn append_plain(value: &Value, out: &mut Vec<u8>) -> Result<(), NoMemory>
-    ensures ok { OnOk result (out.new.items ≡ out.old.items ++ value_with value.now []) }
+fn append_plain<'a>(value: &'a Value, last: &'a [u8], out: &mut Vec<u8>) -> Result<(), NoMemory>
+    ensures ok { OnOk result ((end : List ℕ) → last.now ≡ codes "\r\n" ++ end
+        → out.new.items ≡ out.old.items ++ found_text value.now [] ++ end) }
     ensures err { OnErr result (out.new.items ≡ out.old.items) }
 {
     let data = value.data.as_bytes();
@@ -75,15 +82,20 @@ fn append_plain(value: &Value, out: &mut Vec<u8>) -> Result<(), NoMemory>
         size.format(data.len()).as_bytes(),
         b"\r\n",
         data,
-        b"\r\nEND\r\n",
+        last,
     ];
     append(out, &pieces)
 }
 
 /// The same for one with this cas number.
-fn append_unique(value: &Value, unique: u64, out: &mut Vec<u8>) -> Result<(), NoMemory>
-    ensures ok { OnOk result
-        (out.new.items ≡ out.old.items ++ value_with value.now (codes " " ++ decimal unique)) }
+fn append_unique<'a>(
+    value: &'a Value,
+    unique: u64,
+    last: &'a [u8],
+    out: &mut Vec<u8>,
+) -> Result<(), NoMemory>
+    ensures ok { OnOk result ((end : List ℕ) → last.now ≡ codes "\r\n" ++ end → out.new.items
+        ≡ out.old.items ++ found_text value.now (codes " " ++ decimal unique) ++ end) }
     ensures err { OnErr result (out.new.items ≡ out.old.items) }
 {
     let data = value.data.as_bytes();
@@ -99,7 +111,7 @@ fn append_unique(value: &Value, unique: u64, out: &mut Vec<u8>) -> Result<(), No
         cas.format(unique).as_bytes(),
         b"\r\n",
         data,
-        b"\r\nEND\r\n",
+        last,
     ];
     append(out, &pieces)
 }
@@ -110,14 +122,16 @@ fn append_unique(value: &Value, unique: u64, out: &mut Vec<u8>) -> Result<(), No
 pub(crate) fn shared_text(value: &Value) -> Option<Bytes>
     ensures { IfSome result (λ text. text ≡ response_text (Response.Values (Some value.now))) }
 {
+    let part = value.data.part()?;
     match value.unique {
-        None => shared_plain(value),
-        Some(unique) => shared_unique(value, unique),
+        None => shared_plain(value, part),
+        Some(unique) => shared_unique(value, part, unique),
     }
 }
 
-/// The same for a value without a cas number.
-fn shared_plain(value: &Value) -> Option<Bytes>
+/// The same for a value without a cas number, whose data is this part of a text.
+fn shared_plain(value: &Value, part: &Part) -> Option<Bytes>
+    requires { part_bytes part.now ≡ value.now.data }
     ensures { IfSome result (λ text. text ≡ value_with value.now []) }
 {
     let (mut flags, mut size) = (Buffer::new(), Buffer::new());
@@ -130,11 +144,12 @@ fn shared_plain(value: &Value) -> Option<Bytes>
         size.format(value.data.as_bytes().len()).as_bytes(),
         b"\r\n",
     ];
-    value.data.text_around(&front, b"\r\nEND\r\n")
+    part.text_around(&front, b"\r\nEND\r\n")
 }
 
 /// The same for one with this cas number.
-fn shared_unique(value: &Value, unique: u64) -> Option<Bytes>
+fn shared_unique(value: &Value, part: &Part, unique: u64) -> Option<Bytes>
+    requires { part_bytes part.now ≡ value.now.data }
     ensures { IfSome result (λ text. text ≡ value_with value.now (codes " " ++ decimal unique)) }
 {
     let (mut flags, mut size, mut cas) = (Buffer::new(), Buffer::new(), Buffer::new());
@@ -149,5 +164,5 @@ fn shared_unique(value: &Value, unique: u64) -> Option<Bytes>
         cas.format(unique).as_bytes(),
         b"\r\n",
     ];
-    value.data.text_around(&front, b"\r\nEND\r\n")
+    part.text_around(&front, b"\r\nEND\r\n")
 }

@@ -1,4 +1,4 @@
-use Rattle.std.proofs.Common.{◌∙◌, List, ℕ, refl, subst, sym, arith}
+use Rattle.std.proofs.Common.{List, ℕ, refl, subst, sym, arith}
 use Rattle.std.proofs.lemmas.Result.{err_from_is_err_and}
 use Rattle.tko_bytes.proofs.NumberLemmas.{number_of-le}
 use Rattle.tko_text.specs.Limits.{data_limit}

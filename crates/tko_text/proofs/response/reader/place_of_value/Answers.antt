@@ -1,4 +1,4 @@
-use Rattle.std.proofs.Common.{◌≡◌, ◌∙◌, List, ℕ, ◌-◌, ap, arith, drop, length, length-append, subst, sym, take, Ok, Some, codes}
+use Rattle.std.proofs.Common.{◌∙◌, List, ℕ, ◌-◌, ap, arith, length, length-append, subst, sym, Ok, Some, codes}
 use Rattle.std.proofs.lemmas.Result.{err_from_is_err_and}
 use Rattle.std.proofs.lemmas.Slice.Eq.{bytes_eq-Decides}
 use Rattle.tko_text.specs.Heads.{value_of}
