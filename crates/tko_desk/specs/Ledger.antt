@@ -1,9 +1,9 @@
 -- A ledger: a book of totals, and the shares of the workers that counted them.
 use Rattle.std.specs.Prelude.{◌≡◌, ℕ, zero, suc, ◌+◌, ◌<◌, ◌⊎◌, Bool, ◌==◌, List, [], ◌∷◌, ◌++◌, All, length}
 use Rattle.std.specs.List.{count_by, sum_by}
-use Rattle.tko_counts.specs.Numbers.{most, no_counts, number_of, raised}
-use Rattle.tko_counts.specs.declared.counts.Counts.{Counts}
-use Rattle.tko_counts.specs.declared.kind.Kind.{Kind}
+use Rattle.tko_model.specs.Numbers.{most, no_counts, number_of, raised}
+use Rattle.tko_model.specs.declared.counts.Counts.{Counts}
+use Rattle.tko_model.specs.declared.kind.Kind.{Kind}
 use Rattle.tko_desk.specs.declared.book.Book.{Book}
 use Rattle.tko_desk.specs.declared.book.Share.{Share}
 

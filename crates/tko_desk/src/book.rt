@@ -4,7 +4,7 @@ ghost use Rattle.tko_desk.specs.Ledger.{IsAdded, IsFull, IsOpened, IsTooMany, fr
 
 use std::alloc::Global;
 use tko_bytes::NoMemory;
-use tko_counts::{Counts, Kind};
+use tko_model::{Counts, Kind};
 
 /// The totals of a ledger. Its name tells its shares from those of another ledger.
 #[derive(Debug, Drop, PartialEq, Eq)]

@@ -1,11 +1,11 @@
 //! What a ledger comes to, once all its shares are back.
 ghost use Rattle.std.specs.Prelude.{◌≡◌, ◌↔◌, ◌<◌, ℕ, All, IfErr, IfOk, IsOk, IsTrue, length};
 ghost use Rattle.std.specs.List.{count_by};
-ghost use Rattle.tko_counts.specs.Numbers.{number_of};
+ghost use Rattle.tko_model.specs.Numbers.{number_of};
 ghost use Rattle.tko_desk.specs.Ledger.{HasEachPlace, HasSums, IsWhole, is_at, sum_of};
 
 use crate::{Book, Share};
-use tko_counts::{Counts, Kind};
+use tko_model::{Counts, Kind};
 
 /// What all workers counted.
 #[derive(Clone, Copy, Debug, PartialEq, Eq)]

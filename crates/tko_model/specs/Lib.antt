@@ -1,6 +1,7 @@
 pub mod Groups
 pub mod Limits
 pub mod Looks
+pub mod Numbers
 pub mod Ranges
 pub mod Records
 pub mod Settings

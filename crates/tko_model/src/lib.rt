@@ -9,10 +9,15 @@
 //! - `Look` and `Clear`: what a look-up found, and the permission to send one request.
 //! - `Duty`: the right of the thread that marked a server to probe it.
 //! - `Plain`: the sequential tracker, which defines what all other trackers do.
+//! - `Kind`: what is counted of the clients' requests, with the word that it is printed as.
+//! - `Counts`: a number for each kind. A session and a ledger count in it: the one stays at
+//!   2^64 - 1, the other fails above it.
 //! - `append_mark`, `append_reply`, `op_word`: marks, replies and operations as text.
 #![tactic(auto)]
 
+mod counts;
 mod duty;
+mod kind;
 mod layout;
 mod look;
 mod mark;
@@ -23,7 +28,9 @@ mod state;
 mod text;
 mod transition;
 
+pub use counts::Counts;
 pub use duty::Duty;
+pub use kind::Kind;
 pub use layout::Layout;
 pub use look::{Clear, Look};
 pub use mark::{Mark, Op, Reply};
@@ -36,5 +43,7 @@ pub use state::{ServerState, count_softs, has_room, opened_servers};
 pub use text::{append_mark, append_number, append_reply, op_word};
 pub use transition::Transition;
 
+#[cfg(test)]
+mod counts_tests;
 #[cfg(test)]
 mod tests;

@@ -1,5 +1,5 @@
 use Rattle.std.proofs.Common.{◌≡◌, ◌+◌, drop}
-use Rattle.tko_counts.specs.Numbers.{number_of}
+use Rattle.tko_model.specs.Numbers.{number_of}
 use Rattle.tko_desk.specs.Ledger.{sum_of}
 use Rattle.tko_desk.proofs.gathering.is_sum.Given as goal
 

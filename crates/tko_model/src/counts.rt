@@ -1,6 +1,6 @@
 //! A number for each kind.
 ghost use Rattle.std.specs.Prelude.{◌≡◌, ◌+◌, ◌<◌, ◌↔◌, IfSome, None};
-ghost use Rattle.tko_counts.specs.Numbers.{most, no_counts, number_of, raised, saturated, with_number};
+ghost use Rattle.tko_model.specs.Numbers.{most, no_counts, number_of, raised, saturated, with_number};
 
 use crate::Kind;
 

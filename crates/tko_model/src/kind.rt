@@ -1,6 +1,6 @@
 //! What is counted.
 ghost use Rattle.std.specs.Prelude.{◌≡◌};
-ghost use Rattle.tko_counts.specs.Numbers.{kind_word};
+ghost use Rattle.tko_model.specs.Numbers.{kind_word};
 
 /// What is counted.
 #[derive(Clone, Copy, Debug, PartialEq, Eq)]

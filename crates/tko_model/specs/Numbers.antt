@@ -1,8 +1,8 @@
 -- What is counted, and how many of each kind.
 use Rattle.std.specs.Prelude.{ℕ, ◌+◌, List, codes, min}
-use Rattle.tko_counts.specs.declared.counts.Counts.{Counts}
-use Rattle.tko_counts.specs.declared.kind.Kind.{Kind}
-use Rattle.tko_counts.specs.declared.kind.Kind.TheVariants.{Request, Attempt, Skip, Reply, NoServer, Probe}
+use Rattle.tko_model.specs.declared.counts.Counts.{Counts}
+use Rattle.tko_model.specs.declared.kind.Kind.{Kind}
+use Rattle.tko_model.specs.declared.kind.Kind.TheVariants.{Request, Attempt, Skip, Reply, NoServer, Probe}
 
 -- the greatest number that is counted
 abbrev pub most : ℕ
