@@ -26,8 +26,8 @@ pub record HasPassesFrom (s : Settings) (drawn place : ℕ) (view : List Pass) :
   pub count : place + length view ≡ s.threads
   pub each : ArePassesFrom s drawn place view
 
--- a seat of this table with the pass of the thread that drew this number, which made no call and has
--- seen an empty history, and no slot
+-- a seat of this table with the pass of the thread that drew this number, which made no call and
+-- has seen an empty history, and no slot
 pub record IsSeatAt
     (s : Settings) (table : TableId) (number : ℕ) (seat : Seat (Unit {0}) (List Pass)) : Type 0
   where

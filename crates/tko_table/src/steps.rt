@@ -2,10 +2,12 @@
 //! step that the pass's call takes from its phase.
 ghost use Rattle.std.specs.Prelude.{◌≡◌, ◌<◌, ◌+◌, true, [], drop, length, take, ◌++◌};
 ghost use Rattle.tko_model.specs.Tracker.{IsFit};
+ghost use Rattle.tko_model.specs.declared.mark.Op.TheVariants as op;
 ghost use Rattle.tko_word.specs.Words.{IsMarkOf, IsWord};
 ghost use Rattle.tko_steps.specs.declared.table.Action.TheVariants.{Exchange, Give, LookAtServer, LookAtSlots, Reserve};
 ghost use Rattle.tko_steps.specs.declared.table.Observed.TheVariants as seen;
 ghost use Rattle.tko_steps.specs.Table.{action_of};
+ghost use Rattle.tko_steps.specs.declared.phase.Phase.TheVariants.{Start};
 ghost use Rattle.tko_steps.specs.declared.step.Kind.TheVariants as kind;
 ghost use Rattle.tko_steps.specs.Steps.{is_marked_state, kind_of_exchange};
 ghost use Rattle.tko_table.specs.Passes.{count_enrolled, raised};
@@ -42,6 +44,21 @@ impl Words {
         } else {
             Observed::Server(self.look_at_server(seat, call, phase))
         }
+    }
+
+    /// Loads the word of the server that a look-up asks for, by the one atomic load that a look-up
+    /// makes.
+    pub fn look_up(&self, seat: &mut Seat, call: &Call) -> ServerState
+        requires seat { seat.old.table_id ≡ self.now.table.shared.table_id }
+        requires server { call.now.server < self.now.settings.servers }
+        requires stands { CanLook self.now.settings op.LookUp (view_of seat.old) call.now Start }
+        ensures seat { IsSameSeat seat.old seat.new }
+        ensures step { Took
+            (view_of seat.old) call.now Start (seen.Server result) (view_of seat.new) }
+        ensures sound { IsSound self.now.settings call.now.server (seen.Server result) }
+    {
+        let (mark, stamp) = unpack(self.load_as::<LooksUp>(seat, call, Phase::Start));
+        ServerState { mark, stamp }
     }
 
     fn look_at_server(&self, seat: &mut Seat, call: &Call, phase: Phase) -> ServerState

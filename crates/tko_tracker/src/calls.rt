@@ -18,7 +18,8 @@ impl Tracker {
         requires server { server < self.now.settings.servers }
         ensures { LooksUp self.now pass.old server result pass.new }
     {
-        Look::of(server, look(&self.words, pass, server))
+        let mark = look_at(&self.words, &mut pass.seat, pass.number, server);
+        Look::of(server, mark)
     }
 
     /// Records a failure that may pass.
@@ -102,14 +103,4 @@ fn call(words: &Words, pass: &mut Pass, op: Op, server: usize) -> Reply
     let reply = run(words, &mut pass.seat, pass.number, op, server);
     pass.owned.record(reply, server);
     reply
-}
-
-/// The mark that a look-up finds.
-fn look(words: &Words, pass: &mut Pass, server: usize) -> Mark
-    requires tracker { IsOf (tracker_of words.now) pass.old }
-    requires server { server < words.now.settings.servers }
-    ensures { Answered (tracker_of words.now) pass.old op.LookUp server
-        (look_reply result) pass.new }
-{
-    look_at(words, &mut pass.seat, pass.number, server)
 }

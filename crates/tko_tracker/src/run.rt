@@ -57,8 +57,5 @@ pub(crate) fn look_at(words: &Words, seat: &mut Seat, number: u32, server: usize
         server,
         lost: 0,
     };
-    match take_step(words, seat, &call, Phase::Start) {
-        Observed::Server(found) => found.mark,
-        Observed::Slots(_) | Observed::Done(_) => Mark::Up(0),
-    }
+    words.look_up(seat, &call).mark
 }
