@@ -59,7 +59,7 @@ abbrev pub write_result : Result ℕ Error → Result ℕ Stop
 write_result (Ok count) = Ok count
 write_result (Err error) = Err (write_stop (error_kind error))
 
--- a count of bytes that stays at 2^64 - 1
+-- a number or moment that stays at 2^64 - 1
 abbrev pub capped : ℕ → ℕ
 capped n = min n (2 ^ 64 - 1)
 

@@ -1,4 +1,5 @@
 pub mod Calls
+pub mod Clocks
 pub mod Io
 pub mod Pieces
 pub mod Tape

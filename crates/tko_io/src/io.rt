@@ -2,7 +2,7 @@
 ghost use Rattle.std.specs.Prelude.{◌≡◌, ◌≢◌, ◌+◌, ◌<◌, ◌≤◌, Ok, Err, IfOk, length};
 ghost use Rattle.tko_io.specs.Io.{moved, faults_in, idles_in, refusals_in};
 
-use tko_links::IoRuntime;
+use crate::IoRuntime;
 
 /// Why a call moved no byte.
 #[derive(Clone, Copy, Debug, PartialEq, Eq)]

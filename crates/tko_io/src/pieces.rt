@@ -2,9 +2,8 @@
 ghost use Rattle.std.specs.Prelude.{◌≡◌, ◌<◌, ◌≤◌, ◌+◌, ℕ, [], Some, IfOk, IfSome, OnSome, IfNone, length, take, vec_len};
 ghost use Rattle.tko_io.specs.Pieces.{IsPiece, fails_in, idle_in};
 
-use crate::{Inlet, Stop};
+use crate::{Inlet, IoRuntime, Stop};
 use std::alloc::{AllocError, Global};
-use tko_links::IoRuntime;
 
 /// The greatest piece that is read at once.
 const PIECE: usize = 16_384;

@@ -4,11 +4,10 @@ ghost use Rattle.tko_io.specs.Io.{faults_in, idles_in, moved, read_result, read_
 ghost use Rattle.tko_io.specs.Calls.{IsReadCall, IsWriteCall};
 
 use crate::stop_counts::StopCounts;
-use crate::{Inlet, Outlet, Readable, Stop, Writable};
+use crate::{Inlet, IoRuntime, Outlet, Readable, Stop, Writable};
 use std::io;
 use std::io::ErrorKind;
 use std::sync::Wait;
-use tko_links::IoRuntime;
 
 /// A reader as an inlet, or a writer as an outlet.
 #[derive(Drop)]

@@ -2,9 +2,8 @@
 ghost use Rattle.std.specs.Prelude.{◌≡◌, ◌+◌};
 ghost use Rattle.tko_io.specs.Io.{is_fault, is_idle};
 
-use crate::Stop;
+use crate::{Stop, raise};
 use std::sync::Wait;
-use tko_links::raise;
 
 /// The two counts of an end.
 #[derive(Drop)]

@@ -4,9 +4,8 @@ ghost use Rattle.tko_io.specs.Io.{faults_in, idles_in, moved, refusals_in};
 ghost use Rattle.tko_io.specs.Tape.{first_stop};
 
 use crate::stop_counts::StopCounts;
-use crate::{Inlet, Outlet, Stop};
+use crate::{Inlet, IoRuntime, Outlet, Stop, raise};
 use std::marker::Model;
-use tko_links::{IoRuntime, raise};
 
 /// Bytes in memory: an inlet that gives them, and an outlet that appends to them. A call moves at
 /// most `greatest` bytes, and a call whose number is in `stops` comes to that Stop.

@@ -3,8 +3,7 @@ ghost use Rattle.std.specs.Prelude.{◌≡◌, ◌<◌, ◌≤◌, [], IfSome, O
 ghost use Rattle.std.specs.Bool.{OnTrue, OnFalse};
 ghost use Rattle.tko_io.specs.Io.{Writes, WritesPart};
 
-use crate::{Outlet, Stop};
-use tko_links::IoRuntime;
+use crate::{IoRuntime, Outlet, Stop};
 
 /// Writes the text, and returns whether all of it was written. The count rises by the bytes that
 /// were written, and stays at 2^64 - 1.

@@ -3,5 +3,4 @@ mod HitLemmas
 pub mod IncomingLemmas
 pub mod PartLemmas
 mod ScriptedLemmas
-mod TcpLemmas
 pub mod WiredLemmas

@@ -1,16 +1,10 @@
 pub mod ExchangeParts
-pub mod ExchangeTimes
 pub mod Exchanges
 pub mod Faults
-pub mod Hosts
 pub mod Incoming
 pub mod Links
 pub mod MemoryWires
-pub mod ProbeTimes
 pub mod Scripted
-pub mod TcpAddresses
-pub mod TcpConnections
-pub mod TcpWires
 pub mod WireRecords
 pub mod Wired
 pub mod Wires

@@ -1,7 +1,6 @@
 -- A wire in memory: which servers are connected, and the bytes that each was sent.
 use Rattle.std.specs.Prelude.{◌≡◌, ℕ, Bool, List, [], ◌++◌, get_or, slice_set}
-use Rattle.tko_links.specs.TcpWires.{connected_after}
-use Rattle.tko_links.specs.Wires.{WireItem, Wrote}
+use Rattle.tko_links.specs.Wires.{WireItem, Wrote, connected_after}
 
 -- which servers are connected, the bytes that each was sent, and how often a call failed
 pub record MemoryState : Type 0 where

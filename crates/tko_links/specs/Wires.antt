@@ -1,5 +1,5 @@
 -- Connections to servers: what each call on them did, and what it says.
-use Rattle.std.specs.Prelude.{◌≡◌, ◌≢◌, ℕ, Bool, true, false, List, ◌&&◌, ◌==◌, if◌then◌else◌, length, nat_lt, take, Result, Ok, Err}
+use Rattle.std.specs.Prelude.{◌≡◌, ◌≢◌, ℕ, Bool, true, false, List, ◌&&◌, ◌==◌, if◌then◌else◌, length, nat_lt, slice_set, take, Result, Ok, Err}
 use Rattle.tko_links.specs.declared.wire.WireFault.{WireFault}
 
 -- an item of a wire's record: one call, and what it did
@@ -57,3 +57,10 @@ AllSame old new = (other : ℕ) → new other ≡ old other
 -- the same but at this server
 abbrev pub OthersSame : ℕ → (ℕ → Bool) → (ℕ → Bool) → Type 0
 OthersSame server old new = (other : ℕ) → other ≢ server → new other ≡ old other
+
+-- which servers are connected after an item
+abbrev pub connected_after : List Bool → WireItem → List Bool
+connected_after connected (Connected server) = slice_set connected server true
+connected_after connected (Unconnected server) = slice_set connected server false
+connected_after connected (Shut server) = slice_set connected server false
+connected_after connected _ = connected

@@ -1,25 +1,13 @@
-//! Counts that contracts see as whole numbers.
+//! Counts of what failed, which contracts see as whole numbers.
 ghost use Rattle.std.specs.Prelude.{◌≡◌, ◌+◌};
 ghost use Rattle.tko_links.specs.Wires.{faults_in, refusals_in};
 
 use crate::wire::WireFault;
 use std::sync::Wait;
-
-/// Raises a count by 1. It blocks forever at 2^64 - 1, which no run reaches.
-pub fn raise<R: Wait>(rt: &R, count: &mut u64)
-    ensures { count.new ≡ count.old + 1 }
-{
-    for _ in rt.forever() {
-        if *count < u64::MAX {
-            *count += 1;
-            return;
-        }
-    }
-    unreachable!()
-}
+use tko_io::raise;
 
 /// Counts the result of a connect or a read, and returns it.
-pub(crate) fn counted<R: Wait, T>(
+pub fn counted<R: Wait, T>(
     rt: &R,
     failures: &mut u64,
     called: Result<T, WireFault>,
@@ -37,7 +25,7 @@ pub(crate) fn counted<R: Wait, T>(
 }
 
 /// Counts the result of a write of this piece, and returns it.
-pub(crate) fn counted_write<R: Wait>(
+pub fn counted_write<R: Wait>(
     rt: &R,
     failures: &mut u64,
     piece: &[u8],

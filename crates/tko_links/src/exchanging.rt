@@ -9,12 +9,10 @@ ghost use Rattle.tko_links.specs.Wires.{is_ok};
 
 use crate::fault::LinkFault;
 use crate::incoming::Incoming;
-use crate::io_runtime::IoRuntime;
 use crate::links::{NoMemory, Outcome};
-use crate::read_buffer::ReadBuffer;
 use crate::wire::{Wire, WireFault};
 use std::alloc::Global;
-use std::mem::replace;
+use tko_io::IoRuntime;
 use tko_text::{Request, Response};
 
 /// Exchanges a request, which was counted, over the connection that is there, or over a new one.
@@ -99,10 +97,8 @@ fn send_and_receive<R: IoRuntime, W: Wire>(
 {
     buffers.print(request)?;
     send(rt, wire, server, buffers.text.as_slice())?;
-    let mut incoming = Incoming::new(replace(&mut buffers.received, ReadBuffer::new(alloc)));
-    let received = receive(rt, alloc, wire, &mut incoming, server, request);
-    buffers.received = incoming.buffer;
-    received
+    buffers.incoming.begin();
+    receive(rt, alloc, wire, &mut buffers.incoming, server, request)
 }
 
 /// Writes a text: in one call, continued where the wire took less.
@@ -157,13 +153,12 @@ fn receive<R: IoRuntime, W: Wire>(
     unreachable!()
 }
 
-/// The buffers of one exchange, which the next one reuses. While an exchange is on its way the
-/// second is the `Incoming`'s, which gives it back.
+/// The buffers of one exchange, which the next one reuses.
 #[derive(Debug, Drop)]
 pub(crate) struct Buffers {
     /// The printed request.
     text: Vec<u8>,
-    received: ReadBuffer,
+    incoming: Incoming,
 }
 
 /// The greatest capacity that an empty buffer keeps.
@@ -173,7 +168,7 @@ impl Buffers {
     pub(crate) fn new(alloc: Global) -> Buffers {
         Buffers {
             text: Vec::new(alloc),
-            received: ReadBuffer::new(alloc),
+            incoming: Incoming::new(alloc),
         }
     }
 
@@ -192,6 +187,6 @@ impl Buffers {
     /// Gives up room above 64 KiB.
     pub(crate) fn release(&mut self) {
         tko_bytes::clear(&mut self.text, KEPT_CAPACITY);
-        self.received.release();
+        self.incoming.release();
     }
 }

@@ -13,10 +13,10 @@ use tko_text::{ReadFault, Request, Response};
 /// How many bytes without LF may come until they are looked at.
 const UNSEEN_LIMIT: usize = 65_536;
 
-/// Reads one response from the bytes that have come, which it owns. They are looked at only where
-/// that can show something: not before as many have come as the response announced, and not where
-/// the last piece has no LF, except once every 65,536 bytes. So the time is linear, however small
-/// the pieces are.
+/// Reads one response after another, each from the bytes that have come for it, which it owns. They
+/// are looked at only where that can show something: not before as many have come as the response
+/// announced, and not where the last piece has no LF, except once every 65,536 bytes. So the time
+/// is linear, however small the pieces are.
 #[derive(Debug, Drop)]
 pub(crate) struct Incoming {
     /// What has come.
@@ -28,17 +28,27 @@ pub(crate) struct Incoming {
 }
 
 impl Incoming {
-    /// Nothing has come yet, and what comes is put into the room of this buffer.
-    pub(crate) fn new(mut buffer: ReadBuffer) -> Incoming
-        ensures arrival { arrival result ≡ nothing_yet }
-        ensures looked { result.looked ≡ 0 }
-    {
-        buffer.clear();
+    pub(crate) fn new(alloc: Global) -> Incoming {
         Incoming {
-            buffer,
+            buffer: ReadBuffer::new(alloc),
             looked: 0,
             least: 0,
         }
+    }
+
+    /// Nothing has come of the next response yet. What comes is put into the same room.
+    pub(crate) fn begin(&mut self)
+        ensures arrival { arrival self.new ≡ nothing_yet }
+        ensures looked { self.new.looked ≡ 0 }
+    {
+        self.buffer.clear();
+        self.looked = 0;
+        self.least = 0;
+    }
+
+    /// Gives up room above 64 KiB.
+    pub(crate) fn release(&mut self) {
+        self.buffer.release();
     }
 
     /// The response that begins the bytes, and whether it ends with the last of them; nothing as
@@ -91,5 +101,5 @@ fn is_look_due(bytes: &[u8], count: usize, looked: usize, least: usize) -> bool
     if bytes.len() - looked > UNSEEN_LIMIT {
         return true;
     }
-    memchr(b'\n', &bytes[bytes.len() - count..]).is_some()
+    bytes.ends_with(b"\n") || memchr(b'\n', &bytes[bytes.len() - count..]).is_some()
 }

@@ -2,11 +2,12 @@
 ghost use Rattle.std.specs.Prelude.{◌≡◌, ◌+◌, ◌<◌, ◌↔◌, ℕ};
 ghost use Rattle.tko_links.specs.Links.{Exchanged, WasProbed, is_counted, most_sends, part_of};
 
-use crate::io_runtime::IoRuntime;
+use tko_io::IoRuntime;
 use tko_model::{Clear, Duty};
 use tko_text::{Request, Response};
 
-/// What came of a request or of a probe. It was sent, but for `Spent`.
+/// What came of a request or of a probe. Each counts as a send or a probe but `Spent`, for which
+/// nothing was sent; where it was `Refused` no byte of it was.
 #[derive(Debug, Drop)]
 pub enum Outcome {
     /// A whole response, a server's own error among them.

@@ -3,12 +3,12 @@ ghost use Rattle.std.specs.Prelude.{◌≡◌, ◌<◌, ◌≤◌, ◌++◌, ◌
 ghost use Rattle.tko_links.specs.MemoryWires.{IsMemoryStep};
 
 use crate::counting::{counted, counted_write};
-use crate::io_runtime::IoRuntime;
 use crate::peer::{Peer, PeerStep};
 use crate::wire::{Wire, WireFault};
 use std::alloc::{AllocError, Global};
 use std::marker::Model;
 use tko_bytes::NoMemory;
+use tko_io::IoRuntime;
 
 /// The bytes that a server was sent. Contracts see their list.
 #[derive(Drop)]

@@ -4,11 +4,11 @@ ghost use Rattle.tko_text.specs.Responses.{ReadsResponse};
 ghost use Rattle.tko_links.specs.ExchangeParts.{ReadsPiece};
 
 use crate::fault::LinkFault;
-use crate::io_runtime::IoRuntime;
 use crate::wire::Wire;
 use std::alloc::{AllocError, Global};
 use std::marker::Model;
 use tko_bytes::clear;
+use tko_io::IoRuntime;
 use tko_text::{ReadFault, Request, Response};
 
 /// The room of the first read. It doubles when it is used up, unless it is known how long the

@@ -3,12 +3,12 @@ ghost use Rattle.std.specs.Prelude.{◌≡◌, ◌<◌, ◌+◌, ◌↔◌, ℕ,
 ghost use Rattle.tko_links.specs.Links.{Exchanged, WasProbed, is_counted, most_sends, outcome_in, part_of};
 ghost use Rattle.tko_links.specs.Scripted.{Answers, Hits, HitsKeys, IsPlayed, hit_text};
 
-use crate::io_runtime::IoRuntime;
 use crate::links::{Links, NoMemory, Outcome};
 use itoa::Buffer;
 use std::alloc::Global;
 use std::marker::Model;
 use tko_bytes::append;
+use tko_io::IoRuntime;
 use tko_model::{Clear, Duty};
 use tko_text::{Key, ReadFault, Request, Response};
 

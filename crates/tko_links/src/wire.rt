@@ -2,7 +2,7 @@
 ghost use Rattle.std.specs.Prelude.{◌≡◌, ◌+◌, ◌<◌, ◌≤◌, true, false, IfOk, length};
 ghost use Rattle.tko_links.specs.Wires.{AllSame, OthersSame, Checked, Limited, Shut, connect_item, faults_in, is_ok, read_item, refusals_in, write_item};
 
-use crate::io_runtime::IoRuntime;
+use tko_io::IoRuntime;
 
 /// Why a call on a connection failed.
 #[derive(Clone, Copy, Debug, PartialEq, Eq)]
@@ -92,8 +92,8 @@ pub trait Wire {
         ensures failures { failures self.new ≡ failures self.old }
         ensures servers { servers self.new ≡ servers self.old };
 
-    /// The next exchange is a probe of this server, or the probe of it has ended. A probe may have a
-    /// shorter time limit than other exchanges.
+    /// The next exchange is a probe of this server, or the probe of it has ended. A probe may have
+    /// a shorter time limit than other exchanges.
     fn set_probing<R: IoRuntime>(&mut self, rt: &R, server: usize, is_probe: bool)
         requires { server < servers self.old }
         ensures record { steps self.old (Limited server is_probe) self.new }

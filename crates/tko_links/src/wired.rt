@@ -5,12 +5,11 @@ ghost use Rattle.tko_links.specs.Links.{Exchanged, WasProbed, is_counted, most_s
 ghost use Rattle.tko_links.specs.Wired.{IsWired};
 
 use crate::exchanging::{Buffers, exchange_over};
-use crate::io_runtime::IoRuntime;
 use crate::links::{Links, NoMemory, Outcome};
-use crate::tcp_wire::TcpWire;
 use crate::wire::Wire;
 use std::alloc::Global;
 use std::marker::Model;
+use tko_io::IoRuntime;
 use tko_model::{Clear, Duty};
 use tko_text::Request;
 
@@ -24,9 +23,6 @@ pub struct Wired<W: Wire> {
     sends: Vec<u64>,
     probes: Vec<u64>,
 }
-
-/// Links over TCP.
-pub type TcpLinks = Wired<TcpWire>;
 
 impl<W: Wire> Model for Wired<W> {
     ghost use Rattle.std.specs.Prelude.{◌≡◌, length};

@@ -15,4 +15,4 @@ returns-in_err-send g c =
 
 pub returns : goal.returns
 returns g c =
-    received_after_send c.receive-received.result (c.as_slice.ensures.value ∙ c.in_ok-print.ensures.ok) c.in_ok-send.ensures c.receive-received.ensures
+    received_after_send c.receive.result (c.as_slice.ensures.value ∙ c.in_ok-print.ensures.ok) c.in_ok-send.ensures c.receive.ensures

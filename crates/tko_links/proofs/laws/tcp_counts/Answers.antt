@@ -1,5 +1,0 @@
-use Rattle.tko_links.proofs.TcpLemmas.{tcp_record}
-use Rattle.tko_links.proofs.laws.tcp_counts.Goals as goal
-
-pub returns : goal.returns
-returns c = tcp_record

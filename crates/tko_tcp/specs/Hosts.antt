@@ -1,0 +1,34 @@
+-- What is known of a host that is looked up, and what a connect does with it.
+use Rattle.std.specs.Prelude.{◌≡◌, ◌≢◌, ℕ, true, false, List, [], Option, Some, None}
+use Rattle.std.specs.declared.net.socket_addr.SocketAddr.{SocketAddr}
+use Rattle.tko_tcp.specs.declared.host_state.HostState.{HostState}
+use Rattle.tko_tcp.specs.declared.host_state.Step.{Step}
+use Rattle.tko_tcp.specs.declared.host_state.Step.TheVariants as step
+
+-- no look-up has ended since so many had, or the connect has not waited yet
+abbrev pub IsStill : Option ℕ → ℕ → Type 0
+IsStill (Some since) ended = since ≡ ended
+IsStill None ended = Unit {0}
+
+-- a look-up has ended since so many had
+abbrev pub HasEnded : Option ℕ → ℕ → Type 0
+HasEnded (Some since) ended = since ≢ ended
+HasEnded None ended = ⊥
+
+-- A connect takes the addresses that are known. Where none are, it asks for a look-up and waits for
+-- one to end, and where one ended since it began to wait, it gives up.
+abbrev pub IsNext : HostState → Option ℕ → Step → HostState → Type 0
+IsNext old since (step.Try addresses) new =
+    (addresses ≡ old.known) × (old.known ≢ []) × (new ≡ old)
+IsNext old since (step.Wait ended) new =
+    (old.known ≡ []) × IsStill since old.ended × (ended ≡ old.ended)
+    × (new ≡ record old { is_asked = true })
+IsNext old since step.GiveUp new = (old.known ≡ []) × HasEnded since old.ended × (new ≡ old)
+
+-- A look-up has ended that found these addresses: they are known from now on, or, where it found
+-- none, those that were known stay.
+pub record IsAnswered (old : HostState) (found : List SocketAddr) (new : HostState) : Type 0 where
+  pub found_some : found ≢ [] → new.known ≡ found
+  pub found_none : found ≡ [] → new.known ≡ old.known
+  pub is_answered : new.is_asked ≡ false
+  pub counted : new.ended ≢ old.ended

@@ -1,0 +1,6 @@
+pub mod ExchangeTimes
+pub mod Hosts
+pub mod ProbeTimes
+pub mod TcpAddresses
+pub mod TcpConnections
+pub mod TcpWires

@@ -1,0 +1,26 @@
+//! Connections to the servers over TCP, as a wire of tko_links.
+//!
+//! - `TcpWire`: the connections over the system's sockets, at most one to each server; `TcpLinks`:
+//!   links over them.
+//! - `Names`: the hosts of the servers, which one thread looks up for all workers.
+#![tactic(auto)]
+
+mod addresses;
+mod exchange_time;
+mod host_state;
+mod laws;
+mod limited_stream;
+mod names;
+mod probe_time;
+mod tcp_address;
+mod tcp_connect;
+mod tcp_connection;
+mod tcp_server;
+mod tcp_wire;
+
+pub use laws::tcp_counts;
+pub use names::Names;
+pub use tcp_wire::{TcpLinks, TcpWire};
+
+#[cfg(test)]
+mod tests;

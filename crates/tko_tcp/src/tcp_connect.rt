@@ -1,0 +1,71 @@
+//! Connecting to a server by its address, within a time limit.
+
+use crate::exchange_time::ExchangeTime;
+use crate::names::Names;
+use crate::tcp_address::host_and_port;
+use std::io::{Error, ErrorKind, Result};
+use std::net::{IpAddr, SocketAddr, TcpStream};
+use std::time::Instant;
+use tko_io::IoRuntime;
+
+/// Connects to a server. A host that is a name is one of `names`. It waits for addresses of the
+/// name where none are known, and where it cannot connect to any, it asks for a look-up.
+pub(crate) fn connect<R: IoRuntime>(
+    rt: &R,
+    names: &Names,
+    address: &str,
+    time: &ExchangeTime,
+) -> Result<TcpStream> {
+    let Some((host, port)) = host_and_port(address) else {
+        return Err(Error::from(ErrorKind::InvalidInput));
+    };
+    if let Ok(ip) = host.parse::<IpAddr>() {
+        return connect_one(rt, SocketAddr::new(ip, port), time, 1);
+    }
+    let Some(host) = names.host(host) else {
+        return Err(Error::from(ErrorKind::NotFound));
+    };
+    let Some(addresses) = names.addresses(rt, host, time) else {
+        return Err(Error::from(ErrorKind::AddrNotAvailable));
+    };
+    let connected = connect_any(rt, addresses.as_slice(), port, time);
+    if connected.is_err() {
+        names.ask(rt, host);
+    }
+    connected
+}
+
+/// Connects to one of these addresses, in order. Each has an equal part of the time that is left,
+/// so that one that does not answer leaves time for those after it.
+fn connect_any<R: IoRuntime>(
+    rt: &R,
+    addresses: &[SocketAddr],
+    port: u16,
+    time: &ExchangeTime,
+) -> Result<TcpStream> {
+    let mut last = Error::from(ErrorKind::AddrNotAvailable);
+    let mut untried = u32::try_from(addresses.len()).unwrap_or(u32::MAX);
+    for address in addresses {
+        let mut address = *address;
+        address.set_port(port);
+        match connect_one(rt, address, time, untried) {
+            Ok(stream) => return Ok(stream),
+            Err(error) => last = error,
+        }
+        untried = untried.saturating_sub(1);
+    }
+    Err(last)
+}
+
+/// Connects to this address, in one of `parts` equal parts of the time that is left.
+fn connect_one<R: IoRuntime>(
+    rt: &R,
+    address: SocketAddr,
+    time: &ExchangeTime,
+    parts: u32,
+) -> Result<TcpStream> {
+    let Some(limit) = time.share(Instant::now(rt).ok(), parts) else {
+        return Err(Error::from(ErrorKind::TimedOut));
+    };
+    TcpStream::connect_timeout(rt, &address, limit)
+}
