@@ -1,1 +1,5 @@
+pub mod BegunLemmas
 mod DelayLemmas
+mod HalfLemmas
+pub mod ProberLemmas
+pub mod RoundLemmas

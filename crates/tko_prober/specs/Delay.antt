@@ -1,15 +1,12 @@
 -- How long a probe waits, and when it is due.
-use Rattle.std.specs.Prelude.{ℕ, ◌+◌, ◌-◌, ◌*◌, ◌^◌, ◌≤◌, min}
+use Rattle.std.specs.Prelude.{ℕ, ◌+◌, ◌*◌, ◌^◌, ◌≤◌, min}
+use Rattle.tko_io.specs.Io.{capped}
 use Rattle.tko_prober.specs.declared.delays.Delays.{Delays}
 
 -- delays that can be chosen
 pub record IsRange (first greatest : ℕ) : Type 0 where
   pub some_delay : 1 ≤ first
   pub within : first ≤ greatest
-
--- a number or moment that stays at 2^64 - 1
-abbrev pub capped : ℕ → ℕ
-capped n = min n (2 ^ 64 - 1)
 
 -- the first delay, doubled for each result, and never above the greatest
 abbrev pub delay_after : Delays → ℕ → ℕ

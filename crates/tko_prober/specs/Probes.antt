@@ -8,7 +8,8 @@ use Rattle.tko_prober.specs.declared.prober.Probed.TheVariants.{Answered, Refuse
 use Rattle.tko_prober.specs.declared.prober.Prober.{Prober}
 use Rattle.tko_prober.specs.declared.prober.Stage.{Stage}
 use Rattle.tko_prober.specs.declared.prober.Stage.TheVariants.{Waiting, Out, Ended}
-use Rattle.tko_prober.specs.Delay.{capped, due_after}
+use Rattle.tko_io.specs.Io.{capped}
+use Rattle.tko_prober.specs.Delay.{due_after}
 
 -- a prober that began at this moment: its first probe is due after the first delay
 abbrev pub begun : Delays → ℕ → Prober

@@ -8,7 +8,8 @@ use crate::routed::{RouteFault, Routed};
 use crate::routing::Stage;
 use std::alloc::Global;
 use tko_health::Health;
-use tko_links::{IoRuntime, Links};
+use tko_io::IoRuntime;
+use tko_links::Links;
 use tko_text::Request;
 
 /// Sends a request to one target after another, in order, until one answers, and records each

@@ -150,6 +150,13 @@ impl Waiting {
         self.server
     }
 
+    /// The attempts before this send.
+    pub fn attempts(&self) -> &[Attempt]
+        ensures { result.now ≡ self.now.attempts }
+    {
+        self.attempts.as_slice()
+    }
+
     /// Records what came of the send.
     fn record<R: Wait, H: Health>(self, rt: &R, health: &mut H, outcome: Outcome) -> Routing
         requires { self.server < H.servers health.old }
@@ -179,7 +186,8 @@ impl Waiting {
         requires awaited { IsAwaited targets.now self }
         ensures calls { GoesOn H.steps health.old (λ more. (form : ℕ → Request) (calls : List Call)
             → FindsUp form calls self.attempts self.server
-            → Reached targets.now form (calls ++ came_of form self outcome ∷ more) result) health.new }
+            → Reached targets.now form (calls ++ came_of form self outcome ∷ more) result)
+            health.new }
         ensures request { IsBrought exptime (request.old, length self.attempts)
             (request.new, last_place result) }
         ensures grown { length self.attempts < tries result }

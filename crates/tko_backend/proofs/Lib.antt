@@ -1,4 +1,0 @@
-pub mod BegunLemmas
-mod HalfLemmas
-pub mod ProberLemmas
-mod RoundLemmas

@@ -1,6 +1,0 @@
-use Rattle.std.proofs.Common.{◌≡◌, replicate}
-use Rattle.tko_backend.specs.declared.probers.ProbeSlot.TheVariants.{Quiet}
-use Rattle.tko_backend.proofs.probers.quiet_slots.Given as goal
-
-abbrev pub invariant-loop : goal.invariant-loop
-invariant-loop l = l.slots.items ≡ replicate l.counter Quiet

@@ -1,9 +1,0 @@
--- The servers that a backend has.
-use Rattle.std.specs.Prelude.{◌≡◌, ℕ, length}
-use Rattle.tko_backend.specs.declared.backend.Backend.{Backend}
-
--- the links and the probers have the servers of the health
-pub record HaveServers {H L C : Type 0} (servers : H → ℕ) (linked : L → ℕ)
-    (backend : Backend H L C) : Type 0 where
-  pub links : linked backend.links ≡ servers backend.health
-  pub probers : length backend.probers.slots ≡ servers backend.health
