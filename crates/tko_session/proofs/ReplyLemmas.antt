@@ -1,12 +1,12 @@
 -- The replies of a session, which are written piece by piece.
 use Rattle.std.proofs.Common.{◌≡◌, ◌≢◌, ℕ, ◌+◌, ◌<◌, ◌≤◌, List, [], ◌++◌, length, length-append, length-drop, take, drop, refl, sym, ap, ◌∙◌, subst, arith, append_assoc, append-nil}
-use Rattle.std.proofs.lemmas.List.{drop_at, take-append-le, take_at}
+use Rattle.std.proofs.lemmas.List.{drop_at, take-append-le}
 use Rattle.std.proofs.Math.Seq.{take-append-add}
 use Rattle.tko_io.specs.Io.{Writes, WritesPart}
 use Rattle.tko_io.specs.declared.io.Outlet.{Ghosts as OutletGhosts}
 use Rattle.tko_io.proofs.WriteLemmas.{writes_append, writes_none}
-use Rattle.tko_answer.specs.Answering.{Extends}
-use Rattle.tko_turns.specs.SessionState.{SessionState}
+use Rattle.tko_reply.specs.Answering.{Extends}
+use Rattle.tko_session.specs.SessionState.{SessionState}
 
 -- a session whose replies are written, the writer, and how many bytes were written to it
 pub record Writing (O : Type 0) : Type 0 where

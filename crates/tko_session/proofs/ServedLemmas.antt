@@ -4,8 +4,8 @@ use Rattle.std.proofs.lemmas.List.{drop_at}
 use Rattle.tko_model.proofs.RecordLemmas.{gains_append, gains_none, gains_one}
 use Rattle.tko_io.specs.declared.io.Inlet.{Ghosts as InletGhosts}
 use Rattle.tko_io.specs.declared.io.Outlet.{Ghosts as OutletGhosts}
-use Rattle.tko_answer.specs.declared.parts.Parts.{Parts}
-use Rattle.tko_answer.specs.Ghosts.{PartsGhosts}
+use Rattle.tko_reply.specs.declared.parts.Parts.{Parts}
+use Rattle.tko_reply.specs.Ghosts.{PartsGhosts}
 use Rattle.std.specs.Prelude.{MatchBool}
 use Rattle.tko_text.specs.declared.item.Item.{Item}
 use Rattle.tko_text.specs.declared.reader.FeedFault.{FeedFault}
@@ -16,22 +16,22 @@ use Rattle.tko_text.proofs.GivesLemmas.{Gives-append, Gives-fed, Gives-none}
 use Rattle.tko_text.proofs.ReadingLemmas.{NeedsMore-failed}
 use Rattle.tko_session.specs.declared.fault.SessionFault.{SessionFault}
 use Rattle.tko_session.specs.declared.fault.SessionFault.TheVariants as fault
-use Rattle.tko_turns.specs.declared.step.Progress.{Progress}
-use Rattle.tko_turns.specs.declared.step.Progress.TheVariants.{More, NeedsInput, LineTooLong, Quit}
-use Rattle.tko_turns.specs.declared.step.Report.{Report}
+use Rattle.tko_session.specs.declared.step.Progress.{Progress}
+use Rattle.tko_session.specs.declared.step.Progress.TheVariants.{More, NeedsInput, LineTooLong, Quit}
+use Rattle.tko_session.specs.declared.step.Report.{Report}
 use Rattle.tko_io.specs.Io.{Writes, capped}
 use Rattle.tko_io.proofs.WriteLemmas.{writes_append, writes_none}
 use Rattle.tko_bytes.specs.declared.memory.NoMemory.{NoMemory}
-use Rattle.tko_turns.specs.Effects.{effects_of}
-use Rattle.tko_turns.specs.Ends.{AnsweringEnds, IsRun, NoneRun}
+use Rattle.tko_session.specs.Effects.{effects_of}
+use Rattle.tko_session.specs.AnswerEnds.{AnsweringEnds, IsRun, NoneRun}
 use Rattle.tko_session.specs.Ends.{AllDelivered, DeliveryStops, PieceStops, SessionStops, WriterFailed}
-use Rattle.tko_turns.specs.Events.{Effects, Event, IdleRound, Rounded, idle_rounds, turns_of}
+use Rattle.tko_session.specs.Events.{Effects, Event, IdleRound, Rounded, idle_rounds, turns_of}
 use Rattle.tko_session.specs.Faults.{fault_of}
-use Rattle.tko_turns.specs.SessionState.{SessionState, Snapshot, Answered, AnsweredPart, GoesOn, InSession, IsBehind, ProgressIs, fed_state, fresh, items_of, snapshot, text_of, cut_short, no_more, stop_point}
+use Rattle.tko_session.specs.SessionState.{SessionState, Snapshot, Answered, AnsweredPart, GoesOn, InSession, IsBehind, ProgressIs, fed_state, fresh, items_of, snapshot, text_of, cut_short, no_more, stop_point}
 use Rattle.tko_session.specs.Served.{Context, Delivered, DeliveredPart, Delivery, EndsAt, Served, ServedSoFar, StoppedByLine, StoppedByRead, StoppedByWrite, StoppedEarly, Transcript, after_cut, at_end_of_input, at_once, at_quit, context, delivering, delivery, serve_state, serving}
-use Rattle.tko_turns.proofs.EventLemmas.{idles-append, order-append}
+use Rattle.tko_session.proofs.EventLemmas.{idles-append, order-append}
 use Rattle.tko_session.proofs.TextFacts.{open_start, reading_goes_on}
-use Rattle.tko_turns.proofs.TurnLemmas.{counts_append, counts_idle, counts_none, goes_on-append, goes_on-none, in_session, in_session_of, items-append, text-append, turned_append, turned_idle, turned_none, events_in_session, events_progress, part_none, part_paid}
+use Rattle.tko_session.proofs.TurnLemmas.{counts_append, counts_idle, counts_none, goes_on-append, goes_on-none, in_session, in_session_of, items-append, text-append, turned_append, turned_idle, turned_none, events_in_session, events_progress, part_none, part_paid}
 
 -- what an end reported in two parts, it reported as a whole
 abbrev Joins : {E : Type 0} → (E → List ℕ → E → Type 0) → Type 0

@@ -5,7 +5,7 @@ use Rattle.tko_text.specs.declared.item.Item.{Item}
 use Rattle.tko_text.specs.Reading.{EmitsEach, Gives, NeedsMore, Never, Reading, fed, start}
 use Rattle.tko_text.proofs.NeverLemmas.{goes_on_reading}
 use Rattle.tko_text.proofs.ReadingLemmas.{NeedsMore-short}
-use Rattle.tko_turns.specs.SessionState.{Continues, GoesOn}
+use Rattle.tko_session.specs.SessionState.{Continues, GoesOn}
 
 pub open_start : NeedsMore start
 open_start = NeedsMore-short [] (λ k low high. absurd (omega arith)) (omega arith)

@@ -3,11 +3,11 @@ use Rattle.std.specs.Prelude.{◌≡◌, ◌≢◌, ◌<◌, ℕ, [], Bool, Resu
 use Rattle.tko_io.specs.Io.{capped}
 use Rattle.tko_session.specs.declared.fault.SessionFault.{SessionFault}
 use Rattle.tko_session.specs.declared.fault.SessionFault.TheVariants.{Read, Write, LineTooLong, Memory}
-use Rattle.tko_turns.specs.declared.step.Progress.{Progress}
-use Rattle.tko_turns.specs.declared.step.Progress.TheVariants as progress
-use Rattle.tko_turns.specs.declared.step.Report.{Report}
-use Rattle.tko_turns.specs.Events.{idle_rounds}
-use Rattle.tko_turns.specs.SessionState.{pause_of}
+use Rattle.tko_session.specs.declared.step.Progress.{Progress}
+use Rattle.tko_session.specs.declared.step.Progress.TheVariants as progress
+use Rattle.tko_session.specs.declared.step.Report.{Report}
+use Rattle.tko_session.specs.Events.{idle_rounds}
+use Rattle.tko_session.specs.SessionState.{pause_of}
 use Rattle.tko_session.specs.Served.{Context, Delivered, DeliveredPart, Delivering, Delivery, Served, Serving, StoppedByLine, StoppedByRead, StoppedByWrite, StoppedEarly}
 
 module _ {O W : Type 0} (ghosts : Delivering O W) where

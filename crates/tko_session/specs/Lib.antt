@@ -1,3 +1,15 @@
+pub mod Acts
+pub mod AnswerEnds
+pub mod Clients
+pub mod Driven
+pub mod Effects
 pub mod Ends
+pub mod Events
 pub mod Faults
+pub mod ManyClients
+pub mod Outgoing
 pub mod Served
+pub mod SessionState
+pub mod SoFar
+pub mod Turns
+pub mod Working

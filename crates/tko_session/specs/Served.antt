@@ -4,15 +4,15 @@ use Rattle.tko_model.specs.Records.{Gains}
 use Rattle.tko_text.specs.declared.item.Item.{Item}
 use Rattle.tko_text.specs.declared.item.Item.TheVariants as item
 use Rattle.tko_text.specs.declared.request.Request.{Request}
-use Rattle.tko_text.specs.Reading.{Reading, Reads, Emits, Gives, NeedsMore, start, fed}
+use Rattle.tko_text.specs.Reading.{Reading, Emits, Gives, NeedsMore, start, fed}
 use Rattle.tko_io.specs.Io.{Writes, capped}
 use Rattle.tko_io.specs.declared.io.Inlet.{Ghosts as InletGhosts}
 use Rattle.tko_io.specs.declared.io.Outlet.{Ghosts as OutletGhosts}
-use Rattle.tko_turns.specs.declared.step.Progress.{Progress}
-use Rattle.tko_turns.specs.declared.step.Report.{Report}
-use Rattle.tko_turns.specs.Events.{Effects, NoneShort, Event, RoundAfter, idle_rounds, owed_after, turns_of}
-use Rattle.tko_backend.specs.Round.{Visit}
-use Rattle.tko_turns.specs.SessionState.{CountsRise, SessionState, Snapshot, StopPoint, Turned, EndsWith, GoesOn, InSession, ProgressIs, fresh, fed_state, line_too_long, quit, snapshot, items_of, text_of, requests_in, stop_point}
+use Rattle.tko_session.specs.declared.step.Progress.{Progress}
+use Rattle.tko_session.specs.declared.step.Report.{Report}
+use Rattle.tko_session.specs.Events.{Effects, NoneShort, Event, RoundAfter, idle_rounds, owed_after, turns_of}
+use Rattle.tko_prober.specs.Round.{Visit}
+use Rattle.tko_session.specs.SessionState.{CountsRise, SessionState, Snapshot, StopPoint, Turned, EndsWith, GoesOn, InSession, ProgressIs, fresh, fed_state, line_too_long, quit, snapshot, items_of, text_of, requests_in, stop_point}
 
 -- what a session works on: its two ends, and the parts
 pub record Context (I O W : Type 0) : Type 0 where
@@ -130,16 +130,6 @@ module _ {I O W : Type 0} (ghosts : Serving I O W) where
     pub early : StoppedEarly old new
     pub cut : early.unwritten ≢ []
     pub counted : written ≡ capped (length early.front)
-
--- the items of the bytes that were read end with a line too long
-pub record CameTooLong {I : Type 0} (gives : I → List ℕ → I → Type 0)
-    (reader reader' : I) : Type 0 where
-  pub bytes : List ℕ
-  pub items : List Item
-  pub left : Reading
-  pub input : gives reader bytes reader'
-  pub reads : Reads bytes items left
-  pub ends : EndsWith line_too_long items
 
 module _ {O W : Type 0} (ghosts : Delivering O W) where
   -- events went from the one state to the other, all their text was written and counted, and no

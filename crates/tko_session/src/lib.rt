@@ -1,21 +1,40 @@
 //! One client's bytes: what comes in, what is asked of the servers, and what goes out.
 //!
-//! - `serve`: drives a `Session` of tko_turns: reads pieces from an `Inlet`, sends what the session
-//!   asks for over the links, writes the replies to an `Outlet`, and runs the rounds.
-//! - `round`: sends the probes that are due.
+//! - `Session`: a client's session as a value. `feed` takes the client's bytes; `next` and
+//!   `answered` are lent the servers' health and the configuration, and return a `Step`: what was
+//!   done, and what the driver does before the next call; `output` has the replies. It knows no
+//!   socket, link, clock or record of trails, and borrows nothing between calls. Where memory runs
+//!   out the calls return the `Dropped` attempts.
+//! - `serve`: drives a session over a worker's `Parts`: reads pieces from an `Inlet`, sends what
+//!   the session asks for over the links, records what it did, tells each attempt as it ends,
+//!   writes the replies to an `Outlet`, and runs the rounds.
+//! - `round`: sends the probes that are due, and tells each as it ends.
+//! - `client_begins`, `client_acts`, `served`: laws. Each client has a life of its own, also where
+//!   one thread serves many over the same parts.
 #![tactic(auto)]
 
+mod answering;
+mod clients;
 mod fault;
+mod observing;
+mod rounds;
 mod serving;
+mod session;
+mod step;
 
+pub use clients::{client_acts, client_begins, served};
 pub use fault::SessionFault;
+pub use rounds::round;
 pub use serving::serve;
-pub use tko_answer::{Counts, Kept, Parts, Trails, status};
-pub use tko_backend::{
-    Backend, Clock, FrozenClock, ListedClock, MonotonicClock, ProbeSlot, Probers,
+pub use session::Session;
+pub use step::{Progress, Report, Step};
+pub use tko_io::{
+    Clock, FrozenClock, Inlet, ListedClock, MonotonicClock, Outlet, Piped, Stop, Taped,
 };
-pub use tko_io::{Inlet, Outlet, Piped, Stop, Taped};
-pub use tko_turns::{Progress, Report, Session, Step, round};
+pub use tko_prober::{Backend, ProbeSlot, Probers};
+pub use tko_reply::{Counts, Dropped, Kept, Parts, Trails, status};
 
+#[cfg(test)]
+mod driver_tests;
 #[cfg(test)]
 mod tests;

@@ -1,23 +1,22 @@
 //! One session over its two ends: a thin loop that moves bytes.
 ghost use Rattle.std.specs.Prelude.{◌≡◌, ◌≢◌, ◌<◌, [], IfErr, OnErr, OnOk};
 ghost use Rattle.tko_text.specs.Reading.{Never};
-ghost use Rattle.tko_backend.specs.Probers.{NoneMarked};
+ghost use Rattle.tko_prober.specs.Probers.{NoneMarked};
 ghost use Rattle.tko_io.specs.Io.{Writes, WritesPart, capped};
-ghost use Rattle.tko_turns.specs.Effects.{effects};
-ghost use Rattle.tko_turns.specs.Ends.{IsSettled};
+ghost use Rattle.tko_session.specs.Effects.{effects};
+ghost use Rattle.tko_session.specs.AnswerEnds.{IsSettled};
 ghost use Rattle.tko_session.specs.Ends.{DeliveryEnds, PieceEnds, SessionEnds};
 ghost use Rattle.tko_session.specs.Served.{context, delivering, delivery, serving};
-ghost use Rattle.tko_answer.specs.Answers.{Reaches};
-ghost use Rattle.tko_turns.specs.SessionState.{fed_state};
-ghost use Rattle.tko_turns.specs.Working.{Between};
+ghost use Rattle.tko_reply.specs.Answers.{Reaches};
+ghost use Rattle.tko_session.specs.SessionState.{fed_state};
+ghost use Rattle.tko_session.specs.Working.{Between};
 
+use crate::answering::{answer, run_owed_round};
 use crate::{Parts, Progress, Report, Session, SessionFault, Trails, round};
 use std::alloc::Global;
-use tko_backend::Clock;
-use tko_io::{Inlet, Outlet, Piece, piece_buffer, read_piece, write_all};
-use tko_links::{IoRuntime, Links};
+use tko_io::{Clock, Inlet, IoRuntime, Outlet, Piece, piece_buffer, read_piece, write_all};
+use tko_links::Links;
 use tko_route::Health;
-use tko_turns::{answer, run_owed_round};
 
 /// Serves one client, from the first byte of its input to the end or to `quit`.
 pub fn serve<R: IoRuntime, I: Inlet, O: Outlet, H: Health, L: Links, T: Trails, C: Clock>(

@@ -1,7 +1,7 @@
 //! Sessions over memory and one scripted server: ends that stop and fail, and rounds at given
 //! moments. What a command shows is in tests/rows.
 ghost use Rattle.std.specs.Prelude.{◌≡◌, IfOk, length};
-ghost use Rattle.tko_answer.specs.Answers.{Reaches};
+ghost use Rattle.tko_reply.specs.Answers.{Reaches};
 
 use crate::{Backend, Kept, ListedClock, Parts, Probers, Stop, Taped, round, serve, status};
 use std::alloc::Global;

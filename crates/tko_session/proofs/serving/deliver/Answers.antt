@@ -1,11 +1,11 @@
 use Rattle.std.proofs.Common.{[], ap, drop, false, refl, sym, take, ◌∙◌, append-nil}
 use Rattle.std.proofs.lemmas.List.{take-append-drop}
 use Rattle.std.proofs.lemmas.Result.{err_from_is_err_and}
-use Rattle.tko_turns.proofs.EventLemmas.{begun_paid}
-use Rattle.tko_turns.specs.SessionState.{SessionState, snapshot}
+use Rattle.tko_session.proofs.EventLemmas.{begun_paid}
+use Rattle.tko_session.specs.SessionState.{SessionState, snapshot}
 use Rattle.tko_session.proofs.ReplyLemmas.{left_over}
 use Rattle.tko_session.proofs.ServedLemmas.{all_of, err_delivered, ok_delivered, writer_failed}
-use Rattle.tko_turns.proofs.TurnLemmas.{answered_paid}
+use Rattle.tko_session.proofs.TurnLemmas.{answered_paid}
 use Rattle.tko_session.proofs.serving.deliver.Goals as goal
 
 pub write_replies-wrote-requires : goal.write_replies-wrote-requires

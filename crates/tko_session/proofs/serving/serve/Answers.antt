@@ -1,7 +1,7 @@
 use Rattle.std.proofs.Common.{◌≡◌, ◌<◌, ◌^◌, ap, length, refl, ◌∙◌, arith}
 use Rattle.std.proofs.lemmas.List.{take_at}
 use Rattle.std.proofs.lemmas.Result.{err_from_is_err_and}
-use Rattle.tko_backend.proofs.BegunLemmas.{round-begun}
+use Rattle.tko_prober.proofs.BegunLemmas.{round-begun}
 use Rattle.tko_session.proofs.ServedLemmas.{session_stopped, so_far_idle, so_far_none, so_far_more, so_far_read, so_far_reads, served, served_quit, stopped_at_once, stopped_by_read, stopped_idle}
 use Rattle.tko_session.proofs.serving.serve.Goals as goal
 

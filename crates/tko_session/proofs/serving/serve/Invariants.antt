@@ -1,9 +1,9 @@
 use Rattle.std.proofs.Common.{◌≡◌, ◌<◌, vec_len}
-use Rattle.tko_turns.specs.declared.step.Progress.TheVariants.{NeedsInput}
-use Rattle.tko_turns.specs.Working.{Between}
-use Rattle.tko_backend.specs.Probers.{NoneMarked}
-use Rattle.tko_turns.specs.Effects.{effects}
-use Rattle.tko_answer.specs.Answers.{Reaches}
+use Rattle.tko_session.specs.declared.step.Progress.TheVariants.{NeedsInput}
+use Rattle.tko_session.specs.Working.{Between}
+use Rattle.tko_prober.specs.Probers.{NoneMarked}
+use Rattle.tko_session.specs.Effects.{effects}
+use Rattle.tko_reply.specs.Answers.{Reaches}
 use Rattle.tko_session.specs.Served.{ServedSoFar, context, delivery, serve_state, serving}
 use Rattle.tko_session.proofs.serving.serve.Given as goal
 

@@ -1,6 +1,6 @@
 use Rattle.std.proofs.Common.{ap, refl, Err, ◌∙◌}
 use Rattle.std.proofs.lemmas.Result.{err_from_is_err_and}
-use Rattle.tko_turns.specs.SessionState.{fed_state}
+use Rattle.tko_session.specs.SessionState.{fed_state}
 use Rattle.tko_session.proofs.ServedLemmas.{all_append, all_none, not_delivered, not_taken, piece_stopped}
 use Rattle.tko_session.proofs.serving.serve_piece.Goals as goal
 

@@ -1,10 +1,10 @@
 use Rattle.std.proofs.Common.{◌≡◌}
-use Rattle.tko_turns.specs.declared.step.Progress.TheVariants.{More}
-use Rattle.tko_turns.specs.Working.{Between}
-use Rattle.tko_backend.specs.Probers.{NoneMarked}
-use Rattle.tko_turns.specs.Effects.{effects}
-use Rattle.tko_answer.specs.Answers.{Reaches}
-use Rattle.tko_turns.specs.SessionState.{fed_state}
+use Rattle.tko_session.specs.declared.step.Progress.TheVariants.{More}
+use Rattle.tko_session.specs.Working.{Between}
+use Rattle.tko_prober.specs.Probers.{NoneMarked}
+use Rattle.tko_session.specs.Effects.{effects}
+use Rattle.tko_reply.specs.Answers.{Reaches}
+use Rattle.tko_session.specs.SessionState.{fed_state}
 use Rattle.tko_session.specs.Ends.{AllDelivered}
 use Rattle.tko_session.specs.Served.{delivering, delivery}
 use Rattle.tko_session.proofs.serving.serve_piece.Given as goal

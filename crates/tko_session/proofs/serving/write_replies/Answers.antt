@@ -1,5 +1,8 @@
-use Rattle.std.proofs.Common.{◌∙◌, length, ap, drop}
-use Rattle.tko_turns.specs.SessionState.{SessionState}
+use Rattle.std.proofs.Common.{◌≡◌, ◌∙◌, ap, subst}
+use Rattle.tko_reply.specs.Answering.{Extends}
+use Rattle.tko_session.specs.SessionState.{SessionState}
+use Rattle.tko_session.specs.Working.{Between}
+use Rattle.tko_session.proofs.OutgoingLemmas.{may_between, outgoing_between, sent_between}
 use Rattle.tko_session.proofs.ReplyLemmas.{writing, written_more, written_none, written_part}
 use Rattle.tko_session.proofs.serving.write_replies.Goals as goal
 
@@ -10,10 +13,21 @@ loop-init g c =
 
 pub returns-then-not-write_all-clause-part : goal.returns-then-not-write_all-clause-part
 returns-then-not-write_all-clause-part g c =
-    written_part g.O.Outlet g.met.O.Outlet.goes_on c.output-replies.result.now c.loop.invariant c.output-replies.ensures.front
+    let state = c.loop.session in
+    let between : state.work ≡ Between = ap (λ (s : SessionState). s.work) c.loop.invariant.others ∙ c.requires.between in
+    let front = subst (Extends c.output-replies.result.now) (outgoing_between state between) c.output-replies.ensures.front in
+    written_part g.O.Outlet g.met.O.Outlet.goes_on c.output-replies.result.now c.loop.invariant front
     (c.if-not-write_all.ensures.part)
+
+pub sent-requires : goal.sent-requires
+sent-requires g c =
+    let state = c.loop.session in
+    record { may = may_between state _ (ap (λ (s : SessionState). s.work) c.loop.invariant.others ∙ c.requires.between) }
 
 pub loop-preserved : goal.loop-preserved
 loop-preserved g c =
-    written_more g.O.Outlet g.met.O.Outlet.goes_on c.output-replies.result.now c.loop.invariant c.output-replies.ensures.front
-    c.if-not-write_all.ensures.all c.if-not-write_all.ensures.calm c.sent.ensures
+    let state = c.loop.session in
+    let between : state.work ≡ Between = ap (λ (s : SessionState). s.work) c.loop.invariant.others ∙ c.requires.between in
+    let front = subst (Extends c.output-replies.result.now) (outgoing_between state between) c.output-replies.ensures.front in
+    written_more g.O.Outlet g.met.O.Outlet.goes_on c.output-replies.result.now c.loop.invariant front
+    c.if-not-write_all.ensures.all c.if-not-write_all.ensures.calm (c.sent.ensures.sent ∙ sent_between state _ between)

@@ -1,0 +1,215 @@
+//! The answer to one request as a value that sends nothing itself: its caller sends. The keys of a
+//! request, values that are joined, a silent request and the status are its states.
+ghost use Rattle.std.specs.Prelude.{◌≡◌, IfErr, IfOk, OnErr, OnOk, length};
+ghost use Rattle.tko_reply.specs.Answering.{Extends};
+ghost use Rattle.tko_reply.specs.Asking.{Begins, Continues, Ended, Goes, GoesTo, HasFront, IsJoined, Settles, begun, course_of, front_of};
+ghost use Rattle.tko_reply.specs.Cuts.{EndsBy, IsBeginCut, IsEndOf, KeyLost};
+ghost use Rattle.tko_reply.specs.Sends.{AfterSend, IsOutTo};
+ghost use Rattle.tko_reply.specs.Standing.{answer_state, asking, standing_of, whole_of};
+ghost use Rattle.tko_pools.specs.Configs.{AreServers};
+ghost use Rattle.tko_route.specs.Routing.{GoesOn};
+ghost use Rattle.tko_route.specs.Trail.{form_at};
+ghost use Rattle.tko_text.specs.SentRequests.{without_noreply};
+
+use crate::asking::joining::join_next;
+use crate::dropped::Dropped;
+use crate::keys_left::KeysLeft;
+use crate::outbox::Outbox;
+use crate::routes::begin_route;
+use std::alloc::Global;
+use std::sync::Wait;
+use tko_bytes::NoMemory;
+use tko_links::Outcome;
+use tko_model::Clear;
+use tko_pools::Config;
+use tko_route::{Health, Routed, Stage, Trail, Waiting};
+use tko_text::Request;
+
+mod joining;
+
+/// The reply to `version`.
+const VERSION: &[u8] = b"VERSION tkoproxy 1\r\n";
+
+/// How far the answer to a key came. Nothing is borrowed, so that other requests may be answered
+/// between two calls; but nothing else is put into its outbox until the reply is complete.
+#[derive(Drop)]
+pub enum Answer {
+    /// The request of the key, as it is now, may be sent once to the server that the permission
+    /// names. What came of it is passed to `answered`.
+    Asks(Clear, Waiting),
+    /// These are the attempts at the key, and its response is in the outbox. `go_on` is next.
+    Tried(Trail),
+}
+
+/// One key of a request, in a request of its own. It is changed in place from one key to the next,
+/// since to move a request costs more than all that is decided about it.
+#[derive(Drop)]
+pub struct OneKey {
+    request: Request,
+    share: Share,
+}
+
+/// What the response to a key is to the reply.
+#[derive(Drop)]
+pub(crate) enum Share {
+    /// All of it, and it is written unless the request is silent.
+    Whole(bool),
+    /// The values of one of several keys. The reply begins after so many bytes of the outbox, and
+    /// these keys are left.
+    Joined(usize, KeysLeft),
+}
+
+impl OneKey {
+    /// A request as it was read.
+    pub fn whole(request: Request) -> OneKey
+        ensures { result ≡ whole_of request }
+    {
+        let silent = request.is_silent();
+        let share = Share::Whole(silent);
+        OneKey { request, share }
+    }
+
+    /// The request in the form in which the server gets it; until `first`, as it was read.
+    pub fn request(&self) -> &Request
+        ensures { result.now ≡ self.now.request }
+    {
+        &self.request
+    }
+
+    /// Begins to answer a request as it was read. The proxy itself answers one without a key, and
+    /// of several keys the first is asked for alone. Returns whether there is a key to ask for.
+    pub fn first<R: Wait, H: Health>(
+        &mut self,
+        rt: &R,
+        alloc: Global,
+        health: &mut H,
+        config: &Config,
+        outbox: &mut Outbox,
+    ) -> Result<bool, NoMemory>
+        requires servers { H.servers health.old ≡ length config.now.addresses }
+        requires whole { self.old ≡ whole_of self.old.request }
+        ensures ok { IfOk result (λ keyed. GoesOn H.steps health.old
+            (λ calls. Begins config.now self.old.request outbox.old calls
+            (begun keyed self.new outbox.new)) health.new) }
+        ensures err { OnErr result (Extends outbox.old outbox.new) }
+        ensures cut { OnErr result (GoesOn H.steps health.old
+            (λ calls. IsBeginCut config.now self.old.request calls) health.new) }
+        ensures servers { H.servers health.new ≡ H.servers health.old }
+    {
+        match &self.request {
+            Request::Version => {
+                outbox.append(VERSION)?;
+                Ok(false)
+            }
+            Request::Quit => Ok(false),
+            Request::StatsTko => {
+                outbox.append_status(rt, health, config.addresses())?;
+                Ok(false)
+            }
+            _ => {
+                self.split(alloc, outbox.len())?;
+                Ok(true)
+            }
+        }
+    }
+
+    /// Begins to route the key: looks for the first of its targets to send to. They are put into a
+    /// list, in place of what it held.
+    pub fn begin<R: Wait, H: Health>(
+        &mut self,
+        rt: &R,
+        alloc: Global,
+        health: &mut H,
+        config: &Config,
+        targets: &mut Vec<usize>,
+        outbox: &mut Outbox,
+    ) -> Result<Answer, Dropped>
+        requires servers { H.servers health.old ≡ length config.now.addresses }
+        requires front { HasFront self.old.share outbox.old }
+        ensures ok { IfOk result (λ answer. GoesOn H.steps health.old (λ calls. Goes
+            (course_of config.now targets.new.items self.old (without_noreply self.old.request))
+            calls outbox.old (answer_state (standing_of answer self.new) outbox.new)) health.new) }
+        ensures targets { OnOk result (GoesTo config.now self.old.request targets.new.items) }
+        ensures within { AreServers config.now targets.new.items }
+        ensures err { OnErr result (Extends (front_of self.old.share outbox.old) outbox.new) }
+        ensures lost { IfErr result (λ trail. GoesOn H.steps health.old
+            (λ calls. KeyLost config.now self.old.request calls trail) health.new) }
+        ensures servers { H.servers health.new ≡ H.servers health.old }
+    {
+        let stage = begin_route(rt, alloc, health, config, targets, &mut self.request)?;
+        self.settle(outbox, stage)
+    }
+
+    /// Records what came of the send, and goes on to the next target unless it was answered.
+    pub fn answered<R: Wait, H: Health>(
+        &mut self,
+        rt: &R,
+        health: &mut H,
+        config: &Config,
+        targets: &[usize],
+        outbox: &mut Outbox,
+        waiting: Waiting,
+        outcome: Outcome,
+    ) -> Result<Answer, Dropped>
+        requires servers { H.servers health.old ≡ length config.now.addresses }
+        requires front { HasFront self.old.share outbox.old }
+        requires out { IsOutTo config.now targets.now waiting }
+        ensures ok { IfOk result (λ answer. GoesOn H.steps health.old
+            (λ more. AfterSend config.now (asking waiting self.old) outcome (λ original calls.
+            Goes (course_of config.now targets.now self.old original) (calls more) outbox.old
+            (answer_state (standing_of answer self.new) outbox.new))) health.new) }
+        ensures err { OnErr result (Extends (front_of self.old.share outbox.old) outbox.new) }
+        ensures lost { IfErr result (λ trail. GoesOn H.steps health.old
+            (λ more. AfterSend config.now (asking waiting self.old) outcome (λ original calls.
+            EndsBy targets.now (form_at config.now.failover_exptime original) (calls more) trail))
+            health.new) }
+        ensures servers { H.servers health.new ≡ H.servers health.old }
+    {
+        let exptime = config.failover_exptime();
+        let request = &mut self.request;
+        let stage = waiting.answered(rt, health, targets, request, exptime, outcome);
+        self.settle(outbox, stage)
+    }
+
+    /// Sends the request, or ends the key.
+    fn settle(&mut self, outbox: &mut Outbox, stage: Stage) -> Result<Answer, Dropped>
+        requires front { HasFront self.old.share outbox.old }
+        ensures ok { IfOk result (λ answer. Settles stage self.old outbox.old
+            (answer_state (standing_of answer self.new) outbox.new)) }
+        ensures err { OnErr result (Extends (front_of self.old.share outbox.old) outbox.new) }
+        ensures lost { IfErr result (λ trail. IsEndOf stage trail) }
+    {
+        match stage {
+            Stage::Away(clear, waiting) => Ok(Answer::Asks(clear, waiting)),
+            Stage::Done(routed) => self.end(outbox, routed),
+        }
+    }
+
+    /// Puts the response to the key into the reply.
+    fn end(&mut self, outbox: &mut Outbox, routed: Routed) -> Result<Answer, Dropped>
+        requires front { HasFront self.old.share outbox.old }
+        ensures ok { IfOk result (λ answer. Ended routed.trail self.old outbox.old
+            (answer_state (standing_of answer self.new) outbox.new)) }
+        ensures err { OnErr result (Extends (front_of self.old.share outbox.old) outbox.new) }
+        ensures lost { IfErr result (λ trail. trail ≡ routed.trail) }
+    {
+        match self.put(outbox, routed.response()) {
+            Ok(()) => Ok(Answer::Tried(routed.trail)),
+            Err(_) => Err(Dropped::after(routed.trail)),
+        }
+    }
+
+    /// Goes on once the attempts at a key ended: the next of several keys takes its place, or the
+    /// reply ends. Returns whether there is a key to ask for.
+    pub fn go_on(&mut self, outbox: &mut Outbox) -> Result<bool, NoMemory>
+        ensures ok { IfOk result (λ keyed. Continues self.old outbox.old
+            (begun keyed self.new outbox.new)) }
+        ensures joined { OnErr result (IsJoined self.old.share) }
+        ensures err { OnErr result (outbox.new ≡ outbox.old) }
+    {
+        match &mut self.share {
+            Share::Whole(_) => Ok(false),
+            Share::Joined(_, left) => join_next(outbox, &mut self.request, left),
+        }
+    }
+}

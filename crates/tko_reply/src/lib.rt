@@ -1,0 +1,31 @@
+//! One request of a client, answered by the proxy itself or key by key.
+//!
+//! - `OneKey`: a key of a request as a value that sends nothing itself, changed in place to the
+//!   next one. Its calls are lent the servers' health and the configuration, and return an
+//!   `Answer`: how far the key came. Where memory runs out they return the `Dropped` attempts;
+//!   `stop` does where it runs out at a send. The reply is put at the end of an `Outbox`, the
+//!   replies that wait to be written.
+//! - `Parts`: what a session is served over: the `Backend` of the worker, the configuration, and
+//!   `Trails`, which records each request and each trail. `Kept` keeps the trails, and `Counts`
+//!   of tko_model counts what is in them.
+//! - `status`: the mark of each server as text.
+#![tactic(auto)]
+
+mod asking;
+mod counting;
+mod dropped;
+mod keys_left;
+mod outbox;
+mod parts;
+mod requests;
+mod routes;
+mod status_text;
+mod trails;
+
+pub use asking::{Answer, OneKey};
+pub use dropped::{Dropped, stop};
+pub use outbox::Outbox;
+pub use parts::Parts;
+pub use status_text::status;
+pub use tko_model::Counts;
+pub use trails::{Kept, Trails};

@@ -1,0 +1,531 @@
+-- Laws of what a session answers: nothing, one item, these events and then those.
+use Rattle.std.proofs.Common.{◌≡◌, ◌≢◌, Some, ℕ, ◌+◌, ◌<◌, length, length-append, List, [], ◌∷◌, ◌++◌, refl, sym, ap, subst, ◌∙◌, append_assoc, append-nil, arith, count_by, sum_by, add-zero, cond, Bool, true, false, inl, inr}
+use Rattle.std.specs.Prelude.{MatchBool}
+use Rattle.std.proofs.lemmas.Bool.{cases_Bool}
+use Rattle.std.proofs.lemmas.Grind.{flat_map-append}
+use Rattle.std.specs.List.{list_any}
+use Rattle.std.proofs.lemmas.List.{map-append}
+use Rattle.std.proofs.lemmas.List.Sums.{sum_by-append}
+use Rattle.std.proofs.lemmas.List.Elements.{All-append, All-cons, All-nil}
+use Rattle.tko_model.proofs.RecordLemmas.{gains_none, gains_one, gains_append}
+use Rattle.tko_text.specs.declared.item.Item.{Item}
+use Rattle.tko_text.specs.declared.item.Item.TheVariants as item
+use Rattle.tko_text.specs.declared.fault.TextFault.{TextFault}
+use Rattle.tko_text.specs.declared.fault.TextFault.TheVariants as fault
+use Rattle.tko_text.specs.declared.request.Request.{Request}
+use Rattle.tko_text.specs.declared.request.Request.TheVariants as asked
+use Rattle.tko_text.specs.Requests.{fault_text}
+use Rattle.tko_reply.specs.declared.parts.Parts.{Parts}
+use Rattle.tko_text.specs.Reading.{Reading, Gives, NeedsMore, Emits}
+use Rattle.tko_route.specs.Trail.{sends_in}
+use Rattle.tko_pools.specs.Configs.{Configuration}
+use Rattle.tko_reply.proofs.InteractionLemmas.{answers_sends, performs}
+use Rattle.tko_reply.specs.Interactions.{Interaction, Recorded, sends_by}
+use Rattle.tko_reply.specs.TrailEvents.{Asked}
+use Rattle.tko_reply.specs.Replies.{trails_in}
+use Rattle.tko_session.specs.Effects.{effects_of}
+use Rattle.tko_session.specs.Events.{Answer, Effects, Event, IdleRound, RoundAfter, Rounded, turns_of}
+use Rattle.tko_session.specs.AnswerEnds.{IsRun, NoneRun}
+use Rattle.tko_reply.specs.Ghosts.{PartsGhosts}
+use Rattle.tko_prober.specs.Round.{probes_in, ran_out}
+use Rattle.tko_session.specs.Turns.{IsTurn, Turn, is_request, refused}
+use Rattle.tko_session.specs.Turns as turns
+use Rattle.tko_session.specs.declared.step.Progress.{Progress}
+use Rattle.tko_session.specs.declared.step.Progress.TheVariants.{More, NeedsInput}
+use Rattle.tko_session.specs.declared.step.Progress.TheVariants as progress
+use Rattle.tko_io.specs.Io.{capped}
+use Rattle.tko_io.proofs.WriteLemmas.{capped-more}
+use Rattle.tko_reply.specs.Replies.{reply_bound, sends_to}
+use Rattle.tko_session.specs.SessionState.{CountsRise, SessionState, Snapshot, Turned, Answered, AnsweredPart, Replied, Continues, EndsWith, GoesOn, InSession, IsBehind, ProgressIs, BeginBelowBound, progress_after, progress_of, snapshot, items_of, text_of, trails_of, requests_in, line_too_long, quit, cut_short, no_more, stop_point}
+use Rattle.tko_text.proofs.GivesLemmas.{Gives-none, Gives-one, Gives-append}
+use Rattle.tko_session.proofs.EventLemmas.{idles-append, order-append, probes-append, short-append, turns-append}
+use Rattle.tko_text.proofs.NeverLemmas.{ends_reading}
+
+pub items-append : (events more : List Event)
+    → items_of (turns_of (events ++ more)) ≡ items_of (turns_of events) ++ items_of (turns_of more)
+items-append events more =
+    ap items_of (turns-append events more) ∙ map-append (λ turn. turn.item) (turns_of events) (turns_of more)
+
+pub text-append : (events more : List Event)
+    → text_of (turns_of (events ++ more)) ≡ text_of (turns_of events) ++ text_of (turns_of more)
+text-append events more =
+    ap text_of (turns-append events more) ∙ flat_map-append (λ turn. turn.text) (turns_of events) (turns_of more)
+
+pub sends-append : (server : ℕ) (events more : List Event)
+    → sends_to server (trails_of (turns_of (events ++ more)))
+    ≡ sends_to server (trails_of (turns_of events)) + sends_to server (trails_of (turns_of more))
+sends-append server events more =
+    let trails = ap trails_of (turns-append events more) ∙ flat_map-append (λ turn. trails_in turn.routed) (turns_of events) (turns_of more) in
+    ap (sum_by (sends_in server)) trails
+    ∙ sum_by-append (sends_in server) (trails_of (turns_of events)) (trails_of (turns_of more))
+
+pub requests-append : (events more : List Event)
+    → requests_in (items_of (turns_of (events ++ more)))
+    ≡ requests_in (items_of (turns_of events)) + requests_in (items_of (turns_of more))
+requests-append events more =
+    ap (count_by is_request) (items-append events more)
+    ∙ sum_by-append (λ item. cond (is_request item) 1 0) (items_of (turns_of events)) (items_of (turns_of more))
+
+-- turns that begin below the bound, and then more that do
+begin-append : (waiting : ℕ) (turns more : List Turn) → BeginBelowBound waiting turns
+    → BeginBelowBound (waiting + length (text_of turns)) more → BeginBelowBound waiting (turns ++ more)
+begin-append waiting [] more front back = subst (λ n. BeginBelowBound n more) (add-zero waiting) back
+begin-append waiting (turn ∷ turns) more (below, front) back =
+    let sum : waiting + length (text_of (turn ∷ turns)) ≡ waiting + length turn.text + length (text_of turns) =
+    omega (arith, length-append turn.text (text_of turns)) in
+    (below, begin-append (waiting + length turn.text) turns more front (subst (λ n. BeginBelowBound n more) sum back))
+
+pub goes_on-append : (items more : List Item) → GoesOn items → GoesOn more → GoesOn (items ++ more)
+goes_on-append items more front back = All-append Continues items more front back
+
+-- the last of the later items is the last of all
+ends-append : (last : Item) (items more : List Item) → GoesOn items → EndsWith last more → EndsWith last (items ++ more)
+ends-append last items more front ends = record {
+  before = items ++ ends.before;
+  parts = ap (λ xs. items ++ xs) ends.parts ∙ sym (append_assoc items ends.before (last ∷ []));
+  goes_on = goes_on-append items ends.before front ends.goes_on;
+}
+
+-- what the later items say of progress, all say
+pub progress-append : (progress : Progress) (items more : List Item) (reading : Reading) → GoesOn items
+    → ProgressIs progress more reading → ProgressIs progress (items ++ more) reading
+progress-append progress.More items more reading front back = goes_on-append items more front back
+progress-append progress.NeedsInput items more reading front (back, none) = (goes_on-append items more front back, none)
+progress-append progress.LineTooLong items more reading front (ends, never) = (ends-append line_too_long items more front ends, never)
+progress-append progress.Quit items more reading front ends = ends-append quit items more front ends
+
+-- no item, and the session may go on
+pub goes_on-none : GoesOn []
+goes_on-none = All-nil Continues
+
+-- the progress after the reply to a fault
+pub fault_progress : (fault : TextFault) (from to : Reading) → Emits from (item.Fault fault) to
+    → ProgressIs (progress_after fault) (item.Fault fault ∷ []) to
+fault_progress fault.LineTooLong from to tells =
+    (record { before = []; parts = refl; goes_on = goes_on-none }, ends_reading from line_too_long to tells refl)
+fault_progress fault.UnknownCommand from to tells = All-cons Continues _ [] (record { read = λ same. cc; asked = λ same. cc }) goes_on-none
+fault_progress fault.BadLine from to tells = All-cons Continues _ [] (record { read = λ same. cc; asked = λ same. cc }) goes_on-none
+fault_progress fault.BadKey from to tells = All-cons Continues _ [] (record { read = λ same. cc; asked = λ same. cc }) goes_on-none
+fault_progress fault.BadChunk from to tells = All-cons Continues _ [] (record { read = λ same. cc; asked = λ same. cc }) goes_on-none
+fault_progress fault.TooLarge from to tells = All-cons Continues _ [] (record { read = λ same. cc; asked = λ same. cc }) goes_on-none
+
+-- one request is one item
+request-of : (it other : Request) → item.Request it ≡ item.Request other → it ≡ other
+request-of it other same = cc
+
+pub in_session_of : (items : List Item) → GoesOn items → InSession items
+in_session_of items goes = record { before = items; last = []; parts = sym (append-nil items); goes_on = goes; one = omega arith }
+
+in_session_ended : (last : Item) (items : List Item) → EndsWith last items → InSession items
+in_session_ended last items ends = record { before = ends.before; last = last ∷ []; parts = ends.parts; goes_on = ends.goes_on; one = omega arith }
+
+-- the session goes on after this request
+goes_on-one : (it : Request) → it ≢ asked.Quit → GoesOn (item.Request it ∷ [])
+goes_on-one it other =
+    All-cons Continues (item.Request it) [] (record { read = λ same. cc; asked = λ same. other (request-of it asked.Quit same) })
+    goes_on-none
+
+-- the progress after the reply to a request
+pub request_progress : (it : Request) (to : Reading) → ProgressIs (progress_of it) (item.Request it ∷ []) to
+request_progress asked.Quit to = record { before = []; parts = refl; goes_on = goes_on-none }
+request_progress (asked.Get keys) to = goes_on-one _ (λ same. cc)
+request_progress (asked.Gets keys) to = goes_on-one _ (λ same. cc)
+request_progress (asked.Store verb entry noreply) to = goes_on-one _ (λ same. cc)
+request_progress (asked.Cas entry unique noreply) to = goes_on-one _ (λ same. cc)
+request_progress (asked.Delete key noreply) to = goes_on-one _ (λ same. cc)
+request_progress (asked.Incr key amount noreply) to = goes_on-one _ (λ same. cc)
+request_progress (asked.Decr key amount noreply) to = goes_on-one _ (λ same. cc)
+request_progress (asked.Touch key expiry noreply) to = goes_on-one _ (λ same. cc)
+request_progress asked.Version to = goes_on-one _ (λ same. cc)
+request_progress asked.StatsTko to = goes_on-one _ (λ same. cc)
+
+-- items of a session that goes on, or that the last one ends
+pub in_session : (at : Progress) (items : List Item) (to : Reading) → ProgressIs at items to → InSession items
+in_session progress.More items to goes = in_session_of items goes
+in_session progress.NeedsInput items to (goes, none) = in_session_of items goes
+in_session progress.LineTooLong items to (ends, never) = in_session_ended line_too_long items ends
+in_session progress.Quit items to ends = in_session_ended quit items ends
+
+pub in_session-append : (items more : List Item) → GoesOn items → InSession more → InSession (items ++ more)
+in_session-append items more front back = record {
+  before = items ++ back.before;
+  last = back.last;
+  parts = ap (λ xs. items ++ xs) back.parts ∙ sym (append_assoc items back.before back.last);
+  goes_on = goes_on-append items back.before front back.goes_on;
+  one = back.one;
+}
+
+pub events_in_session : (events more : List Event) → GoesOn (items_of (turns_of events))
+    → InSession (items_of (turns_of more)) → InSession (items_of (turns_of (events ++ more)))
+events_in_session events more front back =
+    subst InSession (sym (items-append events more)) (in_session-append (items_of (turns_of events)) (items_of (turns_of more)) front back)
+
+-- progress of events that come after others
+pub events_progress : (progress : Progress) (events more : List Event) (reading : Reading) → GoesOn (items_of (turns_of events))
+    → ProgressIs progress (items_of (turns_of more)) reading → ProgressIs progress (items_of (turns_of (events ++ more))) reading
+events_progress progress events more reading front back =
+    subst (λ items. ProgressIs progress items reading) (sym (items-append events more))
+    (progress-append progress (items_of (turns_of events)) (items_of (turns_of more)) reading front back)
+
+-- texts of events that come after others
+pub waiting-append : (waiting mid all : List ℕ) (events more : List Event) → mid ≡ waiting ++ text_of (turns_of events)
+    → all ≡ mid ++ text_of (turns_of more) → all ≡ waiting ++ text_of (turns_of (events ++ more))
+waiting-append waiting mid all events more front back =
+    back ∙ ap (λ text. text ++ text_of (turns_of more)) front
+    ∙ append_assoc waiting (text_of (turns_of events)) (text_of (turns_of more))
+    ∙ ap (λ text. waiting ++ text) (sym (text-append events more))
+
+-- events whose items are answered below the bound, and then more of them
+pub below-append : (outbox mid : List ℕ) (events more : List Event) → mid ≡ outbox ++ text_of (turns_of events)
+    → BeginBelowBound (length outbox) (turns_of events) → BeginBelowBound (length mid) (turns_of more)
+    → BeginBelowBound (length outbox) (turns_of (events ++ more))
+below-append outbox mid events more is front back =
+    let len : length mid ≡ length outbox + length (text_of (turns_of events)) =
+    ap length is ∙ length-append outbox (text_of (turns_of events)) in
+    subst (BeginBelowBound (length outbox)) (sym (turns-append events more))
+    (begin-append (length outbox) (turns_of events) (turns_of more) front (subst (λ n. BeginBelowBound n (turns_of more)) len back))
+
+module _ {W : Type 0} {cut : Request → W → W → Type 0} where
+  -- what was done behind items was done behind all of them
+  behind_after : {left : Reading} {reached : W} {new : Snapshot W} (items more : List Item) → GoesOn items
+      → IsBehind cut (stop_point more left reached) new → IsBehind cut (stop_point (items ++ more) left reached) new
+  behind_after items more goes (no_more same none) = no_more same none
+  behind_after items more goes (cut_short it to going emits is owed) =
+      cut_short it to (goes_on-append items more goes going) emits is owed
+
+module _ {W : Type 0} {does : Effects W} where
+  pub counts_none : (parts : W) → CountsRise does parts [] parts
+  counts_none parts = record {
+    sends = λ server. sym (add-zero (does.sent parts server));
+    probes = λ server. sym (add-zero (does.probed parts server));
+  }
+
+  -- these counts rose by events, and then by more of them
+  pub counts_append : {old mid new : W} {events more : List Event} → CountsRise does old events mid → CountsRise does mid more new
+      → CountsRise does old (events ++ more) new
+  counts_append {old} {mid} {new} {events} {more} front back = record {
+    sends = λ server. omega (arith, front.sends server, back.sends server, sends-append server events more);
+    probes = λ server. omega (arith, front.probes server, back.probes server, probes-append server events more);
+  }
+
+  -- memory ran out before the first event was complete
+  part_behind : (old new : SessionState) {before after : W} → new.outbox ≡ old.outbox → old.owes ≡ false
+      → IsBehind does.cut (stop_point [] old.reading before) (snapshot new after) → AnsweredPart does (snapshot old before) (snapshot new after)
+  part_behind old new {before} {after} same none behind = record {
+    events = [];
+    left = old.reading;
+    reached = before;
+    gives = Gives-none old.reading;
+    gains = gains_none before;
+    counts = counts_none before;
+    order = ap Some none;
+    idles = refl;
+    in_session = in_session_of [] goes_on-none;
+    outbox = same ∙ sym (append-nil old.outbox);
+    behind = behind;
+  }
+
+  -- memory ran out before any event
+  pub part_none : (old new : SessionState) (world : W) → new.outbox ≡ old.outbox → old.owes ≡ false → new.owes ≡ false
+      → AnsweredPart does (snapshot old world) (snapshot new world)
+  part_none old new world same before after = part_behind old new same before (no_more refl after)
+
+  -- memory ran out in the first request
+  pub part_cut : (old new : SessionState) (it : Request) (to : Reading) (before after : W) → Emits old.reading (item.Request it) to
+      → does.cut it before after → new.outbox ≡ old.outbox → old.owes ≡ false → new.owes ≡ true
+      → AnsweredPart does (snapshot old before) (snapshot new after)
+  part_cut old new it to before after emits is same none owed = part_behind old new same none (cut_short it to goes_on-none emits is owed)
+
+  pub turned_none : (here : Snapshot W) → Turned does here [] here
+  turned_none here = record {
+    gives = Gives-none here.state.reading;
+    gains = gains_none here.parts;
+    order = refl;
+    counts = counts_none here.parts;
+    memory = refl;
+    requests = ap capped (sym (add-zero here.state.requests));
+  }
+
+  pub turned_append : {old mid new : Snapshot W} {events more : List Event}
+      → Turned does old events mid → Turned does mid more new → Turned does old (events ++ more) new
+  turned_append {old} {mid} {new} {events} {more} front back = record {
+    gives =
+        let gives = Gives-append _ _ _ _ _ front.gives back.gives in
+        subst (λ items. Gives old.state.reading items new.state.reading) (sym (items-append events more)) gives;
+    gains = gains_append front.gains back.gains;
+    order = order-append old.state.owes mid.state.owes new.state.owes events more front.order back.order;
+    counts = counts_append front.counts back.counts;
+    memory = short-append events more front.memory back.memory;
+    requests =
+        let more_than = capped-more old.state.requests mid.state.requests new.state.requests _ _ front.requests back.requests in
+        more_than ∙ ap (λ n. capped (old.state.requests + n)) (sym (requests-append events more));
+  }
+
+  pub answered_none : (state : SessionState) (world : W) → Answered does More (snapshot state world) (snapshot state world)
+  answered_none state world = record {
+    events = [];
+    turned = turned_none (snapshot state world);
+    idles = refl;
+    outbox = sym (append-nil state.outbox);
+    begin = tt;
+    progress_is = goes_on-none;
+  }
+
+  pub answered_open : (old new : SessionState) (world : W) → NeedsMore old.reading → new ≡ old
+      → Answered does NeedsInput (snapshot old world) (snapshot new world)
+  answered_open old new world none same = rw same (record {
+    events = [];
+    turned = turned_none (snapshot old world);
+    idles = refl;
+    outbox = sym (append-nil old.outbox);
+    begin = tt;
+    progress_is = (goes_on-none, none);
+  })
+
+  pub answered_append : {progress : Progress} {old mid new : Snapshot W}
+      → Answered does More old mid → Answered does progress mid new → Answered does progress old new
+  answered_append {progress} {old} {mid} {new} front back = record {
+    events = front.events ++ back.events;
+    turned = turned_append front.turned back.turned;
+    idles = omega (arith, front.idles, back.idles, idles-append front.events back.events);
+    outbox = waiting-append old.state.outbox mid.state.outbox new.state.outbox front.events back.events front.outbox back.outbox;
+    begin = below-append old.state.outbox mid.state.outbox front.events back.events front.outbox front.begin back.begin;
+    progress_is = events_progress progress front.events back.events new.state.reading front.progress_is back.progress_is;
+  }
+
+  pub part_after : {old mid new : Snapshot W} → Answered does More old mid → AnsweredPart does mid new
+      → AnsweredPart does old new
+  part_after {old} {mid} {new} front back = record {
+    events = front.events ++ back.events;
+    left = back.left;
+    reached = back.reached;
+    gives =
+        let gives = Gives-append _ _ _ _ _ front.turned.gives back.gives in
+        subst (λ items. Gives old.state.reading items back.left) (sym (items-append front.events back.events)) gives;
+    gains = gains_append front.turned.gains back.gains;
+    counts = counts_append front.turned.counts back.counts;
+    order = order-append old.state.owes mid.state.owes false front.events back.events front.turned.order back.order;
+    idles = omega (arith, front.idles, back.idles, idles-append front.events back.events);
+    in_session = events_in_session front.events back.events front.progress_is back.in_session;
+    outbox = waiting-append old.state.outbox mid.state.outbox new.state.outbox front.events back.events front.outbox back.outbox;
+    behind =
+        subst (λ items. IsBehind does.cut (stop_point items back.left back.reached) new) (sym (items-append front.events back.events))
+        (behind_after (items_of (turns_of front.events)) (items_of (turns_of back.events)) front.progress_is back.behind);
+  }
+
+  -- all events are a part of them
+  pub part_of : {progress : Progress} {old new : Snapshot W} → Answered does progress old new → new.state.owes ≡ false
+      → AnsweredPart does old new
+  part_of {progress} {old} {new} answered none = record {
+    events = answered.events;
+    left = new.state.reading;
+    reached = new.parts;
+    gives = answered.turned.gives;
+    gains = answered.turned.gains;
+    counts = answered.turned.counts;
+    order = answered.turned.order ∙ ap Some none;
+    idles = answered.idles;
+    in_session = in_session progress (items_of (turns_of answered.events)) new.state.reading answered.progress_is;
+    outbox = answered.outbox;
+    behind = no_more refl none;
+  }
+
+-- a turn sent as often as its trails did
+turn_sends : (server : ℕ) (config : Configuration) (turn : Turn) (done : List Interaction)
+    → IsTurn config turn done → sum_by (sends_by server) done ≡ sends_to server (trails_in turn.routed)
+turn_sends server config turn done (refused fault is none text nothing) =
+    ap (sum_by (sends_by server)) nothing ∙ sym (ap (λ routed. sends_to server (trails_in routed)) none)
+turn_sends server config turn done (turns.answered request then is are it) =
+    let here : sum_by (sends_by server) (Recorded (Asked request) ∷ then) ≡ 0 + 0 + sum_by (sends_by server) then =
+    sum_by-append (sends_by server) (Recorded (Asked request) ∷ []) then in
+    omega (arith, ap (sum_by (sends_by server)) are, here, answers_sends server config request turn.routed turn.text then it)
+
+module _ {H L T C : Type 0} (ghosts : PartsGhosts H L T C) where
+  -- a fault is answered, which changes nothing but the outbox
+  pub answered_fault : (old mid new : SessionState) (world : Parts H L T C) (fault : TextFault) (progress : Progress)
+      → Emits old.reading (item.Fault fault) mid.reading → mid ≡ record old { reading = mid.reading }
+      → new ≡ record mid { outbox = mid.outbox ++ fault_text fault } → progress ≡ progress_after fault
+      → old.owes ≡ false → length old.outbox < reply_bound
+      → Answered (effects_of ghosts) progress (snapshot old world) (snapshot new world)
+  answered_fault old mid new world fault progress told same e is none room = record {
+    events = Answer (record { item = item.Fault fault; routed = []; text = fault_text fault }) ∷ [];
+    turned = record {
+      gives = subst (λ to. Gives old.reading (item.Fault fault ∷ []) to) (sym (ap (λ s. s.reading) e)) (Gives-one _ _ _ told);
+      gains = gains_one (performs (λ config. IsTurn config (record { item = item.Fault fault; routed = []; text = fault_text fault })) (refused fault refl refl refl refl) (gains_none world));
+      order =
+          let owes : new.owes ≡ false = ap (λ s. s.owes) e ∙ ap (λ s. s.owes) same ∙ none in
+          rw (none, owes) refl;
+      counts = record {
+        sends = λ server. sym (add-zero (ghosts.backend.sent world.backend.links server));
+        probes = λ server. sym (add-zero (ghosts.backend.probed world.backend.links server));
+      };
+      memory = refl;
+      requests = ap capped (ap (λ s. s.requests) e ∙ ap (λ s. s.requests) same ∙ sym (add-zero old.requests));
+    };
+    idles = refl;
+    outbox =
+        ap (λ s. s.outbox) e ∙ ap (λ s. s.outbox ++ fault_text fault) same
+        ∙ ap (λ text. old.outbox ++ text) (sym (append-nil (fault_text fault)));
+    begin = (room, tt);
+    progress_is =
+        subst (λ p. ProgressIs p (item.Fault fault ∷ []) new.reading) (sym is)
+        (subst (λ to. ProgressIs (progress_after fault) (item.Fault fault ∷ []) to) (sym (ap (λ s. s.reading) e))
+        (fault_progress fault old.reading mid.reading told));
+  }
+
+-- no round was owed, and nothing was done
+unpaid : {W : Type 0} {short : Bool} {mid : Snapshot W} {state : SessionState} {after : W}
+    → mid.state.owes ≡ false → NoneRun short mid.parts after → state ≡ record mid.state { owes = false }
+    → snapshot state after ≡ mid
+unpaid {W} {short} {mid} {state} {after} none run paid =
+    let same : state ≡ mid.state = paid ∙ sym (ap (λ owes. record mid.state { owes = owes }) none) in
+    ap (λ it. snapshot it after) same ∙ ap (λ it. snapshot mid.state it) run.same
+
+module _ {H L T C : Type 0} {ghosts : PartsGhosts H L T C} where
+  -- a request was replied to, and its round is owed
+  pub answered_request : (old mid new : SessionState) (before after : Parts H L T C) (it : Request) (progress : Progress)
+      → Emits old.reading (item.Request it) mid.reading → mid ≡ record old { reading = mid.reading }
+      → Replied ghosts (snapshot mid before) it (snapshot new after) → progress ≡ progress_of it
+      → old.owes ≡ false → length old.outbox < reply_bound
+      → Answered (effects_of ghosts) progress (snapshot old before) (snapshot new after)
+  answered_request old mid new before after it progress told same replied is none room = record {
+    events = Answer (record { item = item.Request it; routed = replied.routed; text = replied.text }) ∷ [];
+    turned = record {
+      gives = subst (λ to. Gives old.reading (item.Request it ∷ []) to) (sym replied.reading) (Gives-one _ _ _ told);
+      gains = gains_one replied.becomes;
+      order = rw (none, replied.owes) refl;
+      counts = record {
+        sends = λ server.
+            replied.becomes.sends server
+            ∙ ap (λ n. ghosts.backend.sent before.backend.links server + n) (turn_sends server before.config _ replied.becomes.done replied.becomes.is
+            ∙ ap (sends_to server) (sym (append-nil (trails_in replied.routed))));
+        probes = λ server. replied.becomes.probes server ∙ sym (add-zero (ghosts.backend.probed before.backend.links server));
+      };
+      memory = refl;
+      requests = replied.requests ∙ ap (λ s. capped (s.requests + 1)) same;
+    };
+    idles = refl;
+    outbox =
+        replied.outbox ∙ ap (λ s. s.outbox ++ replied.text) same
+        ∙ ap (λ text. old.outbox ++ text) (sym (append-nil replied.text));
+    begin = (room, tt);
+    progress_is =
+        subst (λ p. ProgressIs p (item.Request it ∷ []) new.reading) (sym is) (request_progress it new.reading);
+  }
+
+  -- a round that was owed adds its probes to the counts
+  counts_round : {short : Bool} {between after : Parts H L T C} → (rounded : Rounded ghosts.backend short between after)
+      → CountsRise (effects_of ghosts) between (RoundAfter rounded.round.visits ∷ []) after
+  counts_round {short} {between} {after} rounded = record {
+    sends = λ server. rounded.sends server ∙ sym (add-zero (ghosts.backend.sent between.backend.links server));
+    probes = λ server.
+        rounded.round.probes server
+        ∙ ap (λ visits. ghosts.backend.probed between.backend.links server + probes_in server visits) (sym (append-nil rounded.round.visits));
+  }
+
+  -- so does one at an idle turn
+  pub counts_idle : {short : Bool} {between after : Parts H L T C} → (rounded : Rounded ghosts.backend short between after)
+      → CountsRise (effects_of ghosts) between (IdleRound rounded.round.visits ∷ []) after
+  counts_idle {short} {between} {after} rounded = let counted = counts_round rounded in
+      record { sends = counted.sends; probes = counted.probes }
+
+  -- the round that was owed is an event
+  turned_round : {mid : Snapshot (Parts H L T C)} {state : SessionState} {after : Parts H L T C} → mid.state.owes ≡ true
+      → (rounded : Rounded ghosts.backend false mid.parts after) → state ≡ record mid.state { owes = false }
+      → Turned (effects_of ghosts) mid (RoundAfter rounded.round.visits ∷ []) (snapshot state after)
+  turned_round {mid} {state} {after} owed rounded paid = record {
+    gives = subst (Gives mid.state.reading []) (sym (ap (λ s. s.reading) paid)) (Gives-none mid.state.reading);
+    gains = gains_one (record { short = false; round = rounded.round; visited = refl; others = rounded.others; sends = rounded.sends });
+    order =
+        let owes : state.owes ≡ false = ap (λ s. s.owes) paid in
+        rw (owed, owes) refl;
+    counts = counts_round rounded;
+    memory = ap (list_any ran_out) (append-nil rounded.round.visits) ∙ sym rounded.round.memory;
+    requests = ap capped (ap (λ s. s.requests) paid ∙ sym (add-zero mid.state.requests));
+  }
+
+  -- the round that was owed was run
+  pub answered_round : {progress : Progress} {old mid : Snapshot (Parts H L T C)} {state : SessionState} {after : Parts H L T C}
+      → Answered (effects_of ghosts) progress old mid
+      → mid.state.owes ≡ true → Rounded ghosts.backend false mid.parts after → state ≡ record mid.state { owes = false }
+      → Answered (effects_of ghosts) progress old (snapshot state after)
+  answered_round {progress} {old} {mid} {state} {after} front owed rounded paid =
+      let visits = rounded.round.visits in
+      let items = items-append front.events (RoundAfter visits ∷ []) ∙ append-nil (items_of (turns_of front.events)) in
+      let text = text-append front.events (RoundAfter visits ∷ []) ∙ append-nil (text_of (turns_of front.events)) in
+      record {
+        events = front.events ++ RoundAfter visits ∷ [];
+        turned = turned_append front.turned (turned_round owed rounded paid);
+        idles = omega (arith, front.idles, idles-append front.events (RoundAfter visits ∷ []));
+        outbox = ap (λ s. s.outbox) paid ∙ front.outbox ∙ ap (λ xs. old.state.outbox ++ xs) (sym text);
+        begin = below-append old.state.outbox mid.state.outbox front.events (RoundAfter visits ∷ []) front.outbox front.begin tt;
+        progress_is =
+            subst (λ xs. ProgressIs progress xs state.reading) (sym items)
+            (subst (λ to. ProgressIs progress (items_of (turns_of front.events)) to) (sym (ap (λ s. s.reading) paid)) front.progress_is);
+      }
+
+  -- the round that was owed, if one was
+  pub answered_paid : {progress : Progress} {old mid : Snapshot (Parts H L T C)} {state : SessionState} {after : Parts H L T C}
+      → Answered (effects_of ghosts) progress old mid
+      → IsRun ghosts.backend mid false after → state ≡ record mid.state { owes = false }
+      → Answered (effects_of ghosts) progress old (snapshot state after)
+  answered_paid {progress} {old} {mid} {state} {after} front run paid =
+      let P : Bool → Type 0 = λ owes. MatchBool owes (Rounded ghosts.backend false mid.parts after) (NoneRun false mid.parts after) in
+      elim (cases_Bool mid.state.owes) [
+        | inl owed ↦ answered_round front owed (subst P owed run.ran) paid
+        | inr none ↦
+            subst (λ it. Answered (effects_of ghosts) progress old it)
+            (sym (unpaid none (subst P none run.ran) paid)) front
+      ]
+
+  -- the round that was owed was run, and memory ran out in it or did not
+  part_round : {progress : Progress} {short : Bool} {old mid : Snapshot (Parts H L T C)} {state : SessionState} {after : Parts H L T C}
+      → Answered (effects_of ghosts) progress old mid
+      → mid.state.owes ≡ true → Rounded ghosts.backend short mid.parts after → state ≡ record mid.state { owes = false }
+      → AnsweredPart (effects_of ghosts) old (snapshot state after)
+  part_round {progress} {short} {old} {mid} {state} {after} front owed rounded paid =
+      let last : List Event = RoundAfter rounded.round.visits ∷ [] in
+      let items = items-append front.events last ∙ append-nil (items_of (turns_of front.events)) in
+      let text = text-append front.events last ∙ append-nil (text_of (turns_of front.events)) in
+      let ended : InSession (items_of (turns_of front.events)) =
+      in_session progress (items_of (turns_of front.events)) mid.state.reading front.progress_is in
+      record {
+        events = front.events ++ last;
+        left = mid.state.reading;
+        reached = after;
+        gives = subst (λ xs. Gives old.state.reading xs mid.state.reading) (sym items) front.turned.gives;
+        gains = gains_append front.turned.gains (gains_one (record { short = short; round = rounded.round; visited = refl; others = rounded.others; sends = rounded.sends }));
+        counts = counts_append front.turned.counts (counts_round rounded);
+        order = order-append old.state.owes mid.state.owes false front.events last front.turned.order (rw owed refl);
+        idles = omega (arith, front.idles, idles-append front.events last);
+        in_session = subst InSession (sym items) ended;
+        outbox = ap (λ s. s.outbox) paid ∙ front.outbox ∙ ap (λ xs. old.state.outbox ++ xs) (sym text);
+        behind = no_more refl (ap (λ s. s.owes) paid);
+      }
+
+  -- the same where a round was owed or none was
+  pub part_paid : {progress : Progress} {short : Bool} {old mid : Snapshot (Parts H L T C)} {state : SessionState} {after : Parts H L T C}
+      → Answered (effects_of ghosts) progress old mid
+      → IsRun ghosts.backend mid short after → state ≡ record mid.state { owes = false }
+      → AnsweredPart (effects_of ghosts) old (snapshot state after)
+  part_paid {progress} {short} {old} {mid} {state} {after} front run paid =
+      let P : Bool → Type 0 = λ owes. MatchBool owes (Rounded ghosts.backend short mid.parts after) (NoneRun short mid.parts after) in
+      elim (cases_Bool mid.state.owes) [
+        | inl owed ↦ part_round front owed (subst P owed run.ran) paid
+        | inr none ↦
+            subst (λ it. AnsweredPart (effects_of ghosts) old it)
+            (sym (unpaid none (subst P none run.ran) paid)) (part_of front none)
+      ]
+
+  -- the round at an idle turn is an event
+  pub turned_idle : {here : SessionState} {between after : Parts H L T C} → here.owes ≡ false
+      → (rounded : Rounded ghosts.backend false between after)
+      → Turned (effects_of ghosts) (snapshot here between) (IdleRound rounded.round.visits ∷ []) (snapshot here after)
+  turned_idle {here} {between} {after} none rounded = record {
+    gives = Gives-none here.reading;
+    gains = gains_one (record { short = false; round = rounded.round; visited = refl; others = rounded.others; sends = rounded.sends });
+    order = rw none refl;
+    counts = counts_idle rounded;
+    memory = ap (list_any ran_out) (append-nil rounded.round.visits) ∙ sym rounded.round.memory;
+    requests = ap capped (sym (add-zero here.requests));
+  }

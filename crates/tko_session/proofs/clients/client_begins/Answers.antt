@@ -1,0 +1,5 @@
+use Rattle.tko_session.proofs.LifeLemmas.{begins}
+use Rattle.tko_session.proofs.clients.client_begins.Goals as goal
+
+pub returns : goal.returns
+returns c = begins

@@ -1,0 +1,14 @@
+use Rattle.std.proofs.Common.{◌≡◌, ap, sym, take, ◌∙◌}
+use Rattle.tko_session.specs.Outgoing.{outgoing, outgoing_in}
+use Rattle.tko_session.specs.Working.{work_at}
+use Rattle.tko_session.proofs.OutgoingLemmas.{extends_taken, outgoing_at}
+use Rattle.tko_session.proofs.session.Session.output.Goals as goal
+
+pub returns-in-Some-clause-front : goal.returns-in-Some-clause-front
+returns-in-Some-clause-front c =
+    let begin = c.self.inside.begin in
+    let outbox = c.self.inside.outbox in
+    let out : outgoing c.args.self.now ≡ take begin outbox =
+    ap outgoing (sym c.self.view_is) ∙ ap (λ o. outgoing_in (work_at o) begin outbox) c.in-Some.is
+    ∙ outgoing_at begin outbox c.in-Some.field-0.key c.in-Some.field-0.stage in
+    rw (c.first_bytes.ensures, out) (extends_taken begin _ outbox c.front-front.ensures.front)

@@ -1,0 +1,112 @@
+-- What one act of a worker for a client adds to the client's life.
+use Rattle.std.specs.Prelude.{◌≡◌, ℕ, Bool, false, List, [], ◌∷◌, ◌++◌, Result, Ok, Err, map, take}
+use Rattle.tko_links.specs.declared.links.NoMemory.{NoMemory}
+use Rattle.tko_links.specs.declared.links.Outcome.{Outcome}
+use Rattle.tko_pools.specs.Configs.{Configuration}
+use Rattle.tko_route.specs.Calls.{Call, came}
+use Rattle.tko_route.specs.declared.attempt.Attempt.{Attempt}
+use Rattle.tko_reply.specs.Interactions.{Interaction, Made, Noted, Recorded}
+use Rattle.tko_reply.specs.Standing.{Asking}
+use Rattle.tko_reply.specs.TrailEvents.{Asked, Tried}
+use Rattle.tko_session.specs.declared.step.Progress.TheVariants as progress
+use Rattle.tko_session.specs.declared.step.Step.{Step}
+use Rattle.tko_session.specs.declared.step.Step.TheVariants as step
+use Rattle.tko_session.specs.Clients.{Client, ClientPhase, Life, Open, Over, Short, client, life, no_life}
+use Rattle.tko_session.specs.Driven.{AwaitedDropped, AwaitedTaken, WasDropped, WentOn, dropped}
+use Rattle.tko_session.specs.Outgoing.{AreOutgoing, sent_from}
+use Rattle.tko_session.specs.SessionState.{SessionState, fed_state}
+use Rattle.tko_session.specs.Working.{Work}
+use Rattle.tko_session.specs.Working as work
+
+-- the request that was read
+abbrev pub asked_at : Work → List Interaction
+asked_at work.Between = []
+asked_at (work.Read one) = Recorded (Asked one.request) ∷ []
+asked_at (work.Awaits it) = []
+asked_at (work.Ended one) = []
+
+-- what is recorded after a call that said this, before the next call
+abbrev pub recorded_after : Step → Work → List Interaction
+recorded_after step.Began at = asked_at at
+recorded_after (step.Tried trail) at = Recorded (Tried trail) ∷ []
+recorded_after (step.Asks clear) at = []
+recorded_after (step.At progress) at = []
+
+-- what is left of that where it could not be recorded: the marks of the attempts at a key
+abbrev pub left_after : Step → List Interaction
+left_after step.Began = []
+left_after (step.Tried trail) = Noted trail ∷ []
+left_after (step.Asks clear) = []
+left_after (step.At progress) = []
+
+-- something is to be recorded
+abbrev pub IsToRecord : Step → Type 0
+IsToRecord step.Began = Unit {0}
+IsToRecord (step.Tried trail) = Unit {0}
+IsToRecord (step.Asks clear) = ⊥
+IsToRecord (step.At progress) = ⊥
+
+-- the marks of these attempts are noted, if there are any
+abbrev pub marks_of : List Attempt → List Interaction
+marks_of [] = []
+marks_of (one ∷ attempts) = Noted (one ∷ attempts) ∷ []
+
+-- the send that is out came to this
+abbrev pub came_to : Asking → Result Outcome NoMemory → Interaction
+came_to it result = Made (came it.waiting.server it.key.request result)
+
+-- how a client stands after a call that said this: `quit` and a line too long end its session
+abbrev pub phase_after : Step → ClientPhase
+phase_after (step.At progress.Quit) = Over
+phase_after (step.At progress.LineTooLong) = Over
+phase_after _ = Open
+
+-- A call of a client's session, with what its driver records before the next one: the session went
+-- on, or took what came of its send.
+pub data IsSessionCall (config : Configuration) (old : SessionState) (done : List Interaction)
+    (phase : ClientPhase) (new : SessionState) : Type 0 where
+  went : (calls : List Call) (said : Step) → WentOn config old calls said new
+      → done ≡ map Made calls ++ recorded_after said new.work → phase ≡ phase_after said
+      → IsSessionCall config old done phase new
+  took : (it : Asking) (outcome : Outcome) (calls : List Call) (said : Step)
+      → old.work ≡ work.Awaits it → AwaitedTaken config outcome old calls said new
+      → done ≡ came_to it (Ok outcome) ∷ (map Made calls ++ recorded_after said new.work)
+      → phase ≡ phase_after said → IsSessionCall config old done phase new
+
+-- Memory ran out, and the request under way was dropped: in such a call; or at the send; or where
+-- something could not be recorded after the call.
+pub data IsLoss (config : Configuration) (old : SessionState) (done : List Interaction)
+    (new : SessionState) : Type 0 where
+  went : (calls : List Call) (attempts : List Attempt) → WasDropped config old calls attempts new
+      → done ≡ map Made calls ++ marks_of attempts → IsLoss config old done new
+  took : (it : Asking) (outcome : Outcome) (calls : List Call) (attempts : List Attempt)
+      → old.work ≡ work.Awaits it → AwaitedDropped config outcome old calls attempts new
+      → done ≡ came_to it (Ok outcome) ∷ (map Made calls ++ marks_of attempts)
+      → IsLoss config old done new
+  stopped : (it : Asking) (was_sent : Bool) → old.work ≡ work.Awaits it → new ≡ dropped old
+      → done ≡ came_to it (Err (record { sent = was_sent })) ∷ Noted it.waiting.attempts ∷ []
+      → IsLoss config old done new
+  went_unrecorded : (calls : List Call) (said : Step) (mid : SessionState)
+      → WentOn config old calls said mid → IsToRecord said → new ≡ dropped mid
+      → done ≡ map Made calls ++ left_after said → IsLoss config old done new
+  took_unrecorded : (it : Asking) (outcome : Outcome) (calls : List Call) (said : Step)
+      (mid : SessionState) → old.work ≡ work.Awaits it
+      → AwaitedTaken config outcome old calls said mid → IsToRecord said → new ≡ dropped mid
+      → done ≡ came_to it (Ok outcome) ∷ (map Made calls ++ left_after said)
+      → IsLoss config old done new
+
+-- One act for a client, and what it adds to its life: bytes came from it; replies went to it; the
+-- round that it owed was run; its session made a call; or memory ran out for it.
+pub data IsAct (config : Configuration) (old : Client) (adds : Life) (new : Client) : Type 0 where
+  fed : (piece : List ℕ) → old.phase ≡ Open → adds ≡ life piece [] []
+      → new ≡ client Open (fed_state old.session piece) → IsAct config old adds new
+  wrote : (count : ℕ) → AreOutgoing old.session count
+      → adds ≡ life [] (take count old.session.outbox) []
+      → new ≡ client old.phase (sent_from old.session count) → IsAct config old adds new
+  round_run : adds ≡ no_life
+      → new ≡ client old.phase (record old.session { owes = false }) → IsAct config old adds new
+  stepped : (done : List Interaction) → old.phase ≡ Open → adds ≡ life [] [] done
+      → IsSessionCall config old.session done new.phase new.session → IsAct config old adds new
+  lost : (done : List Interaction) → old.phase ≡ Open → adds ≡ life [] [] done
+      → IsLoss config old.session done new.session → new.phase ≡ Short
+      → IsAct config old adds new

@@ -1,0 +1,142 @@
+-- One client's whole life: the bytes that came from it, those that went to it, and what was done
+-- for it, whatever was done for others between.
+use Rattle.std.specs.Prelude.{◌≡◌, ◌⊎◌, ℕ, List, [], ◌∷◌, ◌++◌, Option, Some, None, flat_map, length}
+use Rattle.tko_text.specs.Reading.{Emits, Gives, Reading, fed, start}
+use Rattle.tko_text.specs.declared.item.Item.{Item}
+use Rattle.tko_text.specs.declared.item.Item.TheVariants as item
+use Rattle.tko_text.specs.declared.request.Request.{Request}
+use Rattle.tko_pools.specs.Configs.{Configuration}
+use Rattle.tko_io.specs.Io.{capped}
+use Rattle.tko_reply.specs.Interactions.{Interaction, Recorded}
+use Rattle.tko_reply.specs.TrailEvents.{Asked}
+use Rattle.tko_session.specs.SessionState.{EndsWith, GoesOn, SessionState, fresh, items_of, line_too_long, quit, requests_in, text_of}
+use Rattle.tko_session.specs.SoFar.{IsPendingAt, Pending}
+use Rattle.tko_session.specs.Turns.{IsRequestCut, IsTurn, Turn}
+use Rattle.tko_session.specs.Working.{Between}
+
+-- what came from a client, what went to it, and what was done for it, each in order
+pub record Life : Type 0 where
+  pub bytes : List ℕ
+  pub sent : List ℕ
+  pub done : List Interaction
+
+abbrev pub life : List ℕ → List ℕ → List Interaction → Life
+life bytes sent done = record { bytes = bytes; sent = sent; done = done }
+
+-- nothing yet
+abbrev pub no_life : Life
+no_life = life [] [] []
+
+-- a life, and what an act added to it
+abbrev pub lived : Life → Life → Life
+lived old adds =
+    life (old.bytes ++ adds.bytes) (old.sent ++ adds.sent) (old.done ++ adds.done)
+
+-- all that these acts added
+abbrev pub life_of : List Life → Life
+life_of acts = life (flat_map (λ it. it.bytes) acts) (flat_map (λ it. it.sent) acts)
+    (flat_map (λ it. it.done) acts)
+
+-- how a client's session stands: it is open; or its last item ended it; or memory ran out for it
+pub data ClientPhase : Type 0 where
+  Open : ClientPhase
+  Over : ClientPhase
+  Short : ClientPhase
+
+-- a client of a worker: its session, and how that stands
+pub record Client : Type 0 where
+  pub phase : ClientPhase
+  pub session : SessionState
+
+abbrev pub client : ClientPhase → SessionState → Client
+client phase session = record { phase = phase; session = session }
+
+-- one that has just come
+abbrev pub new_client : Client
+new_client = client Open fresh
+
+-- items were answered, one after another, each by its own interactions
+abbrev pub AreTurns : Configuration → List Turn → List Interaction → Type 0
+AreTurns config [] done = done ≡ []
+AreTurns config (turn ∷ turns) done = (first rest : List Interaction)
+    × IsTurn config turn first × AreTurns config turns rest × (done ≡ first ++ rest)
+
+-- the item of the request under way, if there is one
+abbrev pub items_under : Option Pending → List Item
+items_under None = []
+items_under (Some it) = item.Request it.request ∷ []
+
+-- what was done for it, first of all that it was recorded
+abbrev pub done_under : Option Pending → List Interaction
+done_under None = []
+done_under (Some it) = Recorded (Asked it.request) ∷ it.done
+
+-- the replies that are complete
+abbrev pub waiting_in : Option Pending → List ℕ → List ℕ
+waiting_in None outbox = outbox
+waiting_in (Some it) outbox = it.front
+
+-- no request is under way; or this one is, and its reply begins behind the complete ones
+abbrev pub HasPending : Configuration → Option Pending → SessionState → Type 0
+HasPending config None state = state.work ≡ Between
+HasPending config (Some it) state = (state.begin ≡ length it.front)
+    × IsPendingAt config it state.work state.targets state.outbox
+
+-- Its session is open: the bytes that came are the items of its turns, none of which ended it, and
+-- of the request under way, and then what is not read yet; the texts of the turns went to the
+-- client or wait for it, in order; and what was done is what the turns did, and then what was done
+-- for the request under way.
+pub record IsClientOpen (config : Configuration) (it : Life) (state : SessionState) : Type 0 where
+  pub turns : List Turn
+  pub turned : List Interaction
+  pub under : Option Pending
+  pub each : AreTurns config turns turned
+  pub at : HasPending config under state
+  pub goes_on : GoesOn (items_of turns)
+  pub gives : Gives (fed start it.bytes) (items_of turns ++ items_under under) state.reading
+  pub text : it.sent ++ waiting_in under state.outbox ≡ text_of turns
+  pub are : it.done ≡ turned ++ done_under under
+  pub requests : capped state.requests ≡ capped (requests_in (items_of turns))
+
+-- Its last item ended it: no request is under way, and what was done is what the turns did.
+pub record IsClientOver (config : Configuration) (it : Life) (state : SessionState) : Type 0 where
+  pub turns : List Turn
+  pub each : AreTurns config turns it.done
+  pub at : state.work ≡ Between
+  pub ends : EndsWith line_too_long (items_of turns) ⊎ EndsWith quit (items_of turns)
+  pub gives : Gives (fed start it.bytes) (items_of turns) state.reading
+  pub text : it.sent ++ state.outbox ≡ text_of turns
+  pub requests : capped state.requests ≡ capped (requests_in (items_of turns))
+
+-- memory ran out after these items: as the next one was read; or that is a request, for which this
+-- was done until it was dropped
+pub data ShortAfter (config : Configuration) (left : Reading) (last : List Interaction) : Type 0
+  where
+    none_read : last ≡ [] → ShortAfter config left last
+    request_cut : (it : Request) (to : Reading) → Emits left (item.Request it) to
+        → IsRequestCut config it last → ShortAfter config left last
+
+-- Memory ran out for it: what was done is what the turns did, and then what was done for the
+-- request that was dropped. Nothing of its reply went to the client or waits for it.
+pub record IsClientShort (config : Configuration) (it : Life) (state : SessionState) : Type 0 where
+  pub turns : List Turn
+  pub turned : List Interaction
+  pub left : Reading
+  pub last : List Interaction
+  pub each : AreTurns config turns turned
+  pub at : state.work ≡ Between
+  pub goes_on : GoesOn (items_of turns)
+  pub gives : Gives (fed start it.bytes) (items_of turns) left
+  pub cut : ShortAfter config left last
+  pub text : it.sent ++ state.outbox ≡ text_of turns
+  pub are : it.done ≡ turned ++ last
+  pub requests : capped state.requests ≡ capped (requests_in (items_of turns))
+
+abbrev pub IsClientIn : ClientPhase → Configuration → Life → SessionState → Type 0
+IsClientIn Open config it state = IsClientOpen config it state
+IsClientIn Over config it state = IsClientOver config it state
+IsClientIn Short config it state = IsClientShort config it state
+
+-- this is a client's life so far
+abbrev pub IsClient : Configuration → Life → Client → Type 0
+IsClient config it one = IsClientIn one.phase config it one.session

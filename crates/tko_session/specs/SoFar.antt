@@ -1,0 +1,100 @@
+-- How far a request was answered that is under way, over what was done since it was recorded.
+use Rattle.std.specs.Prelude.{◌≡◌, ◌<◌, ℕ, Bool, List, [], ◌∷◌, ◌++◌, All, length, map}
+use Rattle.tko_text.specs.declared.request.Request.{Request}
+use Rattle.tko_pools.specs.Configs.{Configuration, targets_of}
+use Rattle.tko_route.specs.Calls.{Call}
+use Rattle.tko_route.specs.Routing.{FindsUp, IsAwaited}
+use Rattle.tko_reply.specs.Answering.{retrieval}
+use Rattle.tko_reply.specs.Answers.{Answers, AreKeysRouted, IsKeyed, form_in, request_answer, request_keys}
+use Rattle.tko_reply.specs.Interactions.{Interaction, Made}
+use Rattle.tko_reply.specs.Replies.{HasValues, RoutedKey, joined, keys_in}
+use Rattle.tko_reply.specs.Standing.{Asking, whole_of}
+use Rattle.tko_reply.specs.declared.asking.OneKey.{OneKey}
+use Rattle.tko_reply.specs.declared.asking.Share.TheVariants as share
+use Rattle.tko_session.specs.Working.{Work}
+use Rattle.tko_session.specs.Working as work
+
+-- a request under way: the replies that wait before its own, and what was done since it was
+-- recorded
+pub record Pending : Type 0 where
+  pub request : Request
+  pub front : List ℕ
+  pub done : List Interaction
+
+-- some keys of it were routed, each of them got a list of values, which follow the replies before,
+-- and these keys are left
+pub record HasJoined (config : Configuration) (it : Pending) (left : List (List ℕ))
+    (outbox : List ℕ) : Type 0 where
+  pub routed : List RoutedKey
+  pub keys : request_keys it.request ≡ keys_in routed ++ left
+  pub each : AreKeysRouted config it.request routed it.done
+  pub values : All HasValues routed
+  pub appended : outbox ≡ it.front ++ joined routed
+
+-- one of several keys of a request, whose reply begins here, is asked for alone, and then come
+-- those that are left
+pub record IsOneKeyOf (request : Request) (begin : ℕ) (key : List ℕ) (left : List (List ℕ))
+    (one : OneKey) : Type 0 where
+  pub all : List (List ℕ)
+  pub unique : Bool
+  pub whole : request ≡ retrieval all unique
+  pub some : 0 < length all
+  pub alone : one ≡ record {
+    request = retrieval (key ∷ []) unique;
+    share = share.Joined begin left;
+  }
+
+-- a key of a request is asked for: its only one, by the request as it was read; or one of several
+pub data AsksForKey (request : Request) (begin : ℕ) (key : List ℕ) (left : List (List ℕ))
+    (one : OneKey) : Type 0 where
+  only : request_keys request ≡ key ∷ [] → left ≡ [] → one ≡ whole_of request
+      → AsksForKey request begin key left one
+  one_of : IsOneKeyOf request begin key left one → AsksForKey request begin key left one
+
+-- after keys that got lists of values this one is asked for, and a send is out to a server that its
+-- calls found up
+pub record IsSentFor (config : Configuration) (it : Pending) (asking : Asking) (targets : List ℕ)
+    (outbox : List ℕ) : Type 0 where
+  pub key : List ℕ
+  pub left : List (List ℕ)
+  pub first : OneKey
+  pub before : List Interaction
+  pub calls : List Call
+  pub asks : AsksForKey it.request (length it.front) key left first
+  pub so_far : HasJoined config (record it { done = before }) (key ∷ left) outbox
+  pub aims : targets ≡ targets_of config key
+  pub awaits : IsAwaited targets asking.waiting
+  pub found : FindsUp (form_in config first.request) calls
+      asking.waiting.attempts asking.waiting.server
+  pub keeps : asking.key ≡ record {
+    request = form_in config first.request (length asking.waiting.attempts);
+    share = first.share;
+  }
+  pub are : it.done ≡ before ++ map Made calls
+
+-- it was answered, and its reply follows those before
+pub record IsReplied (config : Configuration) (it : Pending) (outbox : List ℕ) : Type 0 where
+  pub routed : List RoutedKey
+  pub text : List ℕ
+  pub answers : Answers config it.request (request_answer routed text) it.done
+  pub appended : outbox ≡ it.front ++ text
+
+-- a key of it was routed, and its trail recorded: the reply is complete; or that was one of several
+-- keys, and its values follow those before
+pub data IsKeyPast (config : Configuration) (it : Pending) (one : OneKey) (outbox : List ℕ) : Type 0
+  where
+    complete : (silent : Bool) → one.share ≡ share.Whole silent → IsKeyed it.request
+        → IsReplied config it outbox → IsKeyPast config it one outbox
+    values : (key : List ℕ) (left : List (List ℕ))
+        → IsOneKeyOf it.request (length it.front) key left one
+        → HasJoined config it left outbox → IsKeyPast config it one outbox
+
+-- how far it came, where the session is at this: it was read, and nothing was done yet; or a send
+-- is out for one of its keys; or the attempts at one of them ended
+abbrev pub IsPendingAt : Configuration → Pending → Work → List ℕ → List ℕ → Type 0
+IsPendingAt config it work.Between targets outbox = ⊥
+IsPendingAt config it (work.Read one) targets outbox =
+    (one ≡ whole_of it.request) × (it.done ≡ []) × (outbox ≡ it.front)
+IsPendingAt config it (work.Awaits asking) targets outbox =
+    IsSentFor config it asking targets outbox
+IsPendingAt config it (work.Ended one) targets outbox = IsKeyPast config it one outbox

@@ -1,0 +1,39 @@
+-- What becomes of one item: what is done for it, and the text that goes to the client.
+use Rattle.std.specs.Prelude.{◌≡◌, ℕ, Bool, true, false, List, [], ◌∷◌}
+use Rattle.tko_text.specs.declared.fault.TextFault.{TextFault}
+use Rattle.tko_text.specs.declared.item.Item.{Item}
+use Rattle.tko_text.specs.declared.item.Item.TheVariants as item
+use Rattle.tko_text.specs.declared.request.Request.{Request}
+use Rattle.tko_text.specs.Requests.{fault_text}
+use Rattle.tko_pools.specs.Configs.{Configuration}
+use Rattle.tko_reply.specs.Answers.{Answers, request_answer}
+use Rattle.tko_reply.specs.Cuts.{IsAnswerCut}
+use Rattle.tko_reply.specs.Interactions.{Interaction, Recorded}
+use Rattle.tko_reply.specs.Replies.{RoutedKey}
+use Rattle.tko_reply.specs.TrailEvents.{Asked}
+
+-- an item, the keys that were routed for it, and the text of its reply
+pub record Turn : Type 0 where
+  pub item : Item
+  pub routed : List RoutedKey
+  pub text : List ℕ
+
+abbrev pub is_request : Item → Bool
+is_request (item.Request request) = true
+is_request (item.Fault fault) = false
+
+-- a fault gives its text, and nothing is done; a request is recorded, and then answered
+pub data IsTurn (config : Configuration) (turn : Turn) (done : List Interaction) : Type 0 where
+  refused : (fault : TextFault) → turn.item ≡ item.Fault fault → turn.routed ≡ []
+      → turn.text ≡ fault_text fault → done ≡ [] → IsTurn config turn done
+  answered : (request : Request) (then : List Interaction) → turn.item ≡ item.Request request
+      → done ≡ Recorded (Asked request) ∷ then
+      → Answers config request (request_answer turn.routed turn.text) then
+      → IsTurn config turn done
+
+-- a request was cut short: memory ran out while it was recorded, or in its answer
+pub data IsRequestCut (config : Configuration) (request : Request) (done : List Interaction)
+    : Type 0 where
+  unrecorded : done ≡ [] → IsRequestCut config request done
+  recorded : (then : List Interaction) → done ≡ Recorded (Asked request) ∷ then
+      → IsAnswerCut config request then → IsRequestCut config request done

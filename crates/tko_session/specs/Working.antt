@@ -1,0 +1,52 @@
+-- What a session is at, from the key of the request that it answers.
+use Rattle.std.specs.Prelude.{List, [], Option, Some, None}
+use Rattle.tko_route.specs.declared.attempt.Attempt.{Attempt}
+use Rattle.tko_reply.specs.Standing.{Asking, asking}
+use Rattle.tko_reply.specs.declared.asking.OneKey.{OneKey}
+use Rattle.tko_session.specs.declared.session.KeyAtWork.{KeyAtWork}
+use Rattle.tko_session.specs.declared.session.KeyStage.{KeyStage}
+use Rattle.tko_session.specs.declared.session.KeyStage.TheVariants as stage
+
+-- no request is being answered; this one was read, and is to be begun; what comes of a send is
+-- awaited; or the attempts at this key ended
+pub data Work : Type 0 where
+  Between : Work
+  Read : OneKey → Work
+  Awaits : Asking → Work
+  Ended : OneKey → Work
+
+-- with this key, which is so far
+abbrev pub key_work : OneKey → KeyStage → Work
+key_work one stage.Read = Read one
+key_work one (stage.Sent waiting) = Awaits (asking waiting one)
+key_work one stage.Tried = Ended one
+
+abbrev pub work_at : Option KeyAtWork → Work
+work_at None = Between
+work_at (Some at) = key_work at.key at.stage
+
+-- the key that is at work
+abbrev pub key_in : Work → Option OneKey
+key_in Between = None
+key_in (Read one) = Some one
+key_in (Awaits it) = Some it.key
+key_in (Ended one) = Some one
+
+-- the request that was read
+abbrev pub read_in : Work → Option OneKey
+read_in Between = None
+read_in (Read one) = Some one
+read_in (Awaits it) = None
+read_in (Ended one) = None
+
+-- the key whose attempts ended
+abbrev pub ended_in : Work → Option OneKey
+ended_in Between = None
+ended_in (Read one) = None
+ended_in (Awaits it) = None
+ended_in (Ended one) = Some one
+
+-- the attempts at the key for which a send is out
+abbrev pub attempts_in : Work → List Attempt
+attempts_in (Awaits it) = it.waiting.attempts
+attempts_in _ = []

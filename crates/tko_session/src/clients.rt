@@ -1,0 +1,38 @@
+//! What holds of each client of a worker, whatever is done for others between.
+ghost use Rattle.std.specs.Prelude.{ℕ, List, Option};
+ghost use Rattle.tko_model.specs.Records.{Gains};
+ghost use Rattle.tko_roster.specs.Rosters.{IsRosterStep, RosterAct, RosterState, nobody};
+ghost use Rattle.tko_roster.specs.Tagged.{Tagged};
+ghost use Rattle.tko_reply.specs.Ghosts.{parts_ghosts};
+ghost use Rattle.tko_reply.specs.declared.parts.Parts.{Parts};
+ghost use Rattle.tko_session.specs.Acts.{IsAct};
+ghost use Rattle.tko_session.specs.Clients.{Client, IsClient, Life, lived, new_client, no_life};
+ghost use Rattle.tko_session.specs.ManyClients.{ActsOn, AreNew, AreServed};
+
+use crate::Trails;
+use tko_io::Clock;
+use tko_links::Links;
+use tko_route::Health;
+
+/// A client that comes has no life yet.
+pub fn client_begins()
+    ensures { (config : _) → IsClient config no_life new_client }
+{}
+
+/// Each act for a client goes on with its life, and adds to it what was done.
+pub fn client_acts()
+    ensures { (config : _) (it : Life) (old : Client) (adds : Life) (new : Client)
+        → IsClient config it old → IsAct config old adds new
+        → IsClient config (lived it adds) new }
+{}
+
+/// Many clients are served on one thread over the same parts, and each has a life of its own acts.
+pub fn served<H: Health, L: Links, T: Trails, C: Clock>()
+    ensures { (awaited : Client → Option ℕ) (old : Parts H L T C)
+        (acts : List (Tagged (RosterAct Client Life)))
+        (new : RosterState Client (Parts H L T C)) → AreNew acts
+        → Gains (IsRosterStep
+        (ActsOn (parts_ghosts H.Health L.Links T.Trails C.Clock) old.config) awaited)
+        (nobody old) acts new
+        → AreServed (parts_ghosts H.Health L.Links T.Trails C.Clock) old acts new }
+{}
