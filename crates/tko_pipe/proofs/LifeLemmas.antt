@@ -6,7 +6,7 @@ use Rattle.std.proofs.lemmas.List.Elements.{All-cons, All-nil}
 use Rattle.tko_model.specs.Records.{Gains, Lead}
 use Rattle.tko_model.proofs.RecordLemmas.{gains_none}
 use Rattle.tko_text.specs.Requests.{request_text}
-use Rattle.tko_pipe.specs.declared.awaited.Awaited.{Awaited}
+use Rattle.tko_pipe.specs.declared.waiter.Waiter.{Waiter}
 use Rattle.tko_pipe.specs.declared.fates.Fates.{Fates}
 use Rattle.tko_pipe.specs.declared.link.Link.{Link}
 use Rattle.tko_pipe.specs.declared.link.Link.TheVariants.{Connected, Shut}
@@ -15,12 +15,12 @@ use Rattle.tko_pipe.specs.Lives.{Got, IsAnswer, IsEnd, IsLife, IsPipeStep, Left,
 use Rattle.tko_pipe.specs.Pipes.{IsLive, PipeState, begun, lengths_of}
 
 -- the first of those that are left leaves, and then those that followed it
-leaving_first : (left : Fates) (awaited : Awaited) (others : List Awaited)
-    → leaving left (awaited ∷ others)
-    ≡ record { awaited = awaited; came = fate_at left awaited.due }
+leaving_first : (left : Fates) (waiter : Waiter) (others : List Waiter)
+    → leaving left (waiter ∷ others)
+    ≡ record { waiter = waiter; came = fate_at left waiter.due }
     ∷ leaving (record left { first = None }) others
-leaving_first left awaited [] = refl
-leaving_first left awaited (next_one ∷ others) = refl
+leaving_first left waiter [] = refl
+leaving_first left waiter (next_one ∷ others) = refl
 
 -- what the items lead to, from a connection that was shut: those that waited leave
 record Leaves (old : PipeState) (left : Fates) (items : List PipeItem) (new : PipeState) : Type 0
@@ -59,10 +59,10 @@ leaves old new (Left it ∷ items) left e (mid, step, more) =
     ap (λ (s : PipeState). s.link) step.state
     ∙ ap (λ (l : Fates). Shut (record l { first = None })) same in
     let rest = leaves mid new items (record left { first = None }) link more in
-    let came : it.came ≡ fate_at left it.awaited.due =
-    step.came ∙ ap (λ (l : Fates). fate_at l it.awaited.due) same in
-    let is_it : it ≡ record { awaited = it.awaited; came = fate_at left it.awaited.due } =
-    ap (λ fate. record { awaited = it.awaited; came = fate }) came in
+    let came : it.came ≡ fate_at left it.waiter.due =
+    step.came ∙ ap (λ (l : Fates). fate_at l it.waiter.due) same in
+    let is_it : it ≡ record { waiter = it.waiter; came = fate_at left it.waiter.due } =
+    ap (λ fate. record { waiter = it.waiter; came = fate }) came in
     record {
       only = ap (λ (xs : List PipeItem). Left it ∷ xs) rest.only;
       pushed = rest.pushed;
@@ -70,12 +70,12 @@ leaves old new (Left it ∷ items) left e (mid, step, more) =
       was_shut = rest.was_shut;
       wrote = rest.wrote;
       got = rest.got;
-      queue = step.first ∙ ap (λ (xs : List Awaited). it.awaited ∷ xs) rest.queue;
+      queue = step.first ∙ ap (λ (xs : List Waiter). it.waiter ∷ xs) rest.queue;
       unwritten = rest.unwritten ∙ ap (λ (s : PipeState). s.unwritten) step.state;
       unread = rest.unread ∙ ap (λ (s : PipeState). s.unread) step.state;
       heard = rest.heard ∙ ap (λ (s : PipeState). heard_after s.heard items) step.state;
       fates = ap (leaving left) step.first
-          ∙ leaving_first left it.awaited mid.waiting
+          ∙ leaving_first left it.waiter mid.waiting
           ∙ ap (λ (l : Leaving). l ∷ leaving (record left { first = None }) mid.waiting) (sym is_it)
           ∙ ap (λ (xs : List Leaving). it ∷ xs) rest.fates;
     }
@@ -166,20 +166,20 @@ leads old new (Pushed it ∷ items) live (mid, step, more) =
     let rest = leads mid new items
     (subst (λ (s : PipeState). IsLive s.link) (sym step.state) live) more in
     let text = request_text it.request in
-    let waiting : mid.waiting ≡ old.waiting ++ it.awaited ∷ [] =
+    let waiting : mid.waiting ≡ old.waiting ++ it.waiter ∷ [] =
     ap (λ (s : PipeState). s.waiting) step.state in
     let unwritten : mid.unwritten ≡ old.unwritten ++ text =
     ap (λ (s : PipeState). s.unwritten) step.state in
-    let one_length : lengths_of (it.awaited ∷ []) ≡ it.awaited.len =
-    omega (arith, sum_by-cons (λ (one : Awaited). one.len) it.awaited []) in
-    let lengths : lengths_of mid.waiting ≡ lengths_of old.waiting + it.awaited.len =
-    ap lengths_of waiting ∙ sum_by-append (λ one. one.len) old.waiting (it.awaited ∷ [])
+    let one_length : lengths_of (it.waiter ∷ []) ≡ it.waiter.len =
+    omega (arith, sum_by-cons (λ (one : Waiter). one.len) it.waiter []) in
+    let lengths : lengths_of mid.waiting ≡ lengths_of old.waiting + it.waiter.len =
+    ap lengths_of waiting ∙ sum_by-append (λ one. one.len) old.waiting (it.waiter ∷ [])
     ∙ ap (λ n. lengths_of old.waiting + n) one_length in
     let len : length mid.unwritten ≡ length old.unwritten + length text =
     ap length unwritten ∙ length-append old.unwritten text in
     record {
-      queue = sym (append_assoc old.waiting (it.awaited ∷ []) (asked_in items))
-          ∙ ap (λ (w : List Awaited). w ++ asked_in items) (sym waiting) ∙ rest.queue;
+      queue = sym (append_assoc old.waiting (it.waiter ∷ []) (asked_in items))
+          ∙ ap (λ (w : List Waiter). w ++ asked_in items) (sym waiting) ∙ rest.queue;
       written = sym (append_assoc old.unwritten text (texts_in items))
           ∙ ap (λ (w : List ℕ). w ++ texts_in items) (sym unwritten) ∙ rest.written;
       read = ap (λ (s : PipeState). s.unread ++ read_in items) (sym step.state) ∙ rest.read;
@@ -200,7 +200,7 @@ leads old new (Wrote bytes ∷ items) live (mid, step, more) =
     let wrote : length (bytes ++ written_in items) ≡ length bytes + length (written_in items) =
     length-append bytes (written_in items) in
     record {
-      queue = ap (λ (w : List Awaited). w ++ asked_in items) (sym waiting) ∙ rest.queue;
+      queue = ap (λ (w : List Waiter). w ++ asked_in items) (sym waiting) ∙ rest.queue;
       written = ap (λ (w : List ℕ). w ++ texts_in items) step.front
           ∙ append_assoc bytes mid.unwritten (texts_in items)
           ∙ ap (λ (w : List ℕ). bytes ++ w) rest.written
@@ -237,15 +237,15 @@ leads old new (Took it ∷ items) live (mid, step, more) =
     (subst (λ (s : PipeState). IsLive s.link) (sym step.state) live) more in
     let unwritten : mid.unwritten ≡ old.unwritten =
     ap (λ (s : PipeState). s.unwritten) step.state in
-    let lengths : lengths_of old.waiting ≡ it.awaited.len + lengths_of mid.waiting =
-    ap lengths_of step.first ∙ sum_by-cons (λ one. one.len) it.awaited mid.waiting in
-    let answered : lengths_of (it.awaited ∷ answered_in items)
-    ≡ it.awaited.len + lengths_of (answered_in items) =
-    sum_by-cons (λ one. one.len) it.awaited (answered_in items) in
+    let lengths : lengths_of old.waiting ≡ it.waiter.len + lengths_of mid.waiting =
+    ap lengths_of step.first ∙ sum_by-cons (λ one. one.len) it.waiter mid.waiting in
+    let answered : lengths_of (it.waiter ∷ answered_in items)
+    ≡ it.waiter.len + lengths_of (answered_in items) =
+    sum_by-cons (λ one. one.len) it.waiter (answered_in items) in
     let len : length mid.unwritten ≡ length old.unwritten = ap length unwritten in
     record {
-      queue = ap (λ (w : List Awaited). w ++ asked_in items) step.first
-          ∙ ap (λ (w : List Awaited). it.awaited ∷ w) rest.queue;
+      queue = ap (λ (w : List Waiter). w ++ asked_in items) step.first
+          ∙ ap (λ (w : List Waiter). it.waiter ∷ w) rest.queue;
       written = ap (λ (w : List ℕ). w ++ texts_in items) (sym unwritten) ∙ rest.written;
       read = ap (λ (w : List ℕ). w ++ read_in items) step.front
           ∙ append_assoc it.bytes mid.unread (read_in items)
@@ -278,7 +278,7 @@ leads old new (WasShut it ∷ items) live (mid, step, more) =
       answers = subst (All IsAnswer) (sym rest.took) (All-nil IsAnswer);
       asked_first = λ within.
           let answered : lengths_of (answered_in items) ≡ 0 =
-          ap (λ xs. lengths_of (map (λ one. one.awaited) xs)) rest.took in
+          ap (λ xs. lengths_of (map (λ one. one.waiter) xs)) rest.took in
           omega (arith, within, answered);
       heard = rest.heard ∙ ap (λ (s : PipeState). heard_after s.heard items) step.state;
       end = inr (record {

@@ -3,7 +3,7 @@ use Rattle.std.proofs.Common.{◌≡◌, ◌≢◌, ℕ, ◌-◌, ◌≤◌, Boo
 use Rattle.std.proofs.lemmas.Bool.{leb-true}
 use Rattle.tko_text.specs.declared.request.Request.{Request}
 use Rattle.tko_text.specs.declared.response.Response.{Response}
-use Rattle.tko_pipe.specs.declared.awaited.Awaited.{Awaited}
+use Rattle.tko_pipe.specs.declared.waiter.Waiter.{Waiter}
 use Rattle.tko_pipe.specs.declared.fates.Fate.{Fate}
 use Rattle.tko_pipe.specs.declared.fates.Fates.{Fates}
 use Rattle.tko_pipe.specs.declared.fates.ShutCause.TheVariants.{Unasked}
@@ -15,11 +15,11 @@ use Rattle.tko_pipe.specs.Fronts.{IsFront}
 use Rattle.tko_pipe.specs.Pipes.{IsLive, IsTaken, PipeState, Taking, is_asked, lengths_of, shut_by}
 
 -- where bytes are unread, the first request was written wholly
-first_written : (unread : List ℕ) (awaited : Awaited) (others : List Awaited) (unwritten : List ℕ)
-    → unread ≢ [] → is_asked unread (awaited ∷ others) unwritten ≡ true
+first_written : (unread : List ℕ) (waiter : Waiter) (others : List Waiter) (unwritten : List ℕ)
+    → unread ≢ [] → is_asked unread (waiter ∷ others) unwritten ≡ true
     → length unwritten ≤ lengths_of others
-first_written [] awaited others unwritten some asked = absurd (some refl)
-first_written (byte ∷ bytes) awaited others unwritten some asked =
+first_written [] waiter others unwritten some asked = absurd (some refl)
+first_written (byte ∷ bytes) waiter others unwritten some asked =
     leb-true (length unwritten) (lengths_of others) asked
 
 -- bytes that are left stay, or shut the connection
@@ -48,39 +48,39 @@ checked false mid link unwritten unread connected a b c =
     }
 
 -- the first that waited was answered
-pub answered : (p old : PipeState) (request : Request) (awaited : Awaited) (others : List Awaited)
+pub answered : (p old : PipeState) (request : Request) (waiter : Waiter) (others : List Waiter)
     (response : Response) (left : List ℕ) (link : Link) (unwritten unread : List ℕ)
-    → p ≡ old → p.link ≡ Connected → p.waiting ≡ awaited ∷ others → p.unread ≢ []
+    → p ≡ old → p.link ≡ Connected → p.waiting ≡ waiter ∷ others → p.unread ≢ []
     → is_asked p.unread p.waiting p.unwritten ≡ true
     → IsFront request p.unread response left
     → link ≡ (if is_asked left others p.unwritten
     then p.link else Shut (fates_of p.link Unasked))
     → unwritten ≡ (if is_asked left others p.unwritten then p.unwritten else [])
     → unread ≡ (if is_asked left others p.unwritten then left else [])
-    → IsAnswered old request awaited.by response
+    → IsAnswered old request waiter.by response
     (record p { link = link; waiting = others; unwritten = unwritten; unread = unread })
-answered p old request awaited others response left link unwritten unread same connected waiting
+answered p old request waiter others response left link unwritten unread same connected waiting
     some asked front a b c =
     let mid : PipeState = record p { waiting = others; unread = left } in
     let it : Taking = record {
-      awaited = awaited;
+      waiter = waiter;
       request = request;
       response = response;
       bytes = front.bytes;
     } in
     let new = record mid { link = link; unwritten = unwritten; unread = unread } in
-    let first_asked : is_asked p.unread (awaited ∷ others) p.unwritten ≡ true =
-    subst (λ (w : List Awaited). is_asked p.unread w p.unwritten ≡ true) waiting asked in
+    let first_asked : is_asked p.unread (waiter ∷ others) p.unwritten ≡ true =
+    subst (λ (w : List Waiter). is_asked p.unread w p.unwritten ≡ true) waiting asked in
     let taken : IsTaken p it mid = record {
       connected = connected;
       first = waiting;
-      written = first_written p.unread awaited others p.unwritten some first_asked;
+      written = first_written p.unread waiter others p.unwritten some first_asked;
       front = front.whole;
       response = front.is_response;
       state = refl;
     } in
-    let is : IsAnswered p request awaited.by response new = record {
-      awaited = awaited;
+    let is : IsAnswered p request waiter.by response new = record {
+      waiter = waiter;
       bytes = front.bytes;
       mid = mid;
       is_by = refl;
@@ -88,18 +88,18 @@ answered p old request awaited others response left link unwritten unread same c
       checked = checked (is_asked left others p.unwritten) mid link unwritten unread connected a b
           c;
     } in
-    subst (λ (s : PipeState). IsAnswered s request awaited.by response new) same is
+    subst (λ (s : PipeState). IsAnswered s request waiter.by response new) same is
 
 -- the first of those that are left leaves
-pub left_first : (p old : PipeState) (left next_fates : Fates) (awaited : Awaited)
-    (others : List Awaited) (came : Fate)
-    → p ≡ old → p.link ≡ Shut left → p.waiting ≡ awaited ∷ others
-    → came ≡ fate_at left awaited.due → next_fates ≡ record left { first = None }
-    → IsLeaving old awaited.by came (record p { waiting = others; link = Shut next_fates })
-left_first p old left next_fates awaited others came same shut waiting is_fate is_next =
-    let it : Leaving = record { awaited = awaited; came = came } in
+pub left_first : (p old : PipeState) (left next_fates : Fates) (waiter : Waiter)
+    (others : List Waiter) (came : Fate)
+    → p ≡ old → p.link ≡ Shut left → p.waiting ≡ waiter ∷ others
+    → came ≡ fate_at left waiter.due → next_fates ≡ record left { first = None }
+    → IsLeaving old waiter.by came (record p { waiting = others; link = Shut next_fates })
+left_first p old left next_fates waiter others came same shut waiting is_fate is_next =
+    let it : Leaving = record { waiter = waiter; came = came } in
     let new = record p { waiting = others; link = Shut next_fates } in
-    let is : IsLeaving p awaited.by came new = record {
+    let is : IsLeaving p waiter.by came new = record {
       it = it;
       is_by = refl;
       is_fate = refl;
@@ -111,4 +111,4 @@ left_first p old left next_fates awaited others came same shut waiting is_fate i
         state = ap (λ (l : Fates). record p { waiting = others; link = Shut l }) is_next;
       };
     } in
-    subst (λ (s : PipeState). IsLeaving s awaited.by came new) same is
+    subst (λ (s : PipeState). IsLeaving s waiter.by came new) same is

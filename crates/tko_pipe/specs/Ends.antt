@@ -4,8 +4,8 @@ use Rattle.tko_text.specs.declared.request.Request.{Request}
 use Rattle.tko_text.specs.declared.response.Response.{Response}
 use Rattle.tko_text.specs.declared.response.fault.ReadFault.TheVariants as fault
 use Rattle.tko_text.specs.Responses.{ReadsResponse}
-use Rattle.tko_pipe.specs.declared.awaited.Asker.{Asker}
-use Rattle.tko_pipe.specs.declared.awaited.Awaited.{Awaited}
+use Rattle.tko_pipe.specs.declared.waiter.Asker.{Asker}
+use Rattle.tko_pipe.specs.declared.waiter.Waiter.{Waiter}
 use Rattle.tko_pipe.specs.declared.fates.Fate.{Fate}
 use Rattle.tko_pipe.specs.declared.fates.ShutCause.{ShutCause}
 use Rattle.tko_pipe.specs.declared.fates.ShutCause.TheVariants.{EndOfInput, Fault, Silent, Late, Unreadable, Unasked, Memory}
@@ -31,12 +31,12 @@ IsChecked false mid new = IsShut mid (shutting mid Unasked) new
 -- the first that waited was answered
 pub record IsAnswered (old : PipeState) (request : Request) (by : Asker) (response : Response)
     (new : PipeState) : Type 0 where
-  pub awaited : Awaited
+  pub waiter : Waiter
   pub bytes : List ℕ
   pub mid : PipeState
-  pub is_by : by ≡ awaited.by
+  pub is_by : by ≡ waiter.by
   pub taken : IsTaken old
-      (record { awaited = awaited; request = request; response = response; bytes = bytes }) mid
+      (record { waiter = waiter; request = request; response = response; bytes = bytes }) mid
   pub checked : IsChecked (is_asked mid.unread mid.waiting mid.unwritten) mid new
 
 -- after a take: the first was answered; or its response has not come yet; or the connection was
@@ -66,7 +66,7 @@ ExpireEnds old now (Some cause) new = IsLateAt now cause × IsShut old (shutting
 -- the first of those whose connection was shut left with this fate
 pub record IsLeaving (old : PipeState) (by : Asker) (came : Fate) (new : PipeState) : Type 0 where
   pub it : Leaving
-  pub is_by : by ≡ it.awaited.by
+  pub is_by : by ≡ it.waiter.by
   pub is_fate : came ≡ it.came
   pub left : IsLeft old it new
 

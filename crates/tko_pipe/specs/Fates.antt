@@ -1,6 +1,6 @@
 -- What becomes of the requests whose responses had not come when their connection was shut.
 use Rattle.std.specs.Prelude.{ℕ, nat_le, if◌then◌else◌, Option, Some, None, List, [], ◌∷◌, map, unwrap_or}
-use Rattle.tko_pipe.specs.declared.awaited.Awaited.{Awaited}
+use Rattle.tko_pipe.specs.declared.waiter.Waiter.{Waiter}
 use Rattle.tko_pipe.specs.declared.fates.Behind.{Behind}
 use Rattle.tko_pipe.specs.declared.fates.Behind.TheVariants.{Each, LateAt}
 use Rattle.tko_pipe.specs.declared.fates.Fate.{Fate}
@@ -46,17 +46,17 @@ fate_at left due = unwrap_or left.first (fate_behind left.behind due)
 
 -- one that waited, and its fate
 pub record Leaving : Type 0 where
-  pub awaited : Awaited
+  pub waiter : Waiter
   pub came : Fate
 
 -- those that follow the first, each with its fate
-abbrev pub leaving_behind : Behind → List Awaited → List Leaving
+abbrev pub leaving_behind : Behind → List Waiter → List Leaving
 leaving_behind behind waiting =
-    map (λ it. record { awaited = it; came = fate_behind behind it.due }) waiting
+    map (λ it. record { waiter = it; came = fate_behind behind it.due }) waiting
 
 -- those that are left, in order, each with its fate
-abbrev pub leaving : Fates → List Awaited → List Leaving
+abbrev pub leaving : Fates → List Waiter → List Leaving
 leaving left [] = []
-leaving left (awaited ∷ others) =
-    record { awaited = awaited; came = fate_at left awaited.due }
+leaving left (waiter ∷ others) =
+    record { waiter = waiter; came = fate_at left waiter.due }
     ∷ leaving_behind left.behind others

@@ -3,7 +3,7 @@ use Rattle.std.specs.Prelude.{◌≡◌, ◌≤◌, ◌⊎◌, ℕ, List, [], �
 use Rattle.tko_model.specs.Records.{Gains}
 use Rattle.tko_text.specs.Requests.{request_text}
 use Rattle.tko_text.specs.Responses.{IsResponse}
-use Rattle.tko_pipe.specs.declared.awaited.Awaited.{Awaited}
+use Rattle.tko_pipe.specs.declared.waiter.Waiter.{Waiter}
 use Rattle.tko_pipe.specs.declared.link.Link.{Link}
 use Rattle.tko_pipe.specs.declared.link.Link.TheVariants.{Connecting, Connected, Shut}
 use Rattle.tko_pipe.specs.Fates.{Leaving, fates_of, leaving}
@@ -59,14 +59,14 @@ heard_after heard (Got bytes now ∷ items) = heard_after (Some now) items
 heard_after heard (_ ∷ items) = heard_after heard items
 
 -- who asked, who was answered, and who left without an answer, in order
-abbrev pub asked_in : List PipeItem → List Awaited
-asked_in items = map (λ it. it.awaited) (flat_map pushed_in items)
+abbrev pub asked_in : List PipeItem → List Waiter
+asked_in items = map (λ it. it.waiter) (flat_map pushed_in items)
 
-abbrev pub answered_in : List PipeItem → List Awaited
-answered_in items = map (λ it. it.awaited) (flat_map took_in items)
+abbrev pub answered_in : List PipeItem → List Waiter
+answered_in items = map (λ it. it.waiter) (flat_map took_in items)
 
-abbrev pub unanswered_in : List PipeItem → List Awaited
-unanswered_in items = map (λ it. it.awaited) (flat_map left_in items)
+abbrev pub unanswered_in : List PipeItem → List Waiter
+unanswered_in items = map (λ it. it.waiter) (flat_map left_in items)
 
 -- the texts of the requests, in order
 abbrev pub texts_in : List PipeItem → List ℕ
@@ -94,7 +94,7 @@ abbrev pub IsAnswer : Taking → Type 0
 IsAnswer it = IsResponse it.request it.bytes it.response
 
 -- those that a connection that was shut still leaves
-abbrev pub leaving_in : Link → List Awaited → List Leaving
+abbrev pub leaving_in : Link → List Waiter → List Leaving
 leaving_in Connecting waiting = []
 leaving_in Connected waiting = []
 leaving_in (Shut left) waiting = leaving left waiting

@@ -5,8 +5,8 @@ use Rattle.tko_text.specs.declared.request.Request.{Request}
 use Rattle.tko_text.specs.declared.response.Response.{Response}
 use Rattle.tko_text.specs.Requests.{request_text}
 use Rattle.tko_text.specs.Responses.{IsResponse}
-use Rattle.tko_pipe.specs.declared.awaited.Asker.{Asker}
-use Rattle.tko_pipe.specs.declared.awaited.Awaited.{Awaited}
+use Rattle.tko_pipe.specs.declared.waiter.Asker.{Asker}
+use Rattle.tko_pipe.specs.declared.waiter.Waiter.{Waiter}
 use Rattle.tko_pipe.specs.declared.fates.Fates.{Fates}
 use Rattle.tko_pipe.specs.declared.fates.ShutCause.{ShutCause}
 use Rattle.tko_pipe.specs.declared.fates.ShutCause.TheVariants.{Silent, Late}
@@ -19,7 +19,7 @@ use Rattle.tko_pipe.specs.Fates.{Leaving, fate_at, fates_of}
 pub record PipeState : Type 0 where
   pub limit : ℕ
   pub link : Link
-  pub waiting : List Awaited
+  pub waiting : List Waiter
   pub unwritten : List ℕ
   pub unread : List ℕ
   pub heard : Option ℕ
@@ -48,21 +48,21 @@ IsRead Connected unread = Unit {0}
 IsRead (Shut left) unread = unread ≡ []
 
 -- how long the texts of those that wait are
-abbrev pub lengths_of : List Awaited → ℕ
+abbrev pub lengths_of : List Waiter → ℕ
 lengths_of waiting = sum_by (λ it. it.len) waiting
 
 -- the first request was written wholly: what is unwritten are the texts of those that follow it
-abbrev pub is_first_written : List Awaited → List ℕ → Bool
+abbrev pub is_first_written : List Waiter → List ℕ → Bool
 is_first_written [] unwritten = false
 is_first_written (first ∷ others) unwritten = nat_le (length unwritten) (lengths_of others)
 
 -- whether somebody can have asked for these bytes
-abbrev pub is_asked : List ℕ → List Awaited → List ℕ → Bool
+abbrev pub is_asked : List ℕ → List Waiter → List ℕ → Bool
 is_asked [] waiting unwritten = true
 is_asked (byte ∷ bytes) waiting unwritten = is_first_written waiting unwritten
 
 -- the first response is late at this moment
-abbrev pub is_late : List Awaited → ℕ → Bool
+abbrev pub is_late : List Waiter → ℕ → Bool
 is_late [] now = false
 is_late (first ∷ others) now = nat_le first.due now
 
@@ -81,12 +81,12 @@ IsCause state _ = Unit {0}
 
 -- who waits, and for what
 pub record Pushing : Type 0 where
-  pub awaited : Awaited
+  pub waiter : Waiter
   pub request : Request
 
 -- who waited, the request, and the response with its bytes
 pub record Taking : Type 0 where
-  pub awaited : Awaited
+  pub waiter : Waiter
   pub request : Request
   pub response : Response
   pub bytes : List ℕ
@@ -100,7 +100,7 @@ pub record Shutting : Type 0 where
 -- an entry for this request
 abbrev pub pushing : Asker → ℕ → Request → Pushing
 pushing by due request = record {
-  awaited = record { by = by; due = due; len = length (request_text request) };
+  waiter = record { by = by; due = due; len = length (request_text request) };
   request = request;
 }
 
@@ -112,9 +112,9 @@ pub record IsConnected (old new : PipeState) : Type 0 where
 -- somebody waits behind the others, and the text of the request is to be written behind theirs
 pub record IsPushed (old : PipeState) (it : Pushing) (new : PipeState) : Type 0 where
   pub live : IsLive old.link
-  pub len : it.awaited.len ≡ length (request_text it.request)
+  pub len : it.waiter.len ≡ length (request_text it.request)
   pub state : new ≡ record old {
-    waiting = old.waiting ++ it.awaited ∷ [];
+    waiting = old.waiting ++ it.waiter ∷ [];
     unwritten = old.unwritten ++ request_text it.request;
   }
 
@@ -134,7 +134,7 @@ pub record IsGot (old : PipeState) (bytes : List ℕ) (now : ℕ) (new : PipeSta
 -- front
 pub record IsTaken (old : PipeState) (it : Taking) (new : PipeState) : Type 0 where
   pub connected : old.link ≡ Connected
-  pub first : old.waiting ≡ it.awaited ∷ new.waiting
+  pub first : old.waiting ≡ it.waiter ∷ new.waiting
   pub written : length old.unwritten ≤ lengths_of new.waiting
   pub front : old.unread ≡ it.bytes ++ new.unread
   pub response : IsResponse it.request it.bytes it.response
@@ -142,7 +142,8 @@ pub record IsTaken (old : PipeState) (it : Taking) (new : PipeState) : Type 0 wh
 
 -- the connection as this cause leaves it
 abbrev pub shut_by : PipeState → ShutCause → PipeState
-shut_by old cause = record old { link = Shut (fates_of old.link cause); unwritten = []; unread = [] }
+shut_by old cause =
+    record old { link = Shut (fates_of old.link cause); unwritten = []; unread = [] }
 
 -- what is dropped with a connection that is shut for this cause
 abbrev pub shutting : PipeState → ShutCause → Shutting
@@ -161,8 +162,8 @@ pub record IsShut (old : PipeState) (it : Shutting) (new : PipeState) : Type 0 w
 pub record IsLeft (old : PipeState) (it : Leaving) (new : PipeState) : Type 0 where
   pub left : Fates
   pub shut : old.link ≡ Shut left
-  pub first : old.waiting ≡ it.awaited ∷ new.waiting
-  pub came : it.came ≡ fate_at left it.awaited.due
+  pub first : old.waiting ≡ it.waiter ∷ new.waiting
+  pub came : it.came ≡ fate_at left it.waiter.due
   pub state : new ≡ record old {
     waiting = new.waiting;
     link = Shut (record left { first = None });

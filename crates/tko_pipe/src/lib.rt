@@ -3,22 +3,22 @@
 //!
 //! - `Pipe`: the requests that were sent on one connection, from connecting until it is shut, and
 //!   the responses to them; `Link`: how far the connection is.
-//! - `Awaited`: a response that has not come yet; `Asker`: who waits for it.
+//! - `Waiter`: one that waits for a response; `Asker`: who that is.
 //! - `ShutCause`: why a connection was shut; `Fate`: what that makes of a request.
 #![tactic(auto)]
 
-mod awaited;
 mod byte_queue;
 mod fates;
 mod law;
 mod link;
 mod pipe;
+mod waiter;
 
-pub use awaited::{Asker, Awaited};
 pub use fates::{Behind, Fate, Fates, ShutCause};
 pub use law::pipe_life;
 pub use link::Link;
 pub use pipe::Pipe;
+pub use waiter::{Asker, Waiter};
 
 #[cfg(test)]
 mod tests;

@@ -6,7 +6,7 @@ ghost use Rattle.tko_pipe.specs.Fates.{fates_of};
 ghost use Rattle.tko_pipe.specs.Pipes.{IsCause, IsConnected, IsLive, IsPushed, IsShut, IsWritten, begun, is_asked, is_first_written, is_silent, lengths_of, pushing, shutting};
 
 use crate::byte_queue::ByteQueue;
-use crate::{Asker, Awaited, Fate, Fates, Link, ShutCause};
+use crate::{Asker, Fate, Fates, Link, ShutCause, Waiter};
 use std::alloc::Global;
 use std::collections::VecDeque;
 use std::marker::Model;
@@ -24,7 +24,7 @@ pub struct Pipe {
     limit: u64,
     link: Link,
     /// Whose responses have not come, first come first.
-    waiting: VecDeque<Awaited>,
+    waiting: VecDeque<Waiter>,
     /// How long the texts of all their requests are.
     queued: usize,
     unwritten: ByteQueue,
@@ -98,7 +98,7 @@ impl Pipe {
             self.unwritten.truncate(before);
             return Err(NoMemory);
         };
-        if self.waiting.push_back(Awaited { by, due, len }).is_err() {
+        if self.waiting.push_back(Waiter { by, due, len }).is_err() {
             self.unwritten.truncate(before);
             return Err(NoMemory);
         }
@@ -142,7 +142,7 @@ impl Pipe {
     }
 
     /// Who waits for the next response, or is the next to leave.
-    pub fn first(&self) -> Option<&Awaited>
+    pub fn first(&self) -> Option<&Waiter>
         ensures { option_copied result ≡ slice_get self.now.waiting 0 }
     {
         self.waiting.front()
@@ -245,16 +245,16 @@ impl Pipe {
         let Link::Shut(fates) = self.link else {
             return None;
         };
-        let awaited = self.waiting.pop_front()?;
-        self.queued -= awaited.len;
+        let waiter = self.waiting.pop_front()?;
+        self.queued -= waiter.len;
         self.link = Link::Shut(fates.without_first());
-        Some((awaited.by, fates.fate(awaited.due)))
+        Some((waiter.by, fates.fate(waiter.due)))
     }
 }
 
 /// Whether the text of the first request was written wholly, where the texts of all requests have
 /// the one length and what is not written of them has the other.
-fn is_first_written(waiting: &VecDeque<Awaited>, queued: usize, unwritten: usize) -> bool
+fn is_first_written(waiting: &VecDeque<Waiter>, queued: usize, unwritten: usize) -> bool
     requires { queued ≡ lengths_of waiting.now.items }
     ensures { (unsent : List ℕ) → unwritten ≡ length unsent
         → result ≡ is_first_written waiting.now.items unsent }
@@ -268,7 +268,7 @@ fn is_first_written(waiting: &VecDeque<Awaited>, queued: usize, unwritten: usize
 /// Whether somebody can have asked for the bytes that are unread.
 fn is_asked(
     unread: &ByteQueue,
-    waiting: &VecDeque<Awaited>,
+    waiting: &VecDeque<Waiter>,
     queued: usize,
     unwritten: &ByteQueue,
 ) -> bool
@@ -281,7 +281,7 @@ fn is_asked(
 /// Shuts the connection if bytes are unread that nobody asked for.
 fn drop_unasked(
     link: &mut Link,
-    waiting: &VecDeque<Awaited>,
+    waiting: &VecDeque<Waiter>,
     queued: usize,
     unwritten: &mut ByteQueue,
     unread: &mut ByteQueue,

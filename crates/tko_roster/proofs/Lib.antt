@@ -1,2 +1,2 @@
-mod RosterLemmas
-mod SlotLemmas
+pub mod RosterLemmas
+pub mod SlotLemmas

@@ -7,7 +7,7 @@ use Rattle.std.proofs.lemmas.List.{get_or-set_same, get_or-set_other, length-set
 use Rattle.std.proofs.lemmas.Option.{slice_get-get_or, slice_get_within, get_or_from_slice_get}
 use Rattle.tko_roster.specs.Rosters.{Acting, IsActed, IsMoved, IsNobody, IsReleased, IsSlotCall, RosterState, session_at}
 
-get_set_same : {X : Type 0} (xs : List X) (i : ℕ) (x : X) → i < length xs
+pub get_set_same : {X : Type 0} (xs : List X) (i : ℕ) (x : X) → i < length xs
     → slice_get (slice_set xs i x) i ≡ Some x
 get_set_same xs i x below =
     let inside : i < length (slice_set xs i x) =
@@ -31,7 +31,7 @@ get_set_at {X} xs i j x (Some y) now apart before after =
     sym after ∙ slice_get-get_or (slice_set xs i x) j x inside
     ∙ ap Some (get_or-set_other xs i j x x apart ∙ get_or_from_slice_get xs j y x before)
 
-get_set_other : {X : Type 0} (xs : List X) (i j : ℕ) (x : X) → j ≢ i
+pub get_set_other : {X : Type 0} (xs : List X) (i j : ℕ) (x : X) → j ≢ i
     → slice_get (slice_set xs i x) j ≡ slice_get xs j
 get_set_other xs i j x apart =
     get_set_at xs i j x (slice_get xs j) (slice_get (slice_set xs i x) j) apart refl refl

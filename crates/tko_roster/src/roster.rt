@@ -1,5 +1,5 @@
 //! The sessions of a worker's clients, by number.
-ghost use Rattle.std.specs.Prelude.{◌≡◌, ◌<◌, None, Some, IfNone, IfOk, IfSome, OnErr, length};
+ghost use Rattle.std.specs.Prelude.{◌≡◌, ◌<◌, None, Some, IfNone, IfOk, IfSome, OnErr, length, option_copied};
 ghost use Rattle.tko_roster.specs.Rosters.{AreReady, IfHas, IsActed, IsAdmitted, IsNobody, IsReleased, IsSlotCall, nobody, session_at};
 
 use crate::Driven;
@@ -64,6 +64,16 @@ impl<P, S: Driven<P> + Drop> Roster<S, P> {
         let number = self.free.pop()?;
         match self.slots.get(number) {
             Some(None) => Some(number),
+            _ => None,
+        }
+    }
+
+    /// The session of a number, if it has one.
+    pub fn get(&self, number: usize) -> Option<&S>
+        ensures { option_copied result ≡ session_at self.now.slots number }
+    {
+        match self.slots.get(number) {
+            Some(Some(session)) => Some(session),
             _ => None,
         }
     }

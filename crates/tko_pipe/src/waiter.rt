@@ -1,4 +1,4 @@
-//! Responses that have not come yet.
+//! Those that wait for responses.
 
 /// Who waits for a response.
 #[derive(Clone, Copy, Debug, PartialEq, Eq)]
@@ -9,9 +9,9 @@ pub enum Asker {
     Probe,
 }
 
-/// A response that has not come yet.
+/// One that waits for a response.
 #[derive(Clone, Copy, Debug, PartialEq, Eq)]
-pub struct Awaited {
+pub struct Waiter {
     pub by: Asker,
     /// The moment at which it is late, in milliseconds of the caller's clock.
     pub due: u64,

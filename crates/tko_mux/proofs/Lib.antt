@@ -1,0 +1,4 @@
+mod LineLemmas
+mod LinkingLemmas
+mod MuxLemmas
+mod ReadLemmas

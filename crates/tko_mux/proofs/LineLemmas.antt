@@ -1,0 +1,168 @@
+-- Who waits on a line after each call on it.
+use Rattle.std.proofs.Common.{◌≡◌, ◌≢◌, ℕ, ◌<◌, List, [], ◌∷◌, ◌++◌, Bool, true, false, refl, sym, ap, subst, ◌∙◌, length, Option, Some, None, append_assoc, append-nil}
+use Rattle.std.specs.Prelude.{unwrap_or, slice_set}
+use Rattle.tko_pipe.specs.declared.link.Link.{Link}
+use Rattle.tko_pipe.specs.declared.link.Link.TheVariants.{Connecting, Connected, Shut}
+use Rattle.tko_pipe.specs.declared.waiter.Waiter.{Waiter}
+use Rattle.tko_pipe.specs.Pipes.{PipeState, Pushing, begun}
+use Rattle.tko_roster.proofs.SlotLemmas.{get_set_same, get_set_other}
+use Rattle.std.specs.Prelude.{Result, Ok, Err}
+use Rattle.tko_text.specs.declared.request.Request.{Request}
+use Rattle.tko_text.specs.declared.response.Response.{Response}
+use Rattle.tko_pipe.specs.declared.fates.Fate.{Fate}
+use Rattle.tko_pipe.specs.declared.fates.ShutCause.{ShutCause}
+use Rattle.tko_pipe.specs.declared.fates.ShutCause.TheVariants.{EndOfInput, Fault, Silent, Late, Unreadable, Unasked, Memory}
+use Rattle.tko_pipe.specs.declared.waiter.Asker.{Asker}
+use Rattle.tko_pipe.specs.Ends.{ExpireEnds, GotEnds, IsChecked, TakeEnds}
+use Rattle.tko_pipe.specs.Pipes.{IsShut, Shutting, is_asked}
+use Rattle.tko_roster.specs.Rosters.{RosterState}
+use Rattle.tko_mux.specs.declared.client.Client.{Client}
+use Rattle.tko_mux.specs.Lines.{IsLineLeft, IsLinePushed, IsOnLive, IsOnPipe, LineState, line_by, line_of, waiters, waiting_on}
+use Rattle.tko_mux.specs.Muxes.{ReadsFirst}
+use Rattle.tko_mux.specs.Linking.{waiters_at, waiters_on}
+
+-- those that wait on a connection wait on its line
+line_waits : (link : Link) (pipe : PipeState) → waiters (line_by link pipe) ≡ pipe.waiting
+line_waits Connecting pipe = refl
+line_waits Connected pipe = refl
+line_waits (Shut left) pipe = append-nil pipe.waiting
+
+pub line_of_waits : (pipe : PipeState) → waiters (line_of pipe) ≡ pipe.waiting
+line_of_waits pipe = line_waits pipe.link pipe
+
+begun_waits : (limit : ℕ) (pipe : Option PipeState)
+    → (unwrap_or pipe (begun limit)).waiting ≡ waiting_on pipe
+begun_waits limit None = refl
+begun_waits limit (Some it) = refl
+
+-- one more waits at the end
+pub pushed_waits : (limit : ℕ) (old new : LineState) (it : Pushing)
+    → IsLinePushed limit old it new → waiters new ≡ waiters old ++ it.waiter ∷ []
+pushed_waits limit old new it step =
+    let last : List Waiter = it.waiter ∷ [] in
+    let now : step.pipe.waiting ≡ waiting_on old.pipe ++ last =
+    ap (λ (p : PipeState). p.waiting) step.pushed.state
+    ∙ ap (λ (w : List Waiter). w ++ last) (begun_waits limit old.pipe) in
+    ap waiters step.state ∙ ap (λ (w : List Waiter). waiting_on old.ended ++ w) now
+    ∙ sym (append_assoc (waiting_on old.ended) (waiting_on old.pipe) last)
+
+-- who waits for each server, once one line was written
+pub set_waits : (lines : List LineState) (server : ℕ) (now : LineState) → server < length lines
+    → waiters_at (slice_set lines server now) server ≡ waiters now
+set_waits lines server now below = ap waiters_on (get_set_same lines server now below)
+
+pub others_wait : (lines : List LineState) (server : ℕ) (now : LineState) (other : ℕ)
+    → other ≢ server → waiters_at (slice_set lines server now) other ≡ waiters_at lines other
+others_wait lines server now other apart = ap waiters_on
+    (get_set_other lines server other now apart)
+
+-- one left at the front
+pub record OneLeaves (by : Asker) (old new : List Waiter) : Type 0 where
+  pub waiter : Waiter
+  pub is_by : by ≡ waiter.by
+  pub front : old ≡ waiter ∷ new
+
+-- who waits on a connection after a response was looked for: one less, if one came
+abbrev pub TakeLeaves : Result (Option (Asker × Response)) ShutCause → List Waiter → List Waiter
+    → Type 0
+TakeLeaves (Ok None) old new = new ≡ old
+TakeLeaves (Err cause) old new = new ≡ old
+TakeLeaves (Ok (Some taken)) old new = OneLeaves taken.0 old new
+
+checked_waits : (test : Bool) (mid new : PipeState) → IsChecked test mid new
+    → new.waiting ≡ mid.waiting
+checked_waits true mid new same = ap (λ (p : PipeState). p.waiting) same
+checked_waits false mid new shut = ap (λ (p : PipeState). p.waiting) shut.state
+
+shut_waits : (old new : PipeState) (it : Shutting) → IsShut old it new → new.waiting ≡ old.waiting
+shut_waits old new it shut = ap (λ (p : PipeState). p.waiting) shut.state
+
+take_leaves : (old new : PipeState) (request : Request)
+    (taken : Result (Option (Asker × Response)) ShutCause) → TakeEnds old request taken new
+    → TakeLeaves taken old.waiting new.waiting
+take_leaves old new request (Ok None) ends = ap (λ (p : PipeState). p.waiting) ends.0
+take_leaves old new request (Ok (Some taken)) ends = record {
+  waiter = ends.waiter;
+  is_by = ends.is_by;
+  front = ends.taken.first
+      ∙ ap (λ (w : List Waiter). ends.waiter ∷ w) (sym (checked_waits
+      (is_asked ends.mid.unread ends.mid.waiting ends.mid.unwritten) ends.mid new ends.checked));
+}
+take_leaves old new request (Err Unreadable) ends =
+    ap (λ (p : PipeState). p.waiting) ends.1.state
+take_leaves old new request (Err Memory) ends = ap (λ (p : PipeState). p.waiting) ends.state
+take_leaves old new request (Err EndOfInput) ends = absurd ends
+take_leaves old new request (Err Fault) ends = absurd ends
+take_leaves old new request (Err (Silent now)) ends = absurd ends
+take_leaves old new request (Err (Late now)) ends = absurd ends
+take_leaves old new request (Err Unasked) ends = absurd ends
+
+-- who waits on a line where nobody leaves is who waits on its connection
+none_leave : (line : LineState) (pipe : PipeState) → line.ended ≡ None → line.pipe ≡ Some pipe
+    → waiters line ≡ pipe.waiting
+none_leave line pipe none is =
+    ap (λ (p : Option PipeState). waiting_on p ++ waiting_on line.pipe) none
+    ∙ ap waiting_on is
+
+-- who waits on a line after a response was looked for there
+pub read_leaves : {S P : Type 0} (asks_for : S → Option Request)
+    (roster : RosterState (Client S) P) (first : Option Waiter) (old new : LineState)
+    (taken : Result (Option (Asker × Response)) ShutCause) → old.ended ≡ None
+    → ReadsFirst asks_for roster first old taken new
+    → TakeLeaves taken (waiters old) (waiters new)
+read_leaves asks_for roster None old new taken none reads =
+    subst (λ (it : Result (Option (Asker × Response)) ShutCause).
+    TakeLeaves it (waiters old) (waiters new)) (sym reads.0) (ap waiters reads.1)
+read_leaves asks_for roster (Some first) old new taken none reads =
+    let on = reads.on in
+    let before : on.was.waiting ≡ waiters old = sym (none_leave old on.was none on.from) in
+    let after : on.now.waiting ≡ waiters new =
+    sym (ap waiters on.to ∙ line_of_waits on.now) in
+    subst (λ (w : List Waiter). TakeLeaves taken w (waiters new)) before
+    (subst (λ (w : List Waiter). TakeLeaves taken on.was.waiting w) after
+    (take_leaves on.was on.now reads.lent taken on.ends))
+
+-- one less waits on a line once one left
+pub left_leaves : (old new : LineState) (by : Asker) (came : Fate) → IsLineLeft old by came new
+    → OneLeaves by (waiters old) (waiters new)
+left_leaves old new by came step =
+    let others : List Waiter = waiting_on old.pipe in
+    record {
+      waiter = step.left.it.waiter;
+      is_by = step.left.is_by;
+      front = ap (λ (p : Option PipeState). waiting_on p ++ others) step.from
+          ∙ ap (λ (w : List Waiter). w ++ others) step.left.left.first
+          ∙ ap (λ (w : List Waiter). step.left.it.waiter ∷ w) (sym (ap waiters step.state));
+    }
+
+-- a call that leaves all waiting
+pub live_waits : (did : PipeState → PipeState → Type 0) (old new : LineState)
+    → ((was now : PipeState) → did was now → now.waiting ≡ was.waiting)
+    → IsOnLive did old new → waiters new ≡ waiters old
+live_waits did old new keeps step =
+    ap waiters step.to
+    ∙ ap (λ (w : List Waiter). waiting_on old.ended ++ w)
+    (keeps step.was step.now step.ends ∙ sym (ap waiting_on step.from))
+
+pub pipe_waits : (did : PipeState → PipeState → Type 0) (old new : LineState)
+    → old.ended ≡ None → ((was now : PipeState) → did was now → now.waiting ≡ was.waiting)
+    → IsOnPipe did old new → waiters new ≡ waiters old
+pipe_waits did old new none keeps step =
+    ap waiters step.to ∙ line_of_waits step.now ∙ keeps step.was step.now step.ends
+    ∙ sym (none_leave old step.was none step.from)
+
+pub got_waits : (bytes : List ℕ) (now : ℕ) (result : Result Unit ShutCause) (was it : PipeState)
+    → GotEnds was bytes now result it → it.waiting ≡ was.waiting
+got_waits bytes now (Ok done) was it ends = ap (λ (p : PipeState). p.waiting) ends.state
+got_waits bytes now (Err Unasked) was it ends = ap (λ (p : PipeState). p.waiting) ends.1.state
+got_waits bytes now (Err Memory) was it ends = ap (λ (p : PipeState). p.waiting) ends.state
+got_waits bytes now (Err EndOfInput) was it ends = absurd ends
+got_waits bytes now (Err Fault) was it ends = absurd ends
+got_waits bytes now (Err (Silent at)) was it ends = absurd ends
+got_waits bytes now (Err (Late at)) was it ends = absurd ends
+got_waits bytes now (Err Unreadable) was it ends = absurd ends
+
+pub expire_waits : (now : ℕ) (result : Option ShutCause) (was it : PipeState)
+    → ExpireEnds was now result it → it.waiting ≡ was.waiting
+expire_waits now None was it ends = ap (λ (p : PipeState). p.waiting) ends.1
+expire_waits now (Some cause) was it ends = ap (λ (p : PipeState). p.waiting) ends.1.state

@@ -1,0 +1,14 @@
+use Rattle.std.proofs.Common.{rules, sym, ap, ◌∙◌}
+use Rattle.std.specs.Prelude.{option_copied}
+use Rattle.tko_mux.proofs.mux.delivery.read_for.Goals as goal
+
+pub returns : goal.returns
+returns g c = record {
+  lent = c.request.result.now;
+  is_lent = (
+    c.in-Some.client.now,
+    sym c.get.ensures ∙ ap option_copied c.in-Some.is,
+    c.request.ensures,
+  );
+  on = search rules;
+}

@@ -1,0 +1,4 @@
+pub mod Asks
+pub mod Lines
+pub mod Linking
+pub mod Muxes

@@ -1,0 +1,184 @@
+-- The sessions of a worker's clients, and the lines to the servers that they wait on.
+use Rattle.std.specs.Prelude.{◌≡◌, ℕ, List, Option, Some, None, Result, Ok, Err, slice_get, slice_set, replicate}
+use Rattle.tko_text.specs.declared.request.Request.TheVariants as request
+use Rattle.tko_text.specs.declared.request.Request.{Request}
+use Rattle.tko_text.specs.declared.response.Response.{Response}
+use Rattle.tko_pipe.specs.declared.fates.Fate.{Fate}
+use Rattle.tko_pipe.specs.declared.fates.ShutCause.{ShutCause}
+use Rattle.tko_pipe.specs.declared.waiter.Asker.{Asker}
+use Rattle.tko_pipe.specs.declared.waiter.Asker.TheVariants as asker
+use Rattle.tko_pipe.specs.declared.waiter.Waiter.{Waiter}
+use Rattle.tko_pipe.specs.Ends.{TakeEnds}
+use Rattle.tko_pipe.specs.Pipes.{pushing}
+use Rattle.tko_roster.specs.Rosters.{IsActed, RosterState, nobody, session_at}
+use Rattle.tko_mux.specs.declared.asking.Came.{Came}
+use Rattle.tko_mux.specs.declared.asking.Came.TheVariants as came
+use Rattle.tko_mux.specs.declared.asking.Given.{Given}
+use Rattle.tko_mux.specs.declared.asking.Given.TheVariants.{Outcome}
+use Rattle.tko_mux.specs.declared.client.Client.{Client}
+use Rattle.tko_mux.specs.declared.mux.delivery.Delivery.{Delivery}
+use Rattle.tko_mux.specs.declared.mux.delivery.Delivery.TheVariants.{Probed, Reached}
+use Rattle.tko_mux.specs.declared.mux.delivery.Done.{Done}
+use Rattle.tko_mux.specs.Asks.{AskingActs, IsCall, no_memory}
+use Rattle.tko_mux.specs.Lines.{IsLinePushed, IsOnPipe, LineLeaves, LineState, first_on, idle_line}
+
+-- the time limit of each connection, the sessions by number, and for each server its line
+pub record MuxState (S P : Type 0) : Type 0 where
+  pub limit : ℕ
+  pub roster : RosterState (Client S) P
+  pub lines : List LineState
+
+-- the line to one server before and after; all others stay
+pub record IsOnLine (did : LineState → LineState → Type 0) (old : List LineState) (server : ℕ)
+    (new : List LineState) : Type 0 where
+  pub was : LineState
+  pub now : LineState
+  pub from : slice_get old server ≡ Some was
+  pub ends : did was now
+  pub to : new ≡ slice_set old server now
+
+-- the number's session makes this call
+abbrev pub Calls : {S P I O : Type 0} → AskingActs S P I O → (S → Option ℕ)
+    → RosterState (Client S) P → ℕ → Given I → Option ℕ → O → RosterState (Client S) P → Type 0
+Calls acts awaited old number given asked did new =
+    IsActed (IsCall acts awaited) old number (given, (asked, did)) new
+
+-- the request of the number's session waits behind the others on this line
+pub record IsPushedFor {S P : Type 0} (asks_for : S → Option Request)
+    (roster : RosterState (Client S) P) (limit number due : ℕ) (old new : LineState) : Type 0 where
+  pub client : Client S
+  pub request : Request
+  pub here : session_at roster.slots number ≡ Some client
+  pub is_request : asks_for client.session ≡ Some request
+  pub pushed : IsLinePushed limit old (pushing (asker.Client number) due request) new
+
+-- the number's request goes out to this server
+pub record IsSent {S P : Type 0} (asks_for : S → Option Request) (old : MuxState S P) (number : ℕ)
+    (server due : ℕ) (new : MuxState S P) : Type 0 where
+  pub pushed : IsOnLine (λ was now. IsPushedFor asks_for old.roster old.limit number due was now)
+      old.lines server new.lines
+  pub kept : new.roster ≡ old.roster
+  pub limit : new.limit ≡ old.limit
+
+-- memory ran out for the number's request, which is told its session
+pub record IsStopped {S P I O : Type 0} (acts : AskingActs S P I O) (awaited : S → Option ℕ)
+    (old : MuxState S P) (number : ℕ) (did : O) (new : MuxState S P) : Type 0 where
+  pub told : Calls acts awaited old.roster number (Outcome no_memory) None did new.roster
+  pub kept : new.lines ≡ old.lines
+  pub limit : new.limit ≡ old.limit
+
+-- what is done for a session that asks: nothing if it asks nobody; else its request goes out, or
+-- memory ran out for it
+abbrev pub SendEnds : {S P I O : Type 0} → AskingActs S P I O → (S → Option ℕ)
+    → (S → Option Request) → MuxState S P → ℕ → Option ℕ → ℕ → Option O → MuxState S P → Type 0
+SendEnds acts awaited asks_for old number None due stopped new =
+    (stopped ≡ None) × (new ≡ old)
+SendEnds acts awaited asks_for old number (Some server) due None new =
+    IsSent asks_for old number server due new
+SendEnds acts awaited asks_for old number (Some server) due (Some did) new =
+    IsStopped acts awaited old number did new
+
+-- the number's session makes this call, and whom it asks gets its request
+pub record IsMade {S P I O : Type 0} (acts : AskingActs S P I O) (awaited : S → Option ℕ)
+    (asks_for : S → Option Request) (old : MuxState S P) (number : ℕ) (given : Given I) (due : ℕ)
+    (done : Done O) (new : MuxState S P) : Type 0 where
+  pub asked : Option ℕ
+  pub mid : RosterState (Client S) P
+  pub called : Calls acts awaited old.roster number given asked done.did mid
+  pub sends : SendEnds acts awaited asks_for (record old { roster = mid }) number asked due
+      done.stopped new
+
+-- what came for this one reaches it: a client's session takes it; what came for a probe is returned
+abbrev pub IsDelivered : {S P I O : Type 0} → AskingActs S P I O → (S → Option ℕ)
+    → (S → Option Request) → MuxState S P → Asker → Came → ℕ → Delivery O → MuxState S P → Type 0
+IsDelivered acts awaited asks_for old by what due (Reached number done) new =
+    (by ≡ asker.Client number)
+    × IsMade acts awaited asks_for old number (Outcome what) due done new
+IsDelivered acts awaited asks_for old by what due (Probed it) new =
+    (by ≡ asker.Probe) × (it ≡ what) × (new ≡ old)
+
+-- nobody has a number, and there is no connection to any of so many servers
+abbrev pub begun_with : {S P : Type 0} → ℕ → P → ℕ → MuxState S P
+begun_with limit parts servers = record {
+  limit = limit;
+  roster = nobody parts;
+  lines = replicate servers idle_line;
+}
+
+-- the line to a server
+abbrev pub line_at : {S P : Type 0} → MuxState S P → ℕ → Option LineState
+line_at mux server = slice_get mux.lines server
+
+-- the request that is lent to read the response to it: that of the client's session, or the one
+-- that a probe sends
+abbrev pub IsLent : {S P : Type 0} → (S → Option Request) → RosterState (Client S) P → Asker
+    → Request → Type 0
+IsLent {S} asks_for roster (asker.Client number) it =
+    (client : Client S) × (session_at roster.slots number ≡ Some client)
+    × (asks_for client.session ≡ Some it)
+IsLent asks_for roster asker.Probe it = it ≡ request.Version
+
+-- a response was looked for on this line, to the request of the one that waits for it
+pub record IsReadFor {S P : Type 0} (asks_for : S → Option Request)
+    (roster : RosterState (Client S) P) (by : Asker) (old : LineState)
+    (taken : Result (Option (Asker × Response)) ShutCause) (new : LineState) : Type 0 where
+  pub lent : Request
+  pub is_lent : IsLent asks_for roster by lent
+  pub on : IsOnPipe (λ was now. TakeEnds was lent taken now) old new
+
+-- the same of the first that waits on this line, if somebody does
+abbrev pub ReadsFirst : {S P : Type 0} → (S → Option Request) → RosterState (Client S) P
+    → Option Waiter → LineState → Result (Option (Asker × Response)) ShutCause → LineState → Type 0
+ReadsFirst asks_for roster None old taken new = (taken ≡ Ok None) × (new ≡ old)
+ReadsFirst asks_for roster (Some waiter) old taken new =
+    IsReadFor asks_for roster waiter.by old taken new
+
+abbrev pub ReadsOn : {S P : Type 0} → (S → Option Request) → RosterState (Client S) P
+    → LineState → Result (Option (Asker × Response)) ShutCause → LineState → Type 0
+ReadsOn asks_for roster old taken new =
+    ReadsFirst asks_for roster (first_on old.pipe) old taken new
+
+-- where the response that was read, if one was, goes
+abbrev pub Reaches : {S P I O : Type 0} → AskingActs S P I O → (S → Option ℕ)
+    → (S → Option Request) → MuxState S P → Result (Option (Asker × Response)) ShutCause → ℕ
+    → Result (Option (Delivery O)) ShutCause → MuxState S P → Type 0
+Reaches acts awaited asks_for mid (Ok None) due result new = (result ≡ Ok None) × (new ≡ mid)
+Reaches acts awaited asks_for mid (Err cause) due result new = (result ≡ Err cause) × (new ≡ mid)
+Reaches {S} {P} {I} {O} acts awaited asks_for mid (Ok (Some taken)) due result new =
+    (delivery : Delivery O) × (result ≡ Ok (Some delivery))
+    × IsDelivered acts awaited asks_for mid taken.0 (came.Response taken.1) due delivery new
+
+-- a response of this server was looked for, to the first that waits for one, and reaches that
+pub record IsRead {S P I O : Type 0} (acts : AskingActs S P I O) (awaited : S → Option ℕ)
+    (asks_for : S → Option Request) (old : MuxState S P) (server due : ℕ)
+    (result : Result (Option (Delivery O)) ShutCause) (new : MuxState S P) : Type 0 where
+  pub taken : Result (Option (Asker × Response)) ShutCause
+  pub lines : List LineState
+  pub on : IsOnLine (λ was now. ReadsOn asks_for old.roster was taken now) old.lines server lines
+  pub reaches : Reaches acts awaited asks_for (record old { lines = lines }) taken due result new
+
+-- the next of those that waited on a connection to this server that was shut is told what became of
+-- its request
+pub record IsTold {S P I O : Type 0} (acts : AskingActs S P I O) (awaited : S → Option ℕ)
+    (asks_for : S → Option Request) (old : MuxState S P) (server due : ℕ) (delivery : Delivery O)
+    (new : MuxState S P) : Type 0 where
+  pub by : Asker
+  pub fate : Fate
+  pub lines : List LineState
+  pub on : IsOnLine (λ was now. LineLeaves was (Some (by, fate)) now) old.lines server lines
+  pub reaches : IsDelivered acts awaited asks_for (record old { lines = lines }) by
+      (came.Fate fate) due delivery new
+
+-- the next that leaves is told, or nobody waits on a connection that was shut
+abbrev pub LeaveEnds : {S P I O : Type 0} → AskingActs S P I O → (S → Option ℕ)
+    → (S → Option Request) → MuxState S P → ℕ → ℕ → Option (Delivery O) → MuxState S P → Type 0
+LeaveEnds acts awaited asks_for old server due None new =
+    IsOnLine (λ was now. LineLeaves was None now) old.lines server new.lines
+    × (new.roster ≡ old.roster) × (new.limit ≡ old.limit)
+LeaveEnds acts awaited asks_for old server due (Some delivery) new =
+    IsTold acts awaited asks_for old server due delivery new
+
+-- nobody is left that waited on a connection to the server that was shut
+abbrev pub HasNoneLeaving : Option LineState → Type 0
+HasNoneLeaving None = Unit {0}
+HasNoneLeaving (Some line) = line.ended ≡ None

@@ -1,0 +1,240 @@
+//! The sessions of a worker's clients, and the lines to the servers that they wait on.
+ghost use Rattle.std.specs.Prelude.{◌≡◌, ◌<◌, None, Some, IfNone, IfSome, IsSome, IfOk, OnErr, OnOk, length, replicate};
+ghost use Rattle.std.specs.Bool.{OnFalse, OnTrue};
+ghost use Rattle.tko_pipe.specs.Pipes.{pushing};
+ghost use Rattle.tko_roster.specs.Rosters.{AreReady, IfHas, IsAdmitted, IsReleased, session_at};
+ghost use Rattle.tko_mux.specs.Lines.{IsLinePushed, idle_line};
+ghost use Rattle.tko_mux.specs.Linking.{AreLinked, IsAsker, IsKept, IsLoose, awaited_at, waiters_at};
+ghost use Rattle.tko_mux.specs.Muxes.{IsMade, IsOnLine, IsPushedFor, IsSent, IsStopped, SendEnds, begun_with};
+
+mod delivery;
+mod wire;
+
+use crate::{Asking, Came, Client, Given, Line};
+pub use delivery::{Delivery, Done};
+use std::alloc::Global;
+use std::marker::Model;
+use tko_bytes::NoMemory;
+use tko_model::{Clear, Duty};
+use tko_pipe::{Asker, Fate};
+use tko_roster::{Driven, Roster};
+use tko_text::Request;
+
+/// The sessions by number, and for each server the connections that their requests go out on.
+#[derive(Drop)]
+pub struct Mux<S, P> {
+    /// How long a response may take, in milliseconds.
+    limit: u64,
+    roster: Roster<Client<S>, P>,
+    lines: Vec<Line>,
+}
+
+impl<S, P> Model for Mux<S, P> {
+    ghost use Rattle.tko_mux.specs.Muxes.{MuxState};
+
+    ghost Value = { MuxState S P };
+
+    ghost view = { λ m. record { limit = m.limit; roster = m.roster; lines = m.lines.items } };
+}
+
+impl<P: Drop, S: Asking<P> + Drop> Mux<S, P> {
+    /// Nobody has a number, and there is no connection to any of so many servers.
+    pub fn new(alloc: Global, parts: P, servers: usize, limit: u64) -> Result<Mux<S, P>, NoMemory>
+        ensures state { IfOk result (λ mux. mux ≡ begun_with limit parts servers) }
+        ensures ready { IfOk result (λ mux. AreReady ⟦<Client<S> as Driven<P>>⟧.ready mux.roster) }
+        ensures linked { IfOk result (λ mux. AreLinked S.awaited mux.roster.slots mux.lines) }
+    {
+        Ok(Mux {
+            limit,
+            roster: Roster::new(alloc, parts),
+            lines: idle_lines(alloc, servers)?,
+        })
+    }
+}
+
+impl<P, S: Asking<P> + Drop> Mux<S, P> {
+    /// Gives a session a number that no other has. Without memory for it, the session is dropped.
+    pub fn open(&mut self, session: S) -> Result<usize, NoMemory>
+        requires idle { S.awaited session ≡ None }
+        requires session { S.ready self.old.roster.parts session }
+        requires ready { AreReady ⟦<Client<S> as Driven<P>>⟧.ready self.old.roster }
+        requires linked { AreLinked S.awaited self.old.roster.slots self.old.lines }
+        ensures ok { IfOk result (λ number.
+            IsAdmitted self.old.roster number (record { session = session }) self.new.roster) }
+        ensures err { OnErr result (self.new ≡ self.old) }
+        ensures lines { self.new.lines ≡ self.old.lines }
+        ensures ready { AreReady ⟦<Client<S> as Driven<P>>⟧.ready self.new.roster }
+        ensures linked { AreLinked S.awaited self.new.roster.slots self.new.lines }
+    {
+        self.roster.admit(Client { session })
+    }
+
+    /// Takes the number from its session, unless a request of it is under way: then the session
+    /// keeps its number, and takes what comes of that.
+    pub fn close(&mut self, number: usize) -> Option<S>
+        requires ready { AreReady ⟦<Client<S> as Driven<P>>⟧.ready self.old.roster }
+        requires linked { AreLinked S.awaited self.old.roster.slots self.old.lines }
+        ensures some { IfSome result (λ session. IsReleased ⟦<Client<S> as Driven<P>>⟧.awaited
+            self.old.roster number (record { session = session }) self.new.roster) }
+        ensures none { IfNone result ((self.new ≡ self.old)
+            × IsKept S.awaited self.old.roster.slots number) }
+        ensures lines { self.new.lines ≡ self.old.lines }
+        ensures ready { AreReady ⟦<Client<S> as Driven<P>>⟧.ready self.new.roster }
+        ensures linked { AreLinked S.awaited self.new.roster.slots self.new.lines }
+    {
+        if !self.is_idle(number) {
+            return None;
+        }
+        Some(self.roster.release(number)?.session)
+    }
+
+    /// Whether the number has a session, and no request of it is under way.
+    pub fn is_idle(&self, number: usize) -> bool
+        ensures idle { OnTrue result (awaited_at S.awaited self.now.roster.slots number ≡ None) }
+        ensures not { OnFalse result (IsKept S.awaited self.now.roster.slots number) }
+    {
+        match self.roster.get(number) {
+            Some(client) => client.session.awaited().is_none(),
+            None => false,
+        }
+    }
+
+    /// Makes one call of the number's session, if it has one. If that asks a server, the response
+    /// is due at this moment.
+    pub fn act(
+        &mut self,
+        alloc: Global,
+        number: usize,
+        input: S::Input,
+        due: u64,
+    ) -> Option<Done<S::Output>>
+        requires ready { AreReady ⟦<Client<S> as Driven<P>>⟧.ready self.old.roster }
+        requires linked { AreLinked S.awaited self.old.roster.slots self.old.lines }
+        requires may { IfHas self.old.roster.slots number (λ client. S.may client.session input) }
+        ensures some { IfSome result (λ done. IsMade S.acts S.awaited S.asks_for self.old number
+            (Given.Input input) due done self.new) }
+        ensures none { IfNone result (session_at self.old.roster.slots number ≡ None) }
+        ensures kept { IfNone result (self.new ≡ self.old) }
+        ensures ready { AreReady ⟦<Client<S> as Driven<P>>⟧.ready self.new.roster }
+        ensures linked { AreLinked S.awaited self.new.roster.slots self.new.lines }
+    {
+        let (asked, did) = self.roster.act(number, Given::Input(input))?;
+        let stopped = self.send(alloc, number, asked, due);
+        Some(Done { did, stopped })
+    }
+
+    /// A probe of a server is to be sent, whose response is due at this moment.
+    pub fn probe(&mut self, alloc: Global, duty: Duty, due: u64) -> Result<(), NoMemory>
+        requires server { duty < length self.old.lines }
+        requires linked { AreLinked S.awaited self.old.roster.slots self.old.lines }
+        ensures ok { OnOk result (IsOnLine (λ was it. IsLinePushed self.old.limit was
+            (pushing Asker.Probe due Request.Version) it) self.old.lines duty self.new.lines) }
+        ensures err { OnErr result (self.new ≡ self.old) }
+        ensures roster { self.new.roster ≡ self.old.roster }
+        ensures linked { AreLinked S.awaited self.new.roster.slots self.new.lines }
+    {
+        let line = &mut self.lines[duty.server()];
+        line.push(alloc, self.limit, Asker::Probe, due, &Request::Version)
+    }
+
+    /// Sends the request of a session that asks a server, if it does. Without memory for that its
+    /// session is told, and what that did is returned.
+    fn send(
+        &mut self,
+        alloc: Global,
+        number: usize,
+        asked: Option<Clear>,
+        due: u64,
+    ) -> Option<S::Output>
+        requires asked { IsAsker (awaited_at S.awaited self.old.roster.slots)
+            (waiters_at self.old.lines) number asked }
+        requires ready { AreReady ⟦<Client<S> as Driven<P>>⟧.ready self.old.roster }
+        ensures ends { SendEnds S.acts S.awaited S.asks_for self.old number asked due result
+            self.new }
+        ensures ready { AreReady ⟦<Client<S> as Driven<P>>⟧.ready self.new.roster }
+        ensures linked { AreLinked S.awaited self.new.roster.slots self.new.lines }
+    {
+        let clear = asked?;
+        if self.push(alloc, number, clear, due) {
+            return None;
+        }
+        Some(self.stop(number))
+    }
+
+    /// Puts the request of a session that awaits this server on its line, and returns whether that
+    /// was possible.
+    fn push(&mut self, alloc: Global, number: usize, clear: Clear, due: u64) -> bool
+        requires awaits { awaited_at S.awaited self.old.roster.slots number ≡ Some clear }
+        requires loose { IsLoose (awaited_at S.awaited self.old.roster.slots)
+            (waiters_at self.old.lines) number }
+        ensures sent { OnTrue result (IsSent S.asks_for self.old number clear due self.new) }
+        ensures linked { OnTrue result (AreLinked S.awaited self.new.roster.slots self.new.lines) }
+        ensures not { OnFalse result (self.new ≡ self.old) }
+        ensures roster { self.new.roster ≡ self.old.roster }
+    {
+        let server = clear.server();
+        if server >= self.lines.len() {
+            return false;
+        }
+        push_for(
+            &self.roster,
+            &mut self.lines[server],
+            alloc,
+            self.limit,
+            number,
+            due,
+        )
+    }
+
+    /// The session of a client that waits for none is told that memory ran out for its request.
+    fn stop(&mut self, number: usize) -> S::Output
+        requires awaits { IsSome (awaited_at S.awaited self.old.roster.slots number) }
+        requires loose { IsLoose (awaited_at S.awaited self.old.roster.slots)
+            (waiters_at self.old.lines) number }
+        requires ready { AreReady ⟦<Client<S> as Driven<P>>⟧.ready self.old.roster }
+        ensures stopped { IsStopped S.acts S.awaited self.old number result self.new }
+        ensures ready { AreReady ⟦<Client<S> as Driven<P>>⟧.ready self.new.roster }
+        ensures linked { AreLinked S.awaited self.new.roster.slots self.new.lines }
+    {
+        let lost = Came::Fate(Fate::Memory);
+        let Some((_, did)) = self.roster.act(number, Given::Outcome(lost)) else {
+            unreachable!();
+        };
+        did
+    }
+}
+
+/// Puts the request of the number's session on a line, and returns whether that was possible.
+fn push_for<P, S: Asking<P> + Drop>(
+    roster: &Roster<Client<S>, P>,
+    line: &mut Line,
+    alloc: Global,
+    limit: u64,
+    number: usize,
+    due: u64,
+) -> bool
+    requires { IsSome (awaited_at S.awaited roster.now.slots number) }
+    ensures pushed { OnTrue result
+        (IsPushedFor S.asks_for roster.now limit number due line.old line.new) }
+    ensures not { OnFalse result (line.new ≡ line.old) }
+{
+    let Some(client) = roster.get(number) else {
+        return false;
+    };
+    let request = client.session.request();
+    match line.push(alloc, limit, Asker::Client(number), due, request) {
+        Ok(()) => true,
+        Err(_) => false,
+    }
+}
+
+/// Lines on which there is no connection.
+fn idle_lines(alloc: Global, count: usize) -> Result<Vec<Line>, NoMemory>
+    ensures { IfOk result (λ lines. lines.items ≡ replicate count idle_line) }
+{
+    let mut lines = Vec::new(alloc);
+    for _ in 0..count {
+        lines.push(Line::new())?;
+    }
+    Ok(lines)
+}

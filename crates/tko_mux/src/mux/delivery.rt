@@ -1,0 +1,148 @@
+//! Who gets what a server answered, or what became of a request without an answer.
+ghost use Rattle.std.specs.Prelude.{◌≡◌, ◌<◌, None, Some, IfNone, IsSome, length};
+ghost use Rattle.tko_roster.specs.Rosters.{AreReady};
+ghost use Rattle.tko_mux.specs.Lines.{first_on};
+ghost use Rattle.tko_mux.specs.Linking.{AreLinked, AwaitsFirst, IsFree, IsLoose, awaited_at, waiters_at};
+ghost use Rattle.tko_mux.specs.Muxes.{HasNoneLeaving, IsDelivered, IsMade, IsRead, IsReadFor, LeaveEnds, ReadsOn, line_at};
+
+use crate::{Asking, Came, Client, Given, Line, Mux};
+use std::alloc::Global;
+use tko_pipe::{Asker, ShutCause};
+use tko_roster::{Driven, Roster};
+use tko_text::{Request, Response};
+
+/// What a session did.
+#[derive(Debug, Drop)]
+pub struct Done<O> {
+    pub did: O,
+    /// What it did where its request could not be sent for want of memory.
+    pub stopped: Option<O>,
+}
+
+/// Who got what came.
+#[derive(Debug, Drop)]
+pub enum Delivery<O> {
+    /// The session of this number, which did this.
+    Reached(usize, Done<O>),
+    /// This came for a probe.
+    Probed(Came),
+}
+
+impl<P, S: Asking<P> + Drop> Mux<S, P> {
+    /// Reads the next response of a server, as soon as all of it came, and gives it to the session
+    /// that awaits it. If that asks a server, the response is due at this moment. An `Err` says why
+    /// this shut the connection.
+    pub fn take(
+        &mut self,
+        alloc: Global,
+        server: usize,
+        due: u64,
+    ) -> Result<Option<Delivery<S::Output>>, ShutCause>
+        requires server { server < length self.old.lines }
+        requires left { HasNoneLeaving (line_at self.old server) }
+        requires ready { AreReady ⟦<Client<S> as Driven<P>>⟧.ready self.old.roster }
+        requires linked { AreLinked S.awaited self.old.roster.slots self.old.lines }
+        ensures read { IsRead S.acts S.awaited S.asks_for self.old server due result self.new }
+        ensures ready { AreReady ⟦<Client<S> as Driven<P>>⟧.ready self.new.roster }
+        ensures linked { AreLinked S.awaited self.new.roster.slots self.new.lines }
+    {
+        match read_first(&self.roster, &mut self.lines[server], alloc) {
+            Ok(Some((by, response))) => {
+                Ok(Some(self.deliver(alloc, by, Came::Response(response), due)))
+            }
+            Ok(None) => Ok(None),
+            Err(cause) => Err(cause),
+        }
+    }
+
+    /// The next of those that waited on a connection to this server that was shut is told what
+    /// became of its request, as long as there is one.
+    pub fn leave(&mut self, alloc: Global, server: usize, due: u64) -> Option<Delivery<S::Output>>
+        requires server { server < length self.old.lines }
+        requires ready { AreReady ⟦<Client<S> as Driven<P>>⟧.ready self.old.roster }
+        requires linked { AreLinked S.awaited self.old.roster.slots self.old.lines }
+        ensures left { LeaveEnds S.acts S.awaited S.asks_for self.old server due result self.new }
+        ensures none { IfNone result (HasNoneLeaving (line_at self.new server)) }
+        ensures ready { AreReady ⟦<Client<S> as Driven<P>>⟧.ready self.new.roster }
+        ensures linked { AreLinked S.awaited self.new.roster.slots self.new.lines }
+    {
+        match self.lines[server].leave() {
+            Some((by, fate)) => Some(self.deliver(alloc, by, Came::Fate(fate), due)),
+            None => None,
+        }
+    }
+
+    /// What came for the first that waited, who waits for none now, reaches it.
+    fn deliver(&mut self, alloc: Global, by: Asker, came: Came, due: u64) -> Delivery<S::Output>
+        requires free { IsFree (awaited_at S.awaited self.old.roster.slots)
+            (waiters_at self.old.lines) by }
+        requires ready { AreReady ⟦<Client<S> as Driven<P>>⟧.ready self.old.roster }
+        ensures delivered { IsDelivered S.acts S.awaited S.asks_for self.old by came due result
+            self.new }
+        ensures ready { AreReady ⟦<Client<S> as Driven<P>>⟧.ready self.new.roster }
+        ensures linked { AreLinked S.awaited self.new.roster.slots self.new.lines }
+    {
+        match by {
+            Asker::Client(number) => {
+                Delivery::Reached(number, self.give(alloc, number, came, due))
+            }
+            Asker::Probe => Delivery::Probed(came),
+        }
+    }
+
+    /// The session of a client that waits for none takes what came of its request.
+    fn give(&mut self, alloc: Global, number: usize, came: Came, due: u64) -> Done<S::Output>
+        requires awaits { IsSome (awaited_at S.awaited self.old.roster.slots number) }
+        requires loose { IsLoose (awaited_at S.awaited self.old.roster.slots)
+            (waiters_at self.old.lines) number }
+        requires ready { AreReady ⟦<Client<S> as Driven<P>>⟧.ready self.old.roster }
+        ensures made { IsMade S.acts S.awaited S.asks_for self.old number (Given.Outcome came) due
+            result self.new }
+        ensures ready { AreReady ⟦<Client<S> as Driven<P>>⟧.ready self.new.roster }
+        ensures linked { AreLinked S.awaited self.new.roster.slots self.new.lines }
+    {
+        let Some((asked, did)) = self.roster.act(number, Given::Outcome(came)) else {
+            unreachable!();
+        };
+        let stopped = self.send(alloc, number, asked, due);
+        Done { did, stopped }
+    }
+}
+
+/// Takes the next response on a line, if somebody waits for one there.
+fn read_first<P, S: Asking<P> + Drop>(
+    roster: &Roster<Client<S>, P>,
+    line: &mut Line,
+    alloc: Global,
+) -> Result<Option<(Asker, Response)>, ShutCause>
+    requires awaits { AwaitsFirst (awaited_at S.awaited roster.now.slots)
+        (first_on line.old.pipe) }
+    requires left { line.old.ended ≡ None }
+    ensures { ReadsOn S.asks_for roster.now line.old result line.new }
+{
+    let Some(waiter) = line.first() else {
+        return Ok(None);
+    };
+    match waiter.by {
+        Asker::Client(number) => read_for(roster, line, alloc, number),
+        Asker::Probe => line.take(alloc, &Request::Version),
+    }
+}
+
+/// The same, where this client waits for it.
+fn read_for<P, S: Asking<P> + Drop>(
+    roster: &Roster<Client<S>, P>,
+    line: &mut Line,
+    alloc: Global,
+    number: usize,
+) -> Result<Option<(Asker, Response)>, ShutCause>
+    requires awaits { IsSome (awaited_at S.awaited roster.now.slots number) }
+    requires pipe { IsSome line.old.pipe }
+    requires left { line.old.ended ≡ None }
+    ensures { IsReadFor S.asks_for roster.now (Asker.Client number) line.old result line.new }
+{
+    let Some(client) = roster.get(number) else {
+        unreachable!();
+    };
+    line.take(alloc, client.session.request())
+}

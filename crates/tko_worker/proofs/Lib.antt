@@ -1,0 +1,3 @@
+mod PortLemmas
+mod ReachLemmas
+mod RestLemmas

@@ -1,0 +1,16 @@
+use Rattle.std.proofs.Common.{◌≡◌, ◌+◌, length}
+use Rattle.tko_roster.specs.Rosters.{AreReady}
+use Rattle.tko_mux.specs.Linking.{AreLinked}
+use Rattle.tko_worker.specs.Workers.{NobodyForgotten}
+use Rattle.tko_worker.proofs.worker.Worker.end_turn.Given as goal
+
+abbrev pub invariant-loop : goal.invariant-loop
+invariant-loop g l = record {
+  ready : AreReady (λ shared client. g.T.Talking.ready shared.parts client.session.talk)
+      l.self-inside.mux.roster;
+  linked : AreLinked (λ guest. g.T.Talking.awaited guest.talk) l.self-inside.mux.roster.slots
+      l.self-inside.mux.lines;
+  nobody : NobodyForgotten (g.T.Talking.awaited, g.T.Talking.talk, g.L.Port.port)
+      l.self-inside.mux.roster.slots l.self-inside.touched.items l.self-inside.spent.items;
+  left : length l.self-inside.touched.items + l.counter ≡ l.end;
+}

@@ -1,0 +1,18 @@
+use Rattle.std.proofs.Common.{subst, sym}
+use Rattle.tko_worker.specs.Workers.{NobodyForgotten, WorkerState}
+use Rattle.tko_worker.proofs.ReachLemmas.{leave_others, one_reached}
+use Rattle.tko_worker.proofs.worker.Worker.leave.Goals as goal
+
+pub returns-in-Some-clause-nobody : goal.returns-in-Some-clause-nobody
+returns-in-Some-clause-nobody g c =
+    one_reached (g.T.Talking.awaited, g.T.Talking.talk, g.L.Port.port)
+    c.self.inside.mux.roster.slots c.leave.new.self.roster.slots
+    c.list_reached.new.mux.roster.slots c.in-Some.delivery c.self.inside.touched.items
+    c.list_reached.new.numbers.items c.self.inside.spent.items
+    (subst (λ (w : WorkerState _ _ _). NobodyForgotten
+    (g.T.Talking.awaited, g.T.Talking.talk, g.L.Port.port) w.mux.roster.slots w.touched w.spent)
+    (sym c.self.view_is) c.requires.nobody)
+    (leave_others (g.T.Talking.awaited, g.T.Talking.talk, g.L.Port.port)
+    (λ guest. g.T.Talking.asks_for guest.talk) c.self.inside.mux c.leave.new.self c.args.server
+    c.args.due c.in-Some.delivery c.leave.result c.leave.ensures.left c.in-Some.is)
+    c.list_reached.ensures.others c.list_reached.ensures.listed

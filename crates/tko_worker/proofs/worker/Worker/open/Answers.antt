@@ -1,0 +1,17 @@
+use Rattle.std.proofs.Common.{rules, subst, sym}
+use Rattle.tko_worker.specs.Workers.{NobodyForgotten, WorkerState}
+use Rattle.tko_worker.proofs.RestLemmas.{admitted_others, one_listed}
+use Rattle.tko_worker.proofs.worker.Worker.open.Goals as goal
+
+pub returns-clause-nobody : goal.returns-clause-nobody
+returns-clause-nobody g c =
+    one_listed (g.T.Talking.awaited, g.T.Talking.talk, g.L.Port.port)
+    c.self.inside.mux.roster.slots c.open.new.self.roster.slots
+    c.list.new.mux.roster.slots c.in_ok-number.number c.self.inside.touched.items
+    c.list.new.numbers.items c.self.inside.spent.items
+    (subst (λ (w : WorkerState _ _ _). NobodyForgotten
+    (g.T.Talking.awaited, g.T.Talking.talk, g.L.Port.port) w.mux.roster.slots w.touched w.spent)
+    (sym c.self.view_is) c.requires.nobody)
+    (admitted_others c.self.inside.mux.roster c.open.new.self.roster c.in_ok-number.number
+    (record { session = record { port = c.args.port; talk = c.args.talk } }) (search rules))
+    c.list.ensures.others c.list.ensures.listed

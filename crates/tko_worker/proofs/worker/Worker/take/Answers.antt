@@ -1,0 +1,41 @@
+use Rattle.std.proofs.Common.{rules, ◌≡◌, ◌∙◌, None, Some, Ok, subst, sym}
+use Rattle.tko_worker.specs.Workers.{NobodyForgotten, WorkerState}
+use Rattle.tko_worker.proofs.ReachLemmas.{one_reached, take_others, unread_nobody}
+use Rattle.tko_worker.proofs.worker.Worker.take.Goals as goal
+
+pub returns-in-Ok-Some-clause-nobody : goal.returns-in-Ok-Some-clause-nobody
+returns-in-Ok-Some-clause-nobody g c =
+    one_reached (g.T.Talking.awaited, g.T.Talking.talk, g.L.Port.port)
+    c.self.inside.mux.roster.slots c.take.new.self.roster.slots
+    c.list_reached.new.mux.roster.slots c.in-Ok-Some.delivery c.self.inside.touched.items
+    c.list_reached.new.numbers.items c.self.inside.spent.items
+    (subst (λ (w : WorkerState _ _ _). NobodyForgotten
+    (g.T.Talking.awaited, g.T.Talking.talk, g.L.Port.port) w.mux.roster.slots w.touched w.spent)
+    (sym c.self.view_is) c.requires.nobody)
+    (take_others (g.T.Talking.awaited, g.T.Talking.talk, g.L.Port.port)
+    (λ guest. g.T.Talking.asks_for guest.talk) c.self.inside.mux c.take.new.self c.args.server
+    c.args.due c.in-Ok-Some.delivery c.take.result c.take.ensures.read (search rules))
+    c.list_reached.ensures.others c.list_reached.ensures.listed
+
+pub returns-in-Ok-None-clause-nobody : goal.returns-in-Ok-None-clause-nobody
+returns-in-Ok-None-clause-nobody g c =
+    unread_nobody (g.T.Talking.awaited, g.T.Talking.talk, g.L.Port.port)
+    (λ guest. g.T.Talking.asks_for guest.talk) c.self.inside.mux c.take.new.self c.args.server
+    c.args.due c.self.inside.touched.items c.self.inside.spent.items c.take.result
+    c.take.ensures.read
+    (λ delivery is. let none : c.take.result ≡ Ok None = search rules in
+    let both : Ok None ≡ Ok (Some delivery) = sym none ∙ is in let f : ⊥ = cc both in f)
+    (subst (λ (w : WorkerState _ _ _). NobodyForgotten
+    (g.T.Talking.awaited, g.T.Talking.talk, g.L.Port.port) w.mux.roster.slots w.touched w.spent)
+    (sym c.self.view_is) c.requires.nobody)
+
+pub returns-in-Err-clause-nobody : goal.returns-in-Err-clause-nobody
+returns-in-Err-clause-nobody g c =
+    unread_nobody (g.T.Talking.awaited, g.T.Talking.talk, g.L.Port.port)
+    (λ guest. g.T.Talking.asks_for guest.talk) c.self.inside.mux c.take.new.self c.args.server
+    c.args.due c.self.inside.touched.items c.self.inside.spent.items c.take.result
+    c.take.ensures.read
+    (λ delivery is. let both = sym c.in-Err.is ∙ is in let f : ⊥ = cc both in f)
+    (subst (λ (w : WorkerState _ _ _). NobodyForgotten
+    (g.T.Talking.awaited, g.T.Talking.talk, g.L.Port.port) w.mux.roster.slots w.touched w.spent)
+    (sym c.self.view_is) c.requires.nobody)

@@ -1,0 +1,75 @@
+-- A client, its port and its session together, as it is called.
+use Rattle.std.specs.Prelude.{◌≡◌, ℕ, [], Option, None, IsSome}
+use Rattle.tko_mux.specs.declared.asking.Given.{Given}
+use Rattle.tko_mux.specs.declared.asking.Given.TheVariants.{Input, Outcome}
+use Rattle.tko_worker.specs.declared.guest.Event.{Event}
+use Rattle.tko_worker.specs.declared.guest.Event.TheVariants.{Readable, Serve, Writable}
+use Rattle.tko_worker.specs.declared.guest.Guest.{Guest}
+use Rattle.tko_worker.specs.declared.guest.Shared.{Shared}
+use Rattle.tko_worker.specs.declared.guest.Turned.{Turned}
+use Rattle.tko_worker.specs.declared.guest.Turned.TheVariants.{Asks, Ends, Noted, Rests, Spent, Took}
+use Rattle.tko_worker.specs.declared.settling.End.TheVariants.{Finished, Memory, ReadFault, WriteFault}
+use Rattle.tko_worker.specs.declared.talking.Stage.TheVariants.{Over}
+use Rattle.tko_worker.specs.Ports.{PortState, now_readable, now_writable}
+use Rattle.tko_worker.specs.Rests.{AtRest, RestsAt}
+use Rattle.tko_worker.specs.Talks.{Talk}
+
+-- it can be served only while no request of it is under way; an event can always be noted
+abbrev pub MayServe : Event → Option ℕ → Type 0
+MayServe Readable awaited = Unit {0}
+MayServe Writable awaited = Unit {0}
+MayServe Serve awaited = awaited ≡ None
+
+-- it asks a server exactly if it says so
+abbrev pub AsksIf : Turned → Option ℕ → Type 0
+AsksIf Asks asked = IsSome asked
+AsksIf Rests asked = asked ≡ None
+AsksIf Spent asked = asked ≡ None
+AsksIf (Ends why) asked = asked ≡ None
+AsksIf Noted asked = asked ≡ None
+AsksIf Took asked = Unit {0}
+
+-- what serving it came to
+abbrev pub ServedAs : Turned → Talk → PortState → Type 0
+ServedAs Asks talk port = Unit {0}
+ServedAs Rests talk port = RestsAt talk.stage talk.output port
+ServedAs Spent talk port = Unit {0}
+ServedAs (Ends Finished) talk port = (talk.stage ≡ Over) × (talk.output ≡ [])
+ServedAs (Ends Memory) talk port = Unit {0}
+ServedAs (Ends ReadFault) talk port = Unit {0}
+ServedAs (Ends WriteFault) talk port = Unit {0}
+ServedAs Noted talk port = ⊥
+ServedAs Took talk port = ⊥
+
+-- a client as it is seen: whom it awaits, its session and its port
+pub record Seen : Type 0 where
+  pub awaited : Option ℕ
+  pub talk : Talk
+  pub port : PortState
+
+abbrev pub seen : {L T : Type 0} → (T → Option ℕ) → (T → Talk) → (L → PortState) → Guest L T → Seen
+seen awaited talk port guest = record {
+  awaited = awaited guest.talk;
+  talk = talk guest.talk;
+  port = port guest.port;
+}
+
+-- what a call does to it: an event is noted at its port, and its session stays; or it is served; or
+-- its session takes what came, and its port stays
+abbrev pub GuestDoes : Given Event → Option ℕ → Turned → Seen → Seen → Type 0
+GuestDoes (Input Readable) asked did old new =
+    (did ≡ Noted) × (new ≡ record old { port = now_readable old.port })
+GuestDoes (Input Writable) asked did old new =
+    (did ≡ Noted) × (new ≡ record old { port = now_writable old.port })
+GuestDoes (Input Serve) asked did old new = ServedAs did new.talk new.port × AsksIf did asked
+GuestDoes (Outcome came) asked did old new = (did ≡ Took) × (new.port ≡ old.port)
+
+pub record IsGuestCall {L T P : Type 0} (awaited : T → Option ℕ) (talk : T → Talk)
+    (port : L → PortState) (old : Guest L T × Shared P) (call : Given Event × (Option ℕ × Turned))
+    (new : Guest L T × Shared P) : Type 0 where
+  pub did : GuestDoes call.0 call.1.0 call.1.1 (seen awaited talk port old.0)
+      (seen awaited talk port new.0)
+
+-- nothing can be done for a client before its next event
+abbrev pub IsResting : Seen → Type 0
+IsResting it = AtRest it.awaited it.talk it.port

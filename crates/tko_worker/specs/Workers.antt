@@ -1,0 +1,94 @@
+-- A worker: who rests, and who is to be served.
+use Rattle.std.specs.Prelude.{◌≡◌, ◌≢◌, ◌⊎◌, ℕ, List, [], ◌∷◌, ◌++◌, Option, Some, None}
+use Rattle.tko_roster.specs.Rosters.{session_at}
+use Rattle.tko_mux.specs.declared.client.Client.{Client}
+use Rattle.tko_mux.specs.declared.asking.Given.TheVariants.{Input}
+use Rattle.tko_mux.specs.declared.mux.delivery.Delivery.{Delivery}
+use Rattle.tko_mux.specs.declared.mux.delivery.Delivery.TheVariants.{Probed, Reached}
+use Rattle.tko_mux.specs.declared.mux.delivery.Done.{Done}
+use Rattle.tko_mux.specs.Muxes.{IsMade, MuxState}
+use Rattle.tko_text.specs.declared.request.Request.{Request}
+use Rattle.tko_worker.specs.declared.guest.Event.TheVariants.{Serve}
+use Rattle.tko_worker.specs.declared.guest.Guest.{Guest}
+use Rattle.tko_worker.specs.declared.guest.Turned.{Turned}
+use Rattle.tko_worker.specs.declared.guest.Shared.{Shared}
+use Rattle.tko_worker.specs.Guests.{IsGuestCall, IsResting, seen}
+use Rattle.tko_worker.specs.Ports.{PortState}
+use Rattle.tko_worker.specs.Talks.{Talk}
+
+-- the clients and their servers; the numbers of clients that are to be served in this turn; and of
+-- those that are served again in the next
+pub record WorkerState (L T P : Type 0) : Type 0 where
+  pub mux : MuxState (Guest L T) (Shared P)
+  pub touched : List ℕ
+  pub spent : List ℕ
+
+-- this number is among those
+abbrev pub IsIn : ℕ → List ℕ → Type 0
+IsIn number [] = ⊥
+IsIn number (it ∷ others) = (it ≡ number) ⊎ IsIn number others
+
+-- what is seen of a guest
+abbrev pub Sight : Type 0 → Type 0 → Type 0
+Sight L T = (T → Option ℕ) × (T → Talk) × (L → PortState)
+
+-- nothing can be done for a number before its next event: it has no client, or that rests
+abbrev pub Rests : {L T : Type 0} → Sight L T → Option (Client (Guest L T)) → Type 0
+Rests sight None = Unit {0}
+Rests sight (Some client) = IsResting (seen sight.0 sight.1 sight.2 client.session)
+
+abbrev pub RestAt : {L T : Type 0} → Sight L T → List (Option (Client (Guest L T))) → ℕ → Type 0
+RestAt sight slots number = Rests sight (session_at slots number)
+
+-- the other numbers have their clients as before
+abbrev pub OthersStay : {L T : Type 0} → ℕ → List (Option (Client (Guest L T)))
+    → List (Option (Client (Guest L T))) → Type 0
+OthersStay number old new =
+    (other : ℕ) → other ≢ number → session_at new other ≡ session_at old other
+
+-- nobody is forgotten: each number rests, or is among those that are to be served
+abbrev pub NobodyForgotten : {L T : Type 0} → Sight L T → List (Option (Client (Guest L T)))
+    → List ℕ → List ℕ → Type 0
+NobodyForgotten sight slots touched spent =
+    (number : ℕ) → RestAt sight slots number ⊎ (IsIn number touched ⊎ IsIn number spent)
+
+-- a number was noted as one that is to be served, or it rests
+abbrev pub IsListed : {L T : Type 0} → Sight L T → List (Option (Client (Guest L T))) → ℕ
+    → List ℕ → List ℕ → Type 0
+IsListed sight slots number old new =
+    (RestAt sight slots number × (new ≡ old)) ⊎ (new ≡ old ++ number ∷ [])
+
+-- the client of a number was served
+pub record WasServed {L T P : Type 0} (sight : Sight L T) (asks_for : Guest L T → Option Request)
+    (old : MuxState (Guest L T) (Shared P)) (number due : ℕ) (new : MuxState (Guest L T) (Shared P))
+    : Type 0 where
+  pub done : Done Turned
+  pub made : IsMade (IsGuestCall sight.0 sight.1 sight.2) (λ guest. sight.0 guest.talk) asks_for old
+      number (Input Serve) due done new
+
+-- the client of a number was served, whatever it came to
+abbrev pub IsSpentAfter : {L T P : Type 0} → Sight L T → (Guest L T → Option Request)
+    → MuxState (Guest L T) (Shared P) → ℕ → ℕ → Type 0
+IsSpentAfter {L} {T} {P} sight asks_for old number due =
+    (mid : MuxState (Guest L T) (Shared P)) × WasServed sight asks_for old number due mid
+
+-- what serving a number comes to: it rests; or it was served, and is noted as one that is served
+-- again
+abbrev pub IsServed : {L T P : Type 0} → Sight L T → (Guest L T → Option Request)
+    → MuxState (Guest L T) (Shared P) → ℕ → ℕ → MuxState (Guest L T) (Shared P) → List ℕ → List ℕ
+    → Type 0
+IsServed sight asks_for old number due new spent now_spent =
+    (RestAt sight new.roster.slots number × (now_spent ≡ spent))
+    ⊎ (IsSpentAfter sight asks_for old number due × (now_spent ≡ spent ++ number ∷ []))
+
+-- the others have their clients as before, than the one that something reached, if it reached one
+abbrev pub OthersStayFor : {L T : Type 0} → Delivery Turned → List (Option (Client (Guest L T)))
+    → List (Option (Client (Guest L T))) → Type 0
+OthersStayFor (Reached number done) old new = OthersStay number old new
+OthersStayFor (Probed it) old new = (other : ℕ) → session_at new other ≡ session_at old other
+
+-- the client that something reached, if it reached one, was noted as one that is to be served
+abbrev pub IsListedFor : {L T : Type 0} → Sight L T → List (Option (Client (Guest L T)))
+    → Delivery Turned → List ℕ → List ℕ → Type 0
+IsListedFor sight slots (Reached number done) old new = IsListed sight slots number old new
+IsListedFor sight slots (Probed it) old new = new ≡ old

@@ -1,0 +1,26 @@
+//! What an event-driven worker does for its clients, from one event to the next. There is no
+//! socket, no clock and no handle here.
+//!
+//! - `Port`: a socket that does not wait, with what may be done on it; `Read`: what a read gave;
+//!   `MemoryPort`: one in memory.
+//! - `Talking`: a client's session as its port sees it; `Stage`: how far it is.
+//! - `settle`: serves a client until nothing can be done for it before its next event; `Settled`:
+//!   what that came to; `End`: why a client's session ended.
+#![tactic(auto)]
+
+mod guest;
+mod memory;
+mod port;
+mod settling;
+mod talking;
+mod worker;
+
+pub use guest::{Event, Guest, Shared, Turned};
+pub use memory::MemoryPort;
+pub use port::{Port, Read};
+pub use settling::{End, Settled, settle};
+pub use talking::{Stage, Talking};
+pub use worker::Worker;
+
+#[cfg(test)]
+mod tests;
