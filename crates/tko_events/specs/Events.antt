@@ -1,5 +1,5 @@
 -- What the log tells of a server: which replies change a mark, and what came of an exchange.
-use Rattle.std.specs.Prelude.{Option, Some, None, Result, Ok, Err}
+use Rattle.std.specs.Prelude.{ℕ, Option, Some, None, option_map, Result, Ok, Err}
 use Rattle.tko_links.specs.declared.links.NoMemory.{NoMemory}
 use Rattle.tko_links.specs.declared.links.Outcome.{Outcome}
 use Rattle.tko_links.specs.declared.links.Outcome.TheVariants as outcome
@@ -11,6 +11,8 @@ use Rattle.tko_events.specs.declared.event.Cause.{Cause}
 use Rattle.tko_events.specs.declared.event.Cause.TheVariants as cause
 use Rattle.tko_events.specs.declared.event.Change.{Change}
 use Rattle.tko_events.specs.declared.event.Change.TheVariants as change
+use Rattle.tko_events.specs.declared.event.What.{What}
+use Rattle.tko_events.specs.declared.event.What.TheVariants as what
 
 -- the change of a mark that a reply reports; the other replies leave each mark as it was
 abbrev pub change_in : Reply → Option Change
@@ -39,12 +41,35 @@ marking_after change.Unmarked = Some marking.Up
 marking_after change.Released = Some marking.Up
 marking_after change.Probed = None
 
--- what came of a request or of a probe, without the response
+-- what came of a send, without the response
+abbrev pub cause_of_outcome : Outcome → Cause
+cause_of_outcome (outcome.Reply response) = cause.Reply
+cause_of_outcome outcome.Timeout = cause.Timeout
+cause_of_outcome outcome.Refused = cause.Refused
+cause_of_outcome outcome.Broken = cause.Broken
+cause_of_outcome outcome.Aborted = cause.Aborted
+cause_of_outcome outcome.Spent = cause.Spent
+
+-- what came of a probe, without the response
 abbrev pub cause_of : Result Outcome NoMemory → Cause
-cause_of (Ok (outcome.Reply response)) = cause.Reply
-cause_of (Ok outcome.Timeout) = cause.Timeout
-cause_of (Ok outcome.Refused) = cause.Refused
-cause_of (Ok outcome.Broken) = cause.Broken
-cause_of (Ok outcome.Aborted) = cause.Aborted
-cause_of (Ok outcome.Spent) = cause.Spent
+cause_of (Ok outcome) = cause_of_outcome outcome
 cause_of (Err fault) = cause.Memory
+
+-- the event of a reply, if it reports a change
+abbrev pub change_of : ℕ → ℕ → Option Cause → Reply → Option What
+change_of server worker cause reply =
+    option_map (λ change. what.Server server worker change cause) (change_in reply)
+
+-- the same where the health may have been told nothing
+abbrev pub change_after : ℕ → ℕ → Option Cause → Option Reply → Option What
+change_after server worker cause None = None
+change_after server worker cause (Some reply) = change_of server worker cause reply
+
+-- the server whose mark an event changes, and its worker's mark there from then on
+abbrev pub marking_in : What → Option (ℕ × Marking)
+marking_in what.Started = None
+marking_in what.Listening = None
+marking_in (what.Server server worker change cause) =
+    option_map (λ mark. (server, mark)) (marking_after change)
+marking_in (what.Clients sessions faults) = None
+marking_in what.Ended = None

@@ -1,6 +1,6 @@
 //! What the log tells.
-ghost use Rattle.std.specs.Prelude.{◌≡◌};
-ghost use Rattle.tko_events.specs.Events.{cause_of, change_in, marking_after};
+ghost use Rattle.std.specs.Prelude.{◌≡◌, None, Some};
+ghost use Rattle.tko_events.specs.Events.{cause_of, cause_of_outcome, change_after, change_in, change_of, marking_after, marking_in};
 ghost use Rattle.tko_events.specs.Lines.{cause_word, change_word};
 
 use tko_links::{NoMemory, Outcome};
@@ -22,8 +22,8 @@ pub enum What {
     Started,
     /// Clients can connect.
     Listening,
-    /// This worker changed the mark of a server, or probed it. The cause is what came of the
-    /// exchange before, if there was one.
+    /// This worker changed the mark of a server, or probed it. The cause is what came of the send
+    /// or of the probe, and none where the worker ended.
     Server {
         server: usize,
         worker: u32,
@@ -50,7 +50,7 @@ pub enum Change {
     Probed,
 }
 
-/// What came of an exchange.
+/// What came of a send or of a probe.
 #[derive(Clone, Copy, Debug, PartialEq, Eq)]
 pub enum Cause {
     Reply,
@@ -60,6 +60,74 @@ pub enum Cause {
     Aborted,
     Spent,
     Memory,
+}
+
+impl What {
+    /// What an attempt at a server changed, which came to this and to which the health replied so.
+    pub fn of_attempt(server: usize, worker: u32, outcome: &Outcome, reply: Reply) -> Option<What>
+        ensures { result ≡ change_of server worker (Some (cause_of_outcome outcome.now)) reply }
+    {
+        let change = Change::of(reply)?;
+        Some(What::Server {
+            server,
+            worker,
+            change,
+            cause: Some(Cause::of_outcome(outcome)),
+        })
+    }
+
+    /// A probe of a server, which came to this.
+    pub fn of_probe(server: usize, worker: u32, came: &Result<Outcome, NoMemory>) -> What
+        ensures { result ≡ What.Server server worker Change.Probed (Some (cause_of came.now)) }
+    {
+        What::Server {
+            server,
+            worker,
+            change: Change::Probed,
+            cause: Some(Cause::of(came)),
+        }
+    }
+
+    /// What a probe of a server changed, to which the health replied so, if it was told anything.
+    pub fn after_probe(
+        server: usize,
+        worker: u32,
+        came: &Result<Outcome, NoMemory>,
+        reply: Option<Reply>,
+    ) -> Option<What>
+        ensures { result ≡ change_after server worker (Some (cause_of came.now)) reply }
+    {
+        let change = Change::of(reply?)?;
+        Some(What::Server {
+            server,
+            worker,
+            change,
+            cause: Some(Cause::of(came)),
+        })
+    }
+
+    /// What the release of a server changed, to which the health replied so.
+    pub fn of_release(server: usize, worker: u32, reply: Reply) -> Option<What>
+        ensures { result ≡ change_of server worker None reply }
+    {
+        let change = Change::of(reply)?;
+        Some(What::Server {
+            server,
+            worker,
+            change,
+            cause: None,
+        })
+    }
+
+    /// The server whose mark it changes, and the mark that its worker has there from then on.
+    pub fn marking(self) -> Option<(usize, Marking)>
+        ensures { result ≡ marking_in self }
+    {
+        match self {
+            What::Server { server, change, .. } => Some((server, change.marking()?)),
+            What::Started | What::Listening | What::Clients { .. } | What::Ended => None,
+        }
+    }
 }
 
 impl Change {
@@ -106,18 +174,27 @@ impl Change {
 }
 
 impl Cause {
-    /// What came of a request or of a probe, without the response.
+    /// What came of a probe, without the response.
     pub fn of(came: &Result<Outcome, NoMemory>) -> Cause
         ensures { result ≡ cause_of came.now }
     {
         match came {
-            Ok(Outcome::Reply(_)) => Cause::Reply,
-            Ok(Outcome::Timeout) => Cause::Timeout,
-            Ok(Outcome::Refused) => Cause::Refused,
-            Ok(Outcome::Broken) => Cause::Broken,
-            Ok(Outcome::Aborted) => Cause::Aborted,
-            Ok(Outcome::Spent) => Cause::Spent,
+            Ok(outcome) => Cause::of_outcome(outcome),
             Err(_) => Cause::Memory,
+        }
+    }
+
+    /// What came of a send, without the response.
+    pub fn of_outcome(outcome: &Outcome) -> Cause
+        ensures { result ≡ cause_of_outcome outcome.now }
+    {
+        match outcome {
+            Outcome::Reply(_) => Cause::Reply,
+            Outcome::Timeout => Cause::Timeout,
+            Outcome::Refused => Cause::Refused,
+            Outcome::Broken => Cause::Broken,
+            Outcome::Aborted => Cause::Aborted,
+            Outcome::Spent => Cause::Spent,
         }
     }
 

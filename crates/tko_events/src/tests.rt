@@ -1,10 +1,13 @@
-//! The lines of the log, and health and links that tell it what happens.
+//! The lines of the log, and what a worker's end of it sends.
 
+use crate::WorkerLog;
 use crate::event::{Cause, Change, Event, What};
 use crate::journal::Journal;
 use crate::log::{WAITING, open};
 use std::alloc::{AllocError, Global};
 use std::sync::atomic::Ordering;
+use tko_links::{NoMemory, Outcome};
+use tko_model::{Mark, Reply};
 
 /// 2026-11-23, 12:41:41.007 in UTC.
 const MOMENT: u64 = 1_795_437_701_007;
@@ -88,5 +91,30 @@ fn an_event_without_room_is_lost_and_counted(rt: HostRuntime) -> Result<(), Allo
     }
     assert_eq!(&rt; reader.receiver.len(), WAITING);
     assert_eq!(&rt; reader.shared.lost.load(Ordering::SeqCst), 3);
+    Ok(())
+}
+
+/// A timeout counts, the next one marks; a probe is refused, and for another there is no memory;
+/// and the worker ends.
+#[test]
+fn a_workers_end_sends_what_it_is_told(rt: HostRuntime) -> Result<(), AllocError> {
+    let (log, reader) = open(rt.alloc())?;
+    let worker = WorkerLog::open(Some(&log), 3)?;
+    worker.tell_attempt(&rt, 1, &Outcome::Timeout, Reply::Counted(1));
+    worker.tell_attempt(&rt, 1, &Outcome::Timeout, Reply::TookSoft);
+    worker.tell_probe(&rt, 1, &Ok(Outcome::Refused), Some(Reply::Hardened));
+    worker.tell_probe(&rt, 1, &Err(NoMemory { sent: true }), None);
+    worker.tell_release(&rt, 1, Reply::Released(Mark::Hard(3)));
+    for what in [
+        of_server(Change::MarkedSoft, Some(Cause::Timeout)),
+        of_server(Change::Probed, Some(Cause::Refused)),
+        of_server(Change::Hardened, Some(Cause::Refused)),
+        of_server(Change::Probed, Some(Cause::Memory)),
+        of_server(Change::Released, None),
+    ] {
+        let sent = reader.receiver.try_recv(&rt).ok().map(|event| event.what);
+        assert_eq!(&rt; sent, Some(what));
+    }
+    assert_eq!(&rt; reader.receiver.len(), 0);
     Ok(())
 }

@@ -1,4 +1,5 @@
 pub mod Marks
+pub mod Meters
 pub mod Pages
 pub mod Readings
 pub mod Visits

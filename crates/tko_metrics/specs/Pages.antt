@@ -18,10 +18,20 @@ answer_to method path =
     else if bytes_eq method (codes "GET") || bytes_eq method (codes "HEAD") then Page
     else NotAllowed
 
+-- the statuses of HTTP that answers have: done, the method may not be asked for, nothing is there
+abbrev pub done_status : ℕ
+done_status = 200
+
+abbrev pub not_allowed_status : ℕ
+not_allowed_status = 405
+
+abbrev pub not_found_status : ℕ
+not_found_status = 404
+
 abbrev pub status_of : Answer → ℕ
-status_of Page = 200
-status_of NotAllowed = 405
-status_of NotFound = 404
+status_of Page = done_status
+status_of NotAllowed = not_allowed_status
+status_of NotFound = not_found_status
 
 abbrev pub close_field : Header
 close_field = (codes "connection", codes "close")

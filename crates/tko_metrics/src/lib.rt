@@ -5,7 +5,8 @@
 //!   off keeps nothing. `WorkerMeter` is one worker's part of it.
 //! - `Ending`: how a session ended; `Marking`: the mark that a worker set.
 //! - `Process`: what the system says of the process: its memory and its descriptors.
-//! - `Scrapes`: answers `GET /metrics` on one thread, several clients at once, until the meter ends.
+//! - `Scrapes`: answers `GET /metrics` on one thread, several clients at once, until the meter
+//!   ends.
 #![tactic(auto)]
 
 mod answer;

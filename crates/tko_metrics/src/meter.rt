@@ -1,4 +1,6 @@
 //! The numbers of a server.
+ghost use Rattle.std.specs.Prelude.{IfOk};
+ghost use Rattle.tko_metrics.specs.Meters.{HasParts};
 
 use crate::counter::Counter;
 use crate::worker_meter::{Numbers, WorkerMeter};
@@ -48,7 +50,9 @@ impl Meter {
     }
 
     /// The meter of a server of so many workers and servers.
-    pub fn open(alloc: Global, workers: u32, servers: usize) -> Result<Meter, AllocError> {
+    pub fn open(alloc: Global, workers: u32, servers: usize) -> Result<Meter, AllocError>
+        ensures { IfOk result (HasParts workers) }
+    {
         let mut each = Vec::new(alloc);
         for _ in 0..workers {
             each.push(Arc::new(alloc, Numbers::new(alloc, servers)?)?)?;

@@ -1,4 +1,2 @@
-mod LendingLemmas
 mod MemberLemmas
 mod RunLemmas
-mod WorkLemmas

@@ -1,13 +1,8 @@
 -- What becomes of a server's announcement.
 use Rattle.std.specs.Prelude.{◌≡◌, Result, Ok, Err}
-use Rattle.tko_server.specs.declared.first_asks.FirstAsks.{FirstAsks}
 use Rattle.tko_server.specs.declared.run_fault.RunFault.{RunFault}
 use Rattle.tko_server.specs.declared.run_fault.RunFault.TheVariants as run
 use Rattle.tko_server.specs.declared.tracked.Failed.{Failed}
-
--- each worker has asked for its first connection
-abbrev pub HaveAllAsked : FirstAsks → Type 0
-HaveAllAsked asks = asks.missing ≡ 0
 
 -- memory ran out: before anything was announced, or after all of it was
 pub data IsCutShort {A : Type 0} (announces : A → A → Type 0) (old new : A) : Type 0 where

@@ -1,10 +1,12 @@
 -- What is left of a server's tracker.
 use Rattle.std.specs.Prelude.{◌≡◌, All, List, MatchOption, Result, Err}
-use Rattle.tko_model.specs.Settings.{Settings}
+use Rattle.tko_server.specs.declared.running.Ended.{Ended}
+use Rattle.tko_server.specs.declared.running.Options.{Options}
+use Rattle.tko_server.specs.declared.running.Ran.{Ran}
 use Rattle.tko_server.specs.declared.run_fault.RunFault.{RunFault}
 use Rattle.tko_server.specs.declared.run_fault.RunFault.TheVariants as run
 use Rattle.tko_server.specs.declared.tracked.Failed.{Failed}
-use Rattle.tko_server.specs.Runs.{IsAfterOpening}
+use Rattle.tko_server.specs.Runs.{IsAfterOpening, tracker_settings}
 use Rattle.tko_table.specs.Closing.{Left}
 use Rattle.tko_tracker.specs.Closing.{HoldsEachOnce, IsFinal}
 use Rattle.tko_tracker.specs.Seated.{IsOf, Seated, TrackerId}
@@ -18,11 +20,17 @@ pub record IsClosed (tracker : TrackerId) (left : Left) : Type 0 where
   pub whole : HoldsEachOnce tracker.settings.threads passes
   pub final : IsFinal tracker passes left
 
--- a tracker with these settings was closed
-pub record HasClosed (settings : Settings) (left : Left) : Type 0 where
-  pub tracker : TrackerId
-  pub same : tracker.settings ≡ settings
-  pub closed : IsClosed tracker left
+-- the workers had passes of this tracker, and ran on these options
+pub record HasRun (options : Options) (tracker : TrackerId) (ran : Ran) : Type 0 where
+  pub on_options : ran.options.value ≡ options
+  pub over : ran.tracker.value ≡ tracker
+
+-- a server ran on these options to its end: the tracker that its workers had passes of has the
+-- settings of the options, and was closed
+pub record HasEnded (options : Options) (ended : Ended) : Type 0 where
+  pub on_options : ended.ran.options.value ≡ options
+  pub same : ended.ran.tracker.value.settings ≡ tracker_settings options
+  pub closed : IsClosed ended.ran.tracker.value ended.closed
 
 -- the fault of a server whose tracker could not be closed: memory ran out, unless announcing failed
 -- before

@@ -1,11 +1,5 @@
-pub mod Accepting
-pub mod Allotments
 pub mod Announcing
-pub mod ClientEnds
 pub mod Closing
-pub mod Pacing
-pub mod Reports
+pub mod Endings
+pub mod Members
 pub mod Runs
-pub mod Watching
-pub mod Worked
-pub mod Workers

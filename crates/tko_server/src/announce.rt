@@ -1,8 +1,8 @@
 //! What a server tells once clients can connect.
 
-use crate::FirstAsks;
 use thiserror::Error;
-use tko_links::IoRuntime;
+use tko_accept::FirstAsks;
+use tko_io::IoRuntime;
 
 /// It could not be announced that clients can connect.
 #[derive(Clone, Copy, Debug, PartialEq, Eq, Error)]
@@ -12,7 +12,7 @@ pub struct AnnounceFault;
 /// What is to be announced once clients can connect.
 pub trait Announce {
     ghost use Rattle.std.specs.Prelude.{OnErr, OnOk};
-    ghost use Rattle.tko_server.specs.Announcing.{HaveAllAsked};
+    ghost use Rattle.tko_accept.specs.FirstAsks.{HaveAllAsked};
 
     /// What it is before and after it was announced.
     ghost announces: { Self → Self → Type 0 };

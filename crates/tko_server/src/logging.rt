@@ -2,7 +2,7 @@
 ghost use Rattle.std.specs.Prelude.{◌≡◌, ◌↔◌, Err, IfOk, Some};
 ghost use Rattle.tko_model.specs.Ranges.{first_fault};
 ghost use Rattle.tko_server.specs.Announcing.{IsAnnounced};
-ghost use Rattle.tko_server.specs.Closing.{HasClosed};
+ghost use Rattle.tko_server.specs.Closing.{HasEnded};
 ghost use Rattle.tko_server.specs.Runs.{tracker_settings};
 
 use crate::announce::Silent;
@@ -15,10 +15,9 @@ use std::thread;
 use std::thread::Threads;
 use std::time::Clock;
 use tko_events::{Journal, Log, LogReader, What, open};
-use tko_links::IoRuntime;
+use tko_io::IoRuntime;
 use tko_metrics::Meter;
 use tko_model::SettingsFault;
-use tko_pools::Config;
 
 /// An event log that is to be written: both its ends, and the lines.
 #[derive(Drop)]
@@ -29,23 +28,21 @@ pub struct Logging {
 }
 
 impl Logging {
-    /// A log of a server of this configuration, which will listen at this address, and where
-    /// `failures` soft failures in a row mark a server. Its first event is that the program has
-    /// started.
+    /// A log of a server that is started with these options, and will listen at this address. Its
+    /// first event is that the program has started.
     pub fn start<R: Wait + Clock>(
         rt: &R,
         alloc: Global,
         listen: &str,
-        config: &Config,
-        failures: u32,
+        options: &Options,
     ) -> Result<Logging, AllocError> {
         let (log, reader) = open(alloc)?;
         let mut names = Vec::new(alloc);
-        for address in config.addresses() {
+        for address in options.config.addresses() {
             names.push(String::from_str(alloc, address.as_str())?)?;
         }
         let listen = String::from_str(alloc, listen)?;
-        let journal = Journal::new(alloc, listen, failures, names)?;
+        let journal = Journal::new(alloc, listen, options.settings.failures, names)?;
         log.tell(rt, What::Started);
         Ok(Logging {
             log,
@@ -69,7 +66,7 @@ pub fn run_logged<
 ) -> Result<Ended, RunFault>
     ensures settings { (fault : SettingsFault) → (result ≡ Err (RunFault.Settings fault))
         ↔ (first_fault (tracker_settings options.now) ≡ Some fault) }
-    ensures closed { IfOk result (λ ended. HasClosed (tracker_settings options.now) ended.closed) }
+    ensures ended { IfOk result (HasEnded options.now) }
 {
     let meter = Meter::off();
     let (_, ended) = run_beside_meter(rt, alloc, listener, options, logging, meter, Silent);
@@ -92,8 +89,7 @@ pub(crate) fn run_beside_meter<
 ) -> (A, Result<Ended, RunFault>)
     ensures settings { (fault : SettingsFault) → (result.1 ≡ Err (RunFault.Settings fault))
         ↔ (first_fault (tracker_settings options.now) ≡ Some fault) }
-    ensures closed { IfOk result.1 (λ ended.
-        HasClosed (tracker_settings options.now) ended.closed) }
+    ensures ended { IfOk result.1 (HasEnded options.now) }
     ensures announced { IsAnnounced A.announces A.fails announcement result.0 result.1 }
 {
     match logging {
@@ -119,8 +115,7 @@ fn run_and_end<
 ) -> (A, Result<Ended, RunFault>)
     ensures settings { (fault : SettingsFault) → (result.1 ≡ Err (RunFault.Settings fault))
         ↔ (first_fault (tracker_settings options.now) ≡ Some fault) }
-    ensures closed { IfOk result.1 (λ ended.
-        HasClosed (tracker_settings options.now) ended.closed) }
+    ensures ended { IfOk result.1 (HasEnded options.now) }
     ensures announced { IsAnnounced A.announces A.fails announcement result.0 result.1 }
 {
     let ended = run_told(rt, alloc, listener, options, Some(log), announcement);
@@ -143,8 +138,7 @@ fn run_beside<
 ) -> (A, Result<Ended, RunFault>)
     ensures settings { (fault : SettingsFault) → (result.1 ≡ Err (RunFault.Settings fault))
         ↔ (first_fault (tracker_settings options.now) ≡ Some fault) }
-    ensures closed { IfOk result.1 (λ ended.
-        HasClosed (tracker_settings options.now) ended.closed) }
+    ensures ended { IfOk result.1 (HasEnded options.now) }
     ensures announced { IsAnnounced A.announces A.fails announcement result.0 result.1 }
 {
     let Logging {
@@ -160,8 +154,7 @@ fn run_beside<
         || -> (A, Result<Ended, RunFault>)
             ensures settings { (fault : SettingsFault) → (result.1 ≡ Err (RunFault.Settings fault))
                 ↔ (first_fault (tracker_settings options.entry.now) ≡ Some fault) }
-            ensures closed { IfOk result.1 (λ ended.
-                HasClosed (tracker_settings options.entry.now) ended.closed) }
+            ensures ended { IfOk result.1 (HasEnded options.entry.now) }
             ensures announced { IsAnnounced A.announces A.fails announcement
                 result.0 result.1 }
         { run_and_end(rt, alloc, listener, options, &log, announcement) },

@@ -3,28 +3,31 @@ ghost use Rattle.std.specs.Prelude.{◌≡◌, ◌<◌, ◌↔◌, ℕ, All, IfO
 ghost use Rattle.tko_steps.specs.declared.phase.ThreadState.TheVariants.{Idle};
 ghost use Rattle.tko_tracker.specs.Seated.{IsOf};
 ghost use Rattle.tko_server.specs.Runs.{tracker_settings};
-ghost use Rattle.tko_server.specs.Workers.{AreMembersOf, HasOptions, IsEquipped};
+ghost use Rattle.tko_threads.specs.Workers.{IsEquipped};
+ghost use Rattle.tko_server.specs.Members.{AreMembersOf, HasOptions};
 
-use crate::clients::{Client, Clients};
-use crate::first_asks::FirstAsk;
+use crate::Options;
 use crate::naming::Naming;
-use crate::{Account, Member, Options, WorkerParts};
 use crossbeam_channel::Receiver;
 use std::alloc::Global;
-use std::sync::{Arc, Mutex};
-use tko_backend::{MonotonicClock, Probers};
+use std::sync::Mutex;
+use tko_accept::{Client, Clients, FirstAsk};
 use tko_bytes::NoMemory;
 use tko_desk::{Book, Share};
-use tko_events::{Log, LoggedIdle, LoggedLinks, LoggedSeating, WorkerLog};
+use tko_events::{Log, WorkerLog};
 use tko_health::{Seating, SharedSeating};
-use tko_links::{IoRuntime, Links, TcpLinks, TcpWire};
+use tko_io::{IoRuntime, MonotonicClock};
+use tko_links::Links;
+use tko_prober::Probers;
+use tko_tcp::{TcpLinks, TcpWire};
+use tko_threads::{Account, Member, WorkerParts};
 use tko_tracker::{IdlePass, Named};
 
 /// What all workers of a server share.
 #[derive(Drop)]
 pub(crate) struct Shared<'o, N: Named> {
     pub(crate) options: &'o Options,
-    pub(crate) seating: LoggedSeating<SharedSeating<'o, N>>,
+    pub(crate) seating: SharedSeating<'o, N>,
     pub(crate) book: Mutex<Book>,
     pub(crate) log: Option<&'o Log>,
     /// Looks up the names of the servers meanwhile.
@@ -37,19 +40,14 @@ pub(crate) struct Shared<'o, N: Named> {
 pub(crate) type ServerMember<'a, 'o, N> = Member<
     'a,
     Clients,
-    LoggedIdle<IdlePass>,
-    LoggedSeating<SharedSeating<'o, N>>,
-    LoggedLinks<TcpLinks>,
+    IdlePass,
+    SharedSeating<'o, N>,
+    TcpLinks,
     MonotonicClock,
 >;
 
 /// What one of them works with.
-type LoggedParts<'a, 'o, N> = WorkerParts<
-    'a,
-    LoggedSeating<SharedSeating<'o, N>>,
-    LoggedLinks<TcpLinks>,
-    MonotonicClock,
->;
+type ServerParts<'a, 'o, N> = WorkerParts<'a, SharedSeating<'o, N>, TcpLinks, MonotonicClock>;
 
 impl<'o, N: Named> Shared<'o, N> {
     /// A member for each pass, in order, with the share of the same place. All of them take the
@@ -72,10 +70,10 @@ impl<'o, N: Named> Shared<'o, N> {
     {
         let mut members = Vec::new(alloc);
         for (idle, share) in passes.into_iter().zip(shares.iter_mut()) {
-            let log = WorkerLog::open(alloc, self.log, idle.number())?;
+            let log = WorkerLog::open(self.log, idle.number())?;
             members.push(Member {
                 source: self.source(&idle, accepted, first_ask)?,
-                idle: LoggedIdle::new(idle, Arc::try_clone(&log)?),
+                idle,
                 parts: self.parts(rt, alloc, log, share)?,
             })?;
         }
@@ -109,31 +107,29 @@ impl<'o, N: Named> Shared<'o, N> {
         &'a self,
         rt: &R,
         alloc: Global,
-        log: Arc<WorkerLog, Global>,
+        log: WorkerLog,
         share: &'a mut Share,
-    ) -> Result<LoggedParts<'a, 'o, N>, NoMemory>
+    ) -> Result<ServerParts<'a, 'o, N>, NoMemory>
         requires asked { N.tracker.settings ≡ tracker_settings self.now.options.now }
         ensures equipped { IfOk result (IsEquipped
-            ⟦<LoggedSeating<SharedSeating<'o, N>> as Seating>⟧.servers
-            ⟦<LoggedLinks<TcpLinks> as Links>⟧.servers) }
+            ⟦<SharedSeating<'o, N> as Seating>⟧.servers
+            ⟦<TcpLinks as Links>⟧.servers) }
         ensures asked { IfOk result (HasOptions self.now.options.now) }
     {
         let addresses = self.options.config.addresses();
         let names = self.naming.names()?;
         let wire = TcpWire::new(alloc, addresses, names, self.options.timeout)?;
-        let meter = log.meter()?;
         Ok(WorkerParts {
             seating: &self.seating,
-            links: LoggedLinks::new(TcpLinks::new(alloc, wire)?, log),
+            links: TcpLinks::new(alloc, wire)?,
             config: self.options.config.copy(alloc)?,
             probers: Probers::new(alloc, self.options.delays, addresses.len())?,
             clock: MonotonicClock::new(rt),
-            meter,
             account: Account {
                 book: &self.book,
                 share,
-                log: Log::another(self.log)?,
             },
+            log,
         })
     }
 }

@@ -2,7 +2,7 @@
 ghost use Rattle.std.specs.Prelude.{◌≡◌, ◌↔◌, Err, IfOk, Some};
 ghost use Rattle.tko_model.specs.Ranges.{first_fault};
 ghost use Rattle.tko_server.specs.Announcing.{IsAnnounced};
-ghost use Rattle.tko_server.specs.Closing.{HasClosed};
+ghost use Rattle.tko_server.specs.Closing.{HasEnded};
 ghost use Rattle.tko_server.specs.Runs.{tracker_settings};
 
 use crate::logging::run_beside_meter;
@@ -12,10 +12,9 @@ use std::alloc::{AllocError, Global};
 use std::net::TcpListener;
 use std::thread;
 use std::thread::Threads;
-use tko_links::IoRuntime;
+use tko_io::IoRuntime;
 use tko_metrics::{Meter, Process, Scrapes};
 use tko_model::SettingsFault;
-use tko_pools::Config;
 
 /// Metrics that are to be answered for: the numbers, and the thread's part.
 #[derive(Drop)]
@@ -25,17 +24,16 @@ pub struct Metering {
 }
 
 impl Metering {
-    /// The metrics of a server of this configuration and so many workers, for the clients of this
+    /// The metrics of a server that is started with these options, for the clients of this
     /// listener.
     pub fn start(
         alloc: Global,
         listener: TcpListener,
-        config: &Config,
-        workers: u32,
+        options: &Options,
         process: Process,
     ) -> Result<Metering, AllocError> {
-        let addresses = config.addresses();
-        let meter = Meter::open(alloc, workers, addresses.len())?;
+        let addresses = options.config.addresses();
+        let meter = Meter::open(alloc, options.settings.threads, addresses.len())?;
         let scrapes = Scrapes::new(alloc, listener, meter.another()?, addresses, process)?;
         Ok(Metering { meter, scrapes })
     }
@@ -58,8 +56,7 @@ pub fn run_metered<
 ) -> (A, Result<Ended, RunFault>)
     ensures settings { (fault : SettingsFault) → (result.1 ≡ Err (RunFault.Settings fault))
         ↔ (first_fault (tracker_settings options.now) ≡ Some fault) }
-    ensures closed { IfOk result.1 (λ ended.
-        HasClosed (tracker_settings options.now) ended.closed) }
+    ensures ended { IfOk result.1 (HasEnded options.now) }
     ensures announced { IsAnnounced A.announces A.fails announcement result.0 result.1 }
 {
     match metering {
@@ -96,8 +93,7 @@ fn run_beside<
 ) -> (A, Result<Ended, RunFault>)
     ensures settings { (fault : SettingsFault) → (result.1 ≡ Err (RunFault.Settings fault))
         ↔ (first_fault (tracker_settings options.now) ≡ Some fault) }
-    ensures closed { IfOk result.1 (λ ended.
-        HasClosed (tracker_settings options.now) ended.closed) }
+    ensures ended { IfOk result.1 (HasEnded options.now) }
     ensures announced { IsAnnounced A.announces A.fails announcement result.0 result.1 }
 {
     let Metering { meter, scrapes } = metering;
@@ -108,8 +104,7 @@ fn run_beside<
         || -> (A, Result<Ended, RunFault>)
             ensures settings { (fault : SettingsFault) → (result.1 ≡ Err (RunFault.Settings fault))
                 ↔ (first_fault (tracker_settings options.entry.now) ≡ Some fault) }
-            ensures closed { IfOk result.1 (λ ended.
-                HasClosed (tracker_settings options.entry.now) ended.closed) }
+            ensures ended { IfOk result.1 (HasEnded options.entry.now) }
             ensures announced { IsAnnounced A.announces A.fails announcement
                 result.0 result.1 }
         {
@@ -144,8 +139,7 @@ fn run_and_end<
 ) -> (A, Result<Ended, RunFault>)
     ensures settings { (fault : SettingsFault) → (result.1 ≡ Err (RunFault.Settings fault))
         ↔ (first_fault (tracker_settings options.now) ≡ Some fault) }
-    ensures closed { IfOk result.1 (λ ended.
-        HasClosed (tracker_settings options.now) ended.closed) }
+    ensures ended { IfOk result.1 (HasEnded options.now) }
     ensures announced { IsAnnounced A.announces A.fails announcement result.0 result.1 }
 {
     let ended = run_beside_meter(rt, alloc, listener, options, logging, meter, announcement);

@@ -5,7 +5,8 @@ use std::net::TcpListener;
 use std::thread;
 use std::thread::Threads;
 use tko_bytes::NoMemory;
-use tko_links::{IoRuntime, Names};
+use tko_io::IoRuntime;
+use tko_tcp::Names;
 
 /// The names of a server's configuration, which a thread looks up as long as this value is there.
 pub(crate) struct Naming {

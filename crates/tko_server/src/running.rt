@@ -2,24 +2,27 @@
 ghost use Rattle.std.specs.Prelude.{◌≡◌, ◌↔◌, Err, IfOk, Some};
 ghost use Rattle.tko_model.specs.Ranges.{first_fault};
 ghost use Rattle.tko_server.specs.Announcing.{IsAnnounced};
-ghost use Rattle.tko_server.specs.Closing.{HasClosed};
+ghost use Rattle.tko_server.specs.Closing.{HasEnded};
 ghost use Rattle.tko_server.specs.Runs.{tracker_settings};
 
 use crate::announce::Silent;
 use crate::opening::opened;
 use crate::tracked::run_with;
-use crate::{Allotment, Announce, Patience, RunFault, WorkerReport};
+use crate::{Announce, RunFault};
 use std::alloc::Global;
 use std::marker::Brand;
 use std::net::TcpListener;
+use std::snapshot::Snapshot;
 use std::thread::Threads;
+use tko_accept::Allotment;
 use tko_desk::Totals;
 use tko_events::Log;
-use tko_links::IoRuntime;
+use tko_io::IoRuntime;
 use tko_model::{Settings, SettingsFault};
 use tko_pools::Config;
 use tko_prober::Delays;
-use tko_tracker::Final;
+use tko_threads::{Patience, WorkerReport};
+use tko_tracker::{Final, Tracker};
 
 /// What a server is started with.
 #[derive(Drop)]
@@ -38,9 +41,18 @@ pub struct Options {
     pub connections: u64,
 }
 
+/// What the workers of a server ran on, which contracts alone see.
+#[derive(Drop)]
+pub struct Ran {
+    pub options: Snapshot<Options>,
+    /// The tracker of which each worker had a pass.
+    pub tracker: Snapshot<Tracker>,
+}
+
 /// What a server came to.
 #[derive(Drop)]
 pub struct Ended {
+    pub ran: Ran,
     pub totals: Totals,
     /// What all workers met.
     pub report: WorkerReport,
@@ -82,14 +94,14 @@ pub fn run_to_end<R: IoRuntime<Listener = TcpListener> + Threads + Sync + Copy +
 ) -> Result<Ended, RunFault>
     ensures settings { (fault : SettingsFault) → (result ≡ Err (RunFault.Settings fault))
         ↔ (first_fault (tracker_settings options.now) ≡ Some fault) }
-    ensures closed { IfOk result (λ ended. HasClosed (tracker_settings options.now) ended.closed) }
+    ensures ended { IfOk result (HasEnded options.now) }
 {
     let (_, ended) = run_told(rt, alloc, listener, options, None, Silent);
     ended
 }
 
-/// The same, where the workers tell the log what happens, if there is one, and where it is announced
-/// that clients can connect. Returns the announcement too, as the run left it.
+/// The same, where the workers tell the log what happens, if there is one, and where it is
+/// announced that clients can connect. Returns the announcement too, as the run left it.
 pub(crate) fn run_told<
     R: IoRuntime<Listener = TcpListener> + Threads + Sync + Copy + Send + 'static,
     A: Announce + Drop,
@@ -103,8 +115,7 @@ pub(crate) fn run_told<
 ) -> (A, Result<Ended, RunFault>)
     ensures settings { (fault : SettingsFault) → (result.1 ≡ Err (RunFault.Settings fault))
         ↔ (first_fault (tracker_settings options.now) ≡ Some fault) }
-    ensures closed { IfOk result.1 (λ ended.
-        HasClosed (tracker_settings options.now) ended.closed) }
+    ensures ended { IfOk result.1 (HasEnded options.now) }
     ensures announced { IsAnnounced A.announces A.fails announcement result.0 result.1 }
 {
     let (tracker, passes) = match opened(alloc, options) {

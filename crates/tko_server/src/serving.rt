@@ -2,22 +2,22 @@
 ghost use Rattle.std.specs.Prelude.{◌≡◌, IfErr, length, true};
 ghost use Rattle.tko_server.specs.Announcing.{IsAnnounced};
 ghost use Rattle.tko_server.specs.Runs.{IsAfterOpening, tracker_settings};
-ghost use Rattle.tko_server.specs.Workers.{AreReadyAt};
+ghost use Rattle.tko_server.specs.Members.{AreReadyAt};
 
-use crate::accepting::{Entrance, accept_all, ended_by};
-use crate::first_asks::FirstAsks;
-use crate::listening::Listening;
+use crate::ending::ended_by;
 use crate::members::Shared;
 use crate::starting::{Start, start_of};
 use crate::threads::{WorkerThread, join_all, start_all};
-use crate::{Announce, RunFault, WorkerReport};
+use crate::{Announce, RunFault};
 use std::alloc::Global;
 use std::net::TcpListener;
 use std::thread;
 use std::thread::Threads;
+use tko_accept::{Entrance, FirstAsks, Listening, accept_all};
 use tko_desk::{Desk, Share};
 use tko_events::{Log, What};
-use tko_links::IoRuntime;
+use tko_io::IoRuntime;
+use tko_threads::WorkerReport;
 use tko_tracker::Named;
 
 /// Accepts connections and serves each by one of the workers, who take these shares, and the passes

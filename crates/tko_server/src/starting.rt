@@ -1,21 +1,18 @@
 //! What a server's workers start from.
 ghost use Rattle.std.specs.Prelude.{◌≡◌, IfOk, length};
 ghost use Rattle.tko_server.specs.Runs.{tracker_settings};
-ghost use Rattle.tko_server.specs.Workers.{AreReadyAt};
+ghost use Rattle.tko_server.specs.Members.{AreReadyAt};
 
-use crate::allotment::WAITING;
-use crate::clients::Client;
-use crate::first_asks::{FirstAsks, first_asks};
-use crate::lending::lend_all;
 use crate::members::{ServerMember, Shared};
-use crate::room::Room;
 use crossbeam_channel::{Sender, bounded};
 use std::alloc::Global;
 use std::sync::Arc;
+use tko_accept::{Client, FirstAsks, Room, WAITING, first_asks_of};
 use tko_bytes::NoMemory;
 use tko_desk::{Desk, Share};
 use tko_events::Log;
-use tko_links::IoRuntime;
+use tko_io::IoRuntime;
+use tko_threads::lend_all;
 use tko_tracker::Named;
 
 /// What a server starts from.
@@ -45,7 +42,7 @@ pub(crate) fn start_of<'a, 'o, N: Named, R: IoRuntime>(
 {
     let options = shared.options;
     let (clients, accepted) = bounded(alloc, WAITING as usize)?;
-    let (first_ask, first_asks) = first_asks(alloc, options.settings.threads)?;
+    let (first_ask, first_asks) = first_asks_of(alloc, options.settings.threads)?;
     let log = Log::another(shared.log)?;
     let meter = log.meter().another()?;
     let room = Room::open(alloc, options.allotment().clients, meter)?;

@@ -1,18 +1,17 @@
 //! The threads of a server's workers.
 ghost use Rattle.std.specs.Prelude.{IfOk};
-ghost use Rattle.tko_server.specs.Workers.{AreReadyAt, IsReadyAt};
+ghost use Rattle.tko_server.specs.Members.{AreReadyAt, IsReadyAt};
 
-use crate::WorkerReport;
-use crate::clients::Client;
-use crate::lending::work;
 use crate::members::ServerMember;
 use crossbeam_channel::Sender;
 use std::alloc::Global;
 use std::net::TcpListener;
 use std::thread::{JoinHandle, Scope, Threads};
+use tko_accept::Client;
 use tko_bytes::NoMemory;
 use tko_desk::Desk;
-use tko_links::IoRuntime;
+use tko_io::IoRuntime;
+use tko_threads::{WorkerReport, work};
 use tko_tracker::Named;
 
 /// The thread of one worker, which returns what its worker met.

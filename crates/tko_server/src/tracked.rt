@@ -2,22 +2,24 @@
 ghost use Rattle.std.specs.Prelude.{◌≡◌, IfErr, IfOk, length};
 ghost use Rattle.tko_tracker.specs.Seated.{ArePasses};
 ghost use Rattle.tko_server.specs.Announcing.{IsAnnounced, fault_in};
-ghost use Rattle.tko_server.specs.Closing.{HasFailed, IsClosed, unclosed};
+ghost use Rattle.tko_server.specs.Closing.{HasFailed, HasRun, IsClosed, unclosed};
 ghost use Rattle.tko_server.specs.Runs.{IsAfterOpening, tracker_settings};
 
 use crate::members::Shared;
 use crate::naming::Naming;
 use crate::serving::serve_all;
-use crate::{Announce, Ended, Options, RunFault, WorkerReport};
+use crate::{Announce, Ended, Options, Ran, RunFault};
 use std::alloc::Global;
 use std::net::TcpListener;
+use std::snapshot::Snapshot;
 use std::sync::Mutex;
 use std::thread::Threads;
 use tko_bytes::NoMemory;
 use tko_desk::{Book, Desk, Share, Totals, gather};
-use tko_events::{Log, LoggedSeating};
+use tko_events::Log;
 use tko_health::SharedSeating;
-use tko_links::IoRuntime;
+use tko_io::IoRuntime;
+use tko_threads::WorkerReport;
 use tko_tracker::{Final, IdlePass, Named, Tracker, close};
 
 /// Why a server ended without its totals, and what was left of its tracker.
@@ -29,7 +31,8 @@ pub(crate) struct Failed {
 }
 
 /// Runs a server over this tracker, which `N` names, with the passes of its threads. They lie at a
-/// desk while no worker has them. At the end the tracker is closed with those that the desk then has.
+/// desk while no worker has them. At the end the tracker is closed with those that the desk then
+/// has.
 pub(crate) fn run_with<
     N: Named + Send + Sync,
     R: IoRuntime<Listener = TcpListener> + Threads + Sync + Copy + Send + 'static,
@@ -47,6 +50,7 @@ pub(crate) fn run_with<
     requires named { tracker ≡ N.tracker }
     requires asked { N.tracker.settings ≡ tracker_settings options.now }
     requires passes { ArePasses N.tracker passes.items }
+    ensures ran { IfOk result.1 (λ ended. HasRun options.now N.tracker ended.ran) }
     ensures closed { IfOk result.1 (λ ended. IsClosed N.tracker ended.closed) }
     ensures failed { IfErr result.1 (HasFailed N.tracker) }
     ensures announced { IsAnnounced A.announces A.fails announcement result.0
@@ -70,8 +74,9 @@ pub(crate) fn run_with<
         return (announcement, Err(Failed { fault, closed }));
     };
     match served {
-        Ok((totals, report)) => {
+        Ok((totals, report, ran)) => {
             let ended = Ended {
+                ran,
                 totals,
                 report,
                 closed,
@@ -99,7 +104,7 @@ fn unclosed<T>(served: &Result<T, RunFault>) -> RunFault
 }
 
 /// Serves over this tracker, which `N` names, by workers with the passes of this desk. Returns the
-/// announcement, and the totals with what the workers met.
+/// announcement, and the totals with what the workers met, and what they ran on.
 fn serve_over<
     'o,
     N: Named + Send + Sync,
@@ -114,9 +119,10 @@ fn serve_over<
     tracker: &'o Tracker,
     desk: &Desk<N>,
     announcement: A,
-) -> (A, Result<(Totals, WorkerReport), RunFault>)
+) -> (A, Result<(Totals, WorkerReport, Ran), RunFault>)
     requires named { tracker.now ≡ N.tracker }
     requires asked { N.tracker.settings ≡ tracker_settings options.now }
+    ensures ran { IfOk result.1 (λ served. HasRun options.now N.tracker served.2) }
     ensures fault { IfErr result.1 IsAfterOpening }
     ensures announced { IsAnnounced A.announces A.fails announcement result.0 result.1 }
 {
@@ -134,10 +140,21 @@ fn serve_over<
     );
     match report {
         Ok(report) => {
+            let ran = ran_on(&shared, tracker);
             let totals = totals_of(shared.book.into_inner(), shares);
-            (announcement, Ok((totals, report)))
+            (announcement, Ok((totals, report, ran)))
         }
         Err(fault) => (announcement, Err(fault)),
+    }
+}
+
+/// What the workers that share this ran on, over this tracker.
+fn ran_on<N: Named>(shared: &Shared<'_, N>, tracker: &Tracker) -> Ran
+    ensures { HasRun shared.now.options.now tracker.now result }
+{
+    Ran {
+        options: Snapshot::of(shared.options),
+        tracker: Snapshot::of(tracker),
     }
 }
 
@@ -162,10 +179,7 @@ fn shared_by_all<
     let (book, shares) = Book::open(alloc, 0, options.settings.threads)?;
     let shared = Shared {
         options,
-        seating: LoggedSeating::new(SharedSeating::<N>::new(
-            tracker,
-            options.config.servers() as usize,
-        )),
+        seating: SharedSeating::<N>::new(tracker, options.config.servers() as usize),
         book: Mutex::new(book),
         log,
         naming,

@@ -3,7 +3,7 @@ use Rattle.std.specs.Iterator.Adapters.{zip_first, zip_second}
 use Rattle.std.specs.Slice.Iter.{iter_mut_rest}
 use Rattle.std.specs.Vec.Iter.{into_iter_items}
 use Rattle.tko_tracker.specs.Seated.{IsOf}
-use Rattle.tko_server.specs.Workers.{AreReadyAt, HasOptions}
+use Rattle.tko_server.specs.Members.{AreReadyAt, HasOptions}
 use Rattle.tko_server.proofs.members.Shared.members.Given as goal
 
 abbrev pub invariant-loop-idle : goal.invariant-loop-idle

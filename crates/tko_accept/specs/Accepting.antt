@@ -1,0 +1,46 @@
+-- What an accept came to, and why accepting ends.
+use Rattle.std.specs.Prelude.{◌≡◌, ◌≤◌, ◌<◌, ◌⊎◌, ◌+◌, ◌-◌, ◌^◌, ◌↔◌, ℕ, pos, min, Bool, true, false, Result, Ok, Err, Some}
+use Rattle.std.specs.IoError.{raw_os_error}
+use Rattle.std.specs.declared.io.Error.{Error}
+use Rattle.std.specs.declared.io.ErrorKind.{ErrorKind}
+use Rattle.std.specs.declared.io.ErrorKind.TheVariants as kind
+use Rattle.tko_accept.specs.declared.accepting.AcceptEnd.{AcceptEnd}
+use Rattle.tko_accept.specs.declared.accepting.AcceptEnd.TheVariants.{Enough, NoWorker, Broken}
+use Rattle.tko_accept.specs.declared.accepting.Entrance.{Entrance}
+use Rattle.tko_accept.specs.declared.listening.AcceptStop.{AcceptStop}
+use Rattle.tko_accept.specs.declared.listening.AcceptStop.TheVariants as stop
+use Rattle.tko_accept.specs.declared.listening.Listening.{Listening}
+
+-- the error of an accept at what is no listener: no open descriptor, a socket that does not listen,
+-- or no socket
+abbrev pub IsBroken : Error → Type 0
+IsBroken error = (raw_os_error error ≡ Some (pos 9)) ⊎ (raw_os_error error ≡ Some (pos 22))
+    ⊎ (raw_os_error error ≡ Some (pos 88))
+
+-- what any other error of an accept is
+abbrev pub stop_of_kind : ErrorKind → AcceptStop
+stop_of_kind kind.WouldBlock = stop.Nobody
+stop_of_kind kind.ConnectionAborted = stop.Aborted
+stop_of_kind _ = stop.Failed
+
+-- how many connections there are after an accept, if there were `count`; it stays at 2^64 - 1
+abbrev pub count_after : {S : Type 0} → ℕ → Result S AcceptStop → ℕ
+count_after count (Ok stream) = min (2 ^ 64 - 1) (count + 1)
+count_after count (Err stop) = count
+
+-- whether an accept found the listener broken
+abbrev pub is_broken : {S : Type 0} → Result S AcceptStop → Bool
+is_broken (Ok stream) = false
+is_broken (Err stop.Broken) = true
+is_broken (Err _) = false
+
+-- accepting `connections` connections, where 0 is no limit, came to this end
+pub record HasAccepted (connections : ℕ) (listening : Listening) (entrance : Entrance)
+    (ended : AcceptEnd) : Type 0 where
+  -- all of them were accepted, and none more
+  pub enough : ended ≡ Enough → (0 < connections) × (listening.accepted ≡ connections)
+  pub within : 0 < connections → listening.accepted ≤ connections
+  -- it ends for want of a worker exactly where there was none for a connection
+  pub no_worker : (ended ≡ NoWorker) ↔ (entrance.has_worker ≡ false)
+  -- it ends by a fault of its own exactly where the listener is broken
+  pub broken : (ended ≡ Broken) ↔ (listening.is_broken ≡ true)

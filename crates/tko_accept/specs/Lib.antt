@@ -1,0 +1,3 @@
+pub mod Accepting
+pub mod Allotments
+pub mod FirstAsks

@@ -1,0 +1,131 @@
+//! The thread that accepts connections.
+ghost use Rattle.std.specs.Prelude.{◌≡◌, ◌&&◌, false, true};
+ghost use Rattle.tko_accept.specs.Accepting.{HasAccepted};
+
+use crate::clients::Client;
+use crate::listening::{AcceptStop, Listening};
+use crate::room::{Place, Room};
+use crossbeam_channel::Sender;
+use std::alloc::{AllocError, Global};
+use std::net::TcpStream;
+use std::sync::{Arc, Wait};
+use tko_events::Log;
+use tko_threads::Patience;
+
+/// Why accepting ended.
+#[derive(Clone, Copy, Debug, PartialEq, Eq)]
+pub enum AcceptEnd {
+    /// As many connections were accepted as were asked for.
+    Enough,
+    /// No worker takes connections any more.
+    NoWorker,
+    /// The listener is broken.
+    Broken,
+}
+
+/// The way of a connection to the workers.
+#[derive(Drop)]
+pub struct Entrance {
+    room: Arc<Room, Global>,
+    clients: Sender<Client>,
+    patience: Patience,
+    pub log: Log,
+    /// Whether there was a worker for each connection so far.
+    has_worker: bool,
+}
+
+/// Accepts connections while there is room for them, and sends each to the workers, until there
+/// were `connections` of them, where 0 is no limit, or until no worker is left. An accept that
+/// failed is made again once a client has left, or after a tenth of a second.
+pub fn accept_all<R: Wait>(
+    rt: &R,
+    alloc: Global,
+    listening: &mut Listening<'_>,
+    entrance: &mut Entrance,
+    connections: u64,
+) -> AcceptEnd
+    requires none { listening.old.accepted ≡ 0 }
+    requires whole { listening.old.is_broken ≡ false }
+    requires taken { entrance.old.has_worker ≡ true }
+    ensures { HasAccepted connections listening.new entrance.new result }
+{
+    let mut left = connections;
+    for _ in rt.forever() {
+        if !entrance.room.has_place(rt) {
+            continue;
+        }
+        match listening.accept() {
+            Ok(stream) => {
+                if !entrance.admit(rt, alloc, stream) {
+                    return AcceptEnd::NoWorker;
+                }
+                if left == 1 {
+                    return AcceptEnd::Enough;
+                }
+                left = left.saturating_sub(1);
+            }
+            Err(AcceptStop::Nobody) => {}
+            Err(AcceptStop::Aborted) => {}
+            Err(AcceptStop::Failed) => entrance.room.wait(rt),
+            Err(AcceptStop::Broken) => return AcceptEnd::Broken,
+        }
+    }
+    unreachable!()
+}
+
+impl Entrance {
+    /// The way into this room, and to the workers that take from this channel.
+    pub fn new(
+        room: Arc<Room, Global>,
+        clients: Sender<Client>,
+        patience: Patience,
+        log: Log,
+    ) -> Entrance
+        ensures { result.has_worker ≡ true }
+    {
+        Entrance {
+            room,
+            clients,
+            patience,
+            log,
+            has_worker: true,
+        }
+    }
+
+    /// Sends a connection to the workers, and returns whether there is one. A connection whose
+    /// socket cannot be set up, or for which there is no memory, is closed at once. That is counted
+    /// as a session that ended by a fault.
+    fn admit<R: Wait>(&mut self, rt: &R, alloc: Global, stream: TcpStream) -> bool
+        ensures { self.new.has_worker ≡ (self.old.has_worker && result) }
+    {
+        match self.client(alloc, stream) {
+            Ok(Some(client)) => {
+                self.log.meter().accept_client();
+                self.send(rt, client)
+            }
+            Ok(None) | Err(_) => {
+                self.log.count_session(true);
+                self.log.meter().drop_client();
+                true
+            }
+        }
+    }
+
+    /// Sends a client to the workers, and returns whether there is one.
+    fn send<R: Wait>(&mut self, rt: &R, client: Client) -> bool
+        ensures { self.new.has_worker ≡ (self.old.has_worker && result) }
+    {
+        let is_sent = self.clients.send(rt, client).is_ok();
+        self.has_worker = self.has_worker && is_sent;
+        is_sent
+    }
+
+    /// The client at the other end of a connection, which has its place in the room.
+    fn client(&self, alloc: Global, stream: TcpStream) -> Result<Option<Client>, AllocError> {
+        if self.patience.set(&stream).is_err() {
+            return Ok(None);
+        }
+        let place = Place::take(&self.room)?;
+        Ok(Some(Client::new(alloc, stream, place, self.patience)?))
+    }
+}

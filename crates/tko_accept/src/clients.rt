@@ -1,0 +1,121 @@
+//! Clients over TCP.
+ghost use Rattle.std.specs.Prelude.{◌≡◌};
+
+use crate::first_asks::FirstAsk;
+use crate::room::Place;
+use crossbeam_channel::{Receiver, RecvTimeoutError};
+use std::alloc::{AllocError, Global};
+use std::io;
+use std::io::{ErrorKind, Read, Write};
+use std::net::TcpStream;
+use std::sync::Arc;
+use std::time::Duration;
+use tko_io::{IoRuntime, MonotonicClock, Piped};
+use tko_threads::{IDLE, Next, Patience, Source};
+
+/// A client's connection, which both its ends share, so that it has one descriptor. The socket is
+/// closed before the place is given back.
+#[derive(Drop)]
+struct Connection {
+    stream: TcpStream,
+    place: Place,
+}
+
+/// What a client sends.
+#[derive(Drop)]
+pub struct Incoming {
+    connection: Arc<Connection, Global>,
+}
+
+/// What is sent to a client.
+#[derive(Drop)]
+pub struct Outgoing {
+    connection: Arc<Connection, Global>,
+}
+
+/// A client: the two ends of its connection, and how long it is waited for.
+#[derive(Drop)]
+pub struct Client {
+    reader: Piped<Incoming>,
+    writer: Piped<Outgoing>,
+    patience: Patience,
+}
+
+impl Client {
+    /// The client whose socket was set up with this patience.
+    pub(crate) fn new(
+        alloc: Global,
+        stream: TcpStream,
+        place: Place,
+        patience: Patience,
+    ) -> Result<Client, AllocError> {
+        let connection = Arc::new(alloc, Connection { stream, place })?;
+        let writer = Outgoing {
+            connection: Arc::try_clone(&connection)?,
+        };
+        let reader = Incoming { connection };
+        Ok(Client {
+            reader: Piped::new(reader),
+            writer: Piped::new(writer),
+            patience,
+        })
+    }
+}
+
+impl Read for Incoming {
+    fn read(&mut self, buf: &mut [u8]) -> io::Result<usize> {
+        (&self.connection.stream).read(buf)
+    }
+}
+
+/// A write that waited for its turn in vain is to be made again. How long a client may keep its
+/// worker so is judged by `Paced`.
+impl Write for Outgoing {
+    fn write(&mut self, buf: &[u8]) -> io::Result<usize> {
+        match (&self.connection.stream).write(buf) {
+            Err(error) if error.kind() == ErrorKind::WouldBlock => {
+                Err(io::Error::from(ErrorKind::Interrupted))
+            }
+            written => written,
+        }
+    }
+
+    fn flush(&mut self) -> io::Result<()> {
+        Ok(())
+    }
+}
+
+/// The clients that were accepted, from a channel. A worker for which the process has no
+/// descriptors has none.
+#[derive(Drop)]
+pub struct Clients {
+    /// Until the first one was asked for.
+    pub first_ask: Option<FirstAsk>,
+    pub accepted: Option<Receiver<Client>>,
+}
+
+impl Source for Clients {
+    type Reader = Piped<Incoming>;
+
+    type Writer = Piped<Outgoing>;
+
+    type Clock = MonotonicClock;
+
+    fn clock<R: IoRuntime>(&self, rt: &R) -> MonotonicClock {
+        MonotonicClock::new(rt)
+    }
+
+    fn next<R: IoRuntime>(&mut self, rt: &R) -> Next<Piped<Incoming>, Piped<Outgoing>> {
+        if let Some(first_ask) = self.first_ask.take() {
+            first_ask.report(rt);
+        }
+        let Some(accepted) = &self.accepted else {
+            return Next::Closed;
+        };
+        match accepted.recv_timeout(rt, Duration::from_millis(u64::from(IDLE))) {
+            Ok(client) => Next::Connection(client.reader, client.writer, client.patience),
+            Err(RecvTimeoutError::Timeout) => Next::Idle,
+            Err(RecvTimeoutError::Disconnected) => Next::Closed,
+        }
+    }
+}

@@ -1,0 +1,79 @@
+//! How many clients are connected at once.
+
+use std::alloc::{AllocError, Global};
+use std::sync::atomic::{AtomicU64, Ordering};
+use std::sync::{Arc, Wait};
+use std::time::Duration;
+use tko_metrics::Meter;
+
+/// How many milliseconds the thread that accepts waits for a client to leave.
+const PAUSE: u64 = 100;
+
+/// How many clients may be connected at once, and how many are. Only the thread that accepts lets
+/// clients in; any thread lets them out.
+#[derive(Drop)]
+pub struct Room {
+    most: u64,
+    connected: AtomicU64,
+    meter: Meter,
+}
+
+impl Room {
+    /// A room for at most `most` clients, with none in it. The meter counts them.
+    pub fn open(alloc: Global, most: u64, meter: Meter) -> Result<Arc<Room, Global>, AllocError> {
+        let room = Room {
+            most,
+            connected: AtomicU64::new(0),
+            meter,
+        };
+        Ok(Arc::new(alloc, room)?)
+    }
+
+    /// Whether one more client may be connected. Where none may, it waits until a client leaves, or
+    /// a tenth of a second.
+    pub(crate) fn has_place<R: Wait>(&self, rt: &R) -> bool {
+        let connected = self.connected.load(Ordering::SeqCst);
+        if connected < self.most {
+            return true;
+        }
+        self.wait_while(rt, connected);
+        false
+    }
+
+    /// Waits until a client leaves, or a tenth of a second.
+    pub(crate) fn wait<R: Wait>(&self, rt: &R) {
+        self.wait_while(rt, self.connected.load(Ordering::SeqCst));
+    }
+
+    /// Waits while the number of clients is still `connected`, or a tenth of a second.
+    fn wait_while<R: Wait>(&self, rt: &R, connected: u64) {
+        let pause = Duration::from_millis(PAUSE);
+        let low = connected % (1 << 32);
+        self.connected.park_timeout(rt, low as u32, pause);
+    }
+}
+
+/// One client's place in a room, which is given back when it is dropped.
+pub(crate) struct Place {
+    room: Arc<Room, Global>,
+}
+
+impl Place {
+    /// Takes a place.
+    pub(crate) fn take(room: &Arc<Room, Global>) -> Result<Place, AllocError> {
+        let room = Arc::try_clone(room)?;
+        room.connected.fetch_add(1, Ordering::SeqCst);
+        room.meter.enter();
+        Ok(Place { room })
+    }
+}
+
+impl Drop for Place {
+    fn drop(self) {
+        self.room.meter.leave();
+        self.room.connected.fetch_sub(1, Ordering::SeqCst);
+        self.room.connected.wake_one();
+        let Place { room } = self;
+        drop(room);
+    }
+}

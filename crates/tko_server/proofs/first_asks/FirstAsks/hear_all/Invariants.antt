@@ -1,4 +1,0 @@
-use Rattle.tko_server.proofs.first_asks.FirstAsks.hear_all.Given as goal
-
-abbrev pub decreases-loop-self : goal.decreases-loop-self
-decreases-loop-self g l = l.self.missing

@@ -1,0 +1,4 @@
+mod LeavingLemmas
+mod LendingLemmas
+pub mod ReadyLemmas
+mod WorkLemmas

@@ -1,0 +1,38 @@
+-- A client's time: when a round is due while it is served, and when its time is over.
+use Rattle.std.specs.Prelude.{◌-◌, ◌==◌, ◌&&◌, nat_lt, nat_le, if◌then◌else◌, ℕ, Option, Some, None}
+use Rattle.tko_threads.specs.declared.watch.Turn.{Turn}
+use Rattle.tko_threads.specs.declared.watch.Turn.TheVariants.{Read, Idle, Over}
+use Rattle.tko_threads.specs.declared.watch.Watch.{Watch}
+
+-- whose turn it is at this moment: the client's time is over where it has a limit, and completed no
+-- request for so long; a round is due 100 ms after the last one ended; else bytes are read
+abbrev pub turn_at : Watch → ℕ → Turn
+turn_at watch now =
+    if nat_lt 0 watch.limit && nat_le watch.limit (now - watch.since) then Over
+    else (if nat_lt (now - watch.rounded) 100 then Read else Idle)
+
+-- a round begins at an idle turn
+abbrev pub resting : ℕ → Watch → Watch
+resting now watch = record watch { waited = Some (now - watch.since) }
+
+-- a round at an idle turn, if one was run, has ended: its time does not count for the client
+abbrev pub rested : Option ℕ → ℕ → Watch → Watch
+rested None now watch = watch
+rested (Some waited) now watch = record watch { since = now - waited; rounded = now; waited = None }
+
+-- what is known at this moment: where there were more requests, the last one and its round have
+-- just been completed
+abbrev pub caught_up : Watch → ℕ → ℕ → Watch
+caught_up watch now requests =
+    if watch.requests == requests then rested watch.waited now watch
+    else record watch { requests = requests; since = now; rounded = now; waited = None }
+
+-- another client begins
+abbrev pub begun : ℕ → ℕ → Watch → Watch
+begun limit now watch = record watch { limit = limit; since = now }
+
+-- at an idle turn a round begins
+abbrev pub after_turn : Turn → ℕ → Watch → Watch
+after_turn Read now watch = watch
+after_turn Idle now watch = resting now watch
+after_turn Over now watch = watch

@@ -1,0 +1,38 @@
+//! How a worker ends: it gives up its marks, and gives its seat back.
+ghost use Rattle.tko_health.specs.Seating.{Leaves};
+ghost use Rattle.tko_threads.specs.Leaving.{ReleasesEach};
+
+use crate::metered::Metered;
+use std::sync::Wait;
+use tko_health::{Health, Seating};
+use tko_session::Parts;
+
+/// Releases each server, which is told, and gives the seat back.
+pub(crate) fn leave<R: Wait, S: Seating, L: Drop, M: Drop>(
+    rt: &R,
+    seating: &S,
+    parts: Parts<S::Worker, L, Metered<'_>, M>,
+) -> S::Idle
+    ensures own { S.own seating.now result }
+    ensures leaves { Leaves S.Worker.Health.steps (S.gives_back seating.now)
+        parts.entry.backend.health result }
+{
+    let Parts {
+        backend,
+        trails,
+        config: _,
+    } = parts;
+    let mut health = backend.health;
+    release_all(rt, &mut health, &trails);
+    seating.leave(rt, health)
+}
+
+/// Releases each server, in number order, and tells how the health replied.
+fn release_all<R: Wait, H: Health>(rt: &R, health: &mut H, observer: &Metered<'_>)
+    ensures { ReleasesEach H.steps (H.servers health.old) health.old health.new }
+{
+    for server in 0..health.servers() {
+        let reply = health.release(rt, server);
+        observer.released(rt, server, reply);
+    }
+}

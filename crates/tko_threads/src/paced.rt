@@ -1,0 +1,52 @@
+//! Replies that are written at the pace at which a client must take them.
+
+use crate::pace::Pace;
+use tko_io::{Clock, IoRuntime, Outlet, Stop, raise};
+
+/// A client's outlet, which fails where the client takes its replies too slowly.
+#[derive(Drop)]
+pub(crate) struct Paced<O, M> {
+    inner: O,
+    pace: Pace,
+    clock: M,
+    /// How often the client was too slow.
+    failures: u64,
+}
+
+impl<O, M> Paced<O, M> {
+    /// The client must take 64 KiB of what waits, or all of it, in each `limit` milliseconds.
+    pub(crate) fn new(inner: O, clock: M, limit: u32) -> Paced<O, M> {
+        Paced {
+            inner,
+            pace: Pace::new(limit),
+            clock,
+            failures: 0,
+        }
+    }
+}
+
+impl<O: Outlet, M: Clock> Outlet for Paced<O, M> {
+    ghost use Rattle.std.specs.Prelude.{◌+◌};
+
+    ghost takes = { λ a bytes b. O.takes a.inner bytes b.inner };
+
+    ghost failures = { λ a. O.failures a.inner + a.failures };
+
+    ghost nothing = { λ x. O.nothing x.inner };
+
+    ghost goes_on = { λ x y z bytes more first second.
+        O.goes_on x.inner y.inner z.inner bytes more first second };
+
+    fn write<R: IoRuntime>(&mut self, rt: &R, piece: &[u8]) -> Result<usize, Stop> {
+        let now = self.clock.next(rt);
+        if !self.pace.begin(now) {
+            raise(rt, &mut self.failures);
+            return Err(Stop::Fault);
+        }
+        let written = self.inner.write(rt, piece);
+        if let Ok(count) = written {
+            self.pace.take(count, piece.len());
+        }
+        written
+    }
+}
