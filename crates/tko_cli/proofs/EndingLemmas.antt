@@ -1,5 +1,8 @@
 -- The fault of a server after its notices.
-use Rattle.std.proofs.Common.{ℕ, List}
+use Rattle.std.proofs.Common.{◌≡◌, ℕ, List, IfErr, IfOk, Result, Ok, Err, subst}
+use Rattle.tko_options.specs.Asked.{IsReadFrom, IsRefusal}
+use Rattle.tko_options.specs.declared.asked.Asked.{Asked}
+use Rattle.tko_options.specs.declared.refusal.Refusal.{Refusal}
 use Rattle.tko_commands.specs.FaultLines.{IsFaultWritten}
 use Rattle.tko_commands.specs.Reasons.{LeftOut}
 use Rattle.tko_commands.specs.declared.fault.Fault.{Fault}
@@ -15,3 +18,15 @@ fault_told takes failures notes faults reason from to old middle new (Silent sam
     AfterReason (record { middle = middle; fault = reason; reason = LeftOut same; line = told })
 fault_told takes failures notes faults reason from to old middle new (WithNotices failed noted) told =
     AfterNotices middle reason failed noted told
+
+-- what was read from the words, where a command was
+pub asked_of : (result : Result Asked Refusal) (words : List (List ℕ)) (asked : Asked) → result ≡ Ok asked
+    → IfOk result (IsReadFrom words) → IsReadFrom words asked
+asked_of (Ok it) words asked is read = let same : it ≡ asked = cc in subst (λ one. IsReadFrom words one) same read
+asked_of (Err it) words asked is read = absurd (cc)
+
+-- and where none was
+pub refused_of : (result : Result Asked Refusal) (words : List (List ℕ)) (shown : Refusal) → result ≡ Err shown
+    → IfErr result (IsRefusal words) → IsRefusal words shown
+refused_of (Ok it) words shown is refused = absurd (cc)
+refused_of (Err it) words shown is refused = let same : it ≡ shown = cc in subst (λ one. IsRefusal words one) same refused

@@ -13,7 +13,7 @@ use Rattle.tko_commands.specs.declared.fault.Fault.{Fault}
 use Rattle.tko_commands.specs.declared.fault.Fault.TheVariants as fault
 use Rattle.tko_cli.specs.Planned.{IsPlanned, IsServerOf}
 use Rattle.tko_cli.specs.Announcements.{HasNotPrinted, HasPrinted, ready_text}
-use Rattle.tko_cli.specs.Serving.{HasFailed, HasNoListener, HasNoMetrics, HasPlan, IsExplained, IsPrepared, IsRunnable, IsUnprepared, NotReady, NotWritten, PreparedFails, Ready, ServeFails, TotalsFail, fault_of_server}
+use Rattle.tko_cli.specs.Serving.{HasFailed, HasNoListener, HasNoMetrics, HasPlan, IsExplained, IsNamed, IsRunnable, IsUnprepared, NotReady, NotWritten, PreparedFails, Ready, ServeFails, TotalsFail, fault_of_server}
 use Rattle.tko_cli.specs.declared.announcement.Announcement.{Announcement}
 use Rattle.tko_cli.specs.declared.planned.Plan.{Plan}
 use Rattle.tko_cli.specs.declared.serving.Prepared.{Prepared}
@@ -37,12 +37,12 @@ settings_of_plan : (options : ServeOptions) (plan : Plan) (open_files : Option �
 settings_of_plan options plan open_files server planned is = rw (is.settings, is.config, planned.settings) refl
 
 -- so it can run
-pub is_runnable : (options : ServeOptions) (prepared : Prepared) → IsPrepared options prepared → IsRunnable prepared
+pub is_runnable : (options : ServeOptions) (prepared : Prepared) → IsNamed options prepared.server → IsRunnable prepared
 is_runnable options prepared is =
-    subst IsWithinRanges (sym (settings_of_plan options is.plan is.open_files prepared.server is.planned is.server)) is.planned.within
+    subst IsWithinRanges (sym (settings_of_plan options is.plan is.open_files prepared.server is.planned is.of_plan)) is.planned.within
 
-pub has_plan : (options : ServeOptions) (prepared : Prepared) → IsPrepared options prepared → HasPlan options
-has_plan options prepared is = record { plan = is.plan; planned = is.planned }
+pub has_plan : (options : ServeOptions) (server : Server) → IsNamed options server → HasPlan options
+has_plan options server is = record { plan = is.plan; planned = is.planned }
 
 -- no setting of a server that can run is a fault
 pub never_unset : (settings : Settings) (name : SettingsFault) → IsWithinRanges settings

@@ -1,18 +1,64 @@
--- What a command wrote, by how it ended.
-use Rattle.std.specs.Prelude.{ℕ, ◌≡◌, List}
+-- What a command did, by how it ended.
+use Rattle.std.specs.Prelude.{ℕ, ◌≡◌, List, Option, Some, None, string_bytes}
+use Rattle.tko_io.specs.declared.io.Inlet.{Ghosts as InletGhosts}
+use Rattle.tko_io.specs.declared.io.Outlet.{Ghosts as OutletGhosts}
+use Rattle.tko_commands.specs.Done.{HasCheckedAll, HasDried}
 use Rattle.tko_commands.specs.FaultLines.{IsFaultWritten, IsReasonTold}
+use Rattle.tko_commands.specs.Reasons.{IsLoadedServer}
+use Rattle.tko_commands.specs.Replays.{Replays}
 use Rattle.tko_commands.specs.declared.fault.Fault.{Fault}
 use Rattle.tko_cli.specs.Notices.{HasNotices}
 use Rattle.tko_cli.specs.Serving.{HasFailed, HasServed}
+use Rattle.tko_options.specs.Asked.{IsReadFrom, IsRefusal}
+use Rattle.tko_options.specs.declared.asked.Asked.TheVariants as asked
+use Rattle.tko_options.specs.declared.check_options.CheckOptions.{CheckOptions}
+use Rattle.tko_options.specs.declared.dry_options.DryOptions.{DryOptions}
+use Rattle.tko_options.specs.declared.refusal.Refusal.{Refusal}
+use Rattle.tko_options.specs.declared.refusal.Refusal.TheVariants as refusal
 use Rattle.tko_options.specs.declared.serve_options.ServeOptions.{ServeOptions}
 
--- a command was done: nothing was written for it, or a server served to its end and there are
--- notices
-pub data IsQuiet {O F : Type 0} (takes : O → List ℕ → O → Type 0)
-    (notes : F → List ℕ → F → Type 0) (faults : F → ℕ) (from to : O) (old new : F) : Type 0 where
-  Nothing : new ≡ old → IsQuiet takes notes faults from to old new
-  Noted : (options : ServeOptions) → HasServed takes options from to
-      → HasNotices notes faults old new → IsQuiet takes notes faults from to old new
+-- the ends of a command: what it reads, what it writes, and where it writes faults and notices
+pub record Ends (I O F : Type 0) : Type 0 where
+  pub input : I
+  pub output : O
+  pub faults : F
+
+abbrev pub ends : {I O F : Type 0} → I → O → F → Ends I O F
+ends input output faults = record { input = input; output = output; faults = faults }
+
+-- a server of these options, with the text of their configuration's file if they name one, ran to
+-- its end, and there are notices
+pub record HasServedFor {O F : Type 0} (outlet : OutletGhosts O) (notes : OutletGhosts F)
+    (options : ServeOptions) (old new : O × F) : Type 0 where
+  pub loaded : ServeOptions
+  pub text : IsLoadedServer options loaded
+  pub served : HasServed outlet.takes loaded old.0 new.0
+  pub noted : HasNotices notes.takes notes.failures old.1 new.1
+
+-- the text that is to be shown in place of a command
+abbrev pub answer_in : Refusal → Option (List ℕ)
+answer_in (refusal.Answer text) = Some (string_bytes text)
+answer_in _ = None
+
+-- the command that these words ask for was done, and no fault was written; or a text was, as the
+-- help, where clap takes no command from the words
+pub data IsDone {I O F : Type 0} (inlet : InletGhosts I) (outlet : OutletGhosts O)
+    (notes : OutletGhosts F) (words : List (List ℕ)) (old new : Ends I O F) : Type 0 where
+  Dried : (options : DryOptions) → IsReadFrom words (asked.Dry options)
+      → HasDried inlet outlet options (old.input, old.output) (new.input, new.output)
+      → new.faults ≡ old.faults → IsDone inlet outlet notes words old new
+  Replayed : IsReadFrom words asked.Replay
+      → Replays inlet.gives inlet.is_ended outlet.takes old.input old.output new.input new.output
+      → new.faults ≡ old.faults → IsDone inlet outlet notes words old new
+  Served : (options : ServeOptions) → IsReadFrom words (asked.Serve options)
+      → HasServedFor outlet notes options (old.output, old.faults) (new.output, new.faults)
+      → new.input ≡ old.input → IsDone inlet outlet notes words old new
+  Checked : (options : CheckOptions) → IsReadFrom words (asked.Check options)
+      → HasCheckedAll outlet.takes options old.output new.output
+      → new.input ≡ old.input → new.faults ≡ old.faults → IsDone inlet outlet notes words old new
+  Shown : (shown : Refusal) (text : List ℕ) → IsRefusal words shown → answer_in shown ≡ Some text
+      → outlet.takes old.output text new.output → new.input ≡ old.input
+      → new.faults ≡ old.faults → IsDone inlet outlet notes words old new
 
 -- the line of one fault was written, and nothing else but a line that says why, or the notices of a
 -- server that was ready to run

@@ -1,7 +1,7 @@
 -- What `serve` says beside its totals and its fault.
 use Rattle.std.specs.Prelude.{◌≡◌, ◌<◌, ℕ, List, ◌++◌, codes, decimal}
 use Rattle.tko_model.specs.Records.{Gains}
-use Rattle.tko_server.specs.declared.allotment.Allotment.{Allotment}
+use Rattle.tko_accept.specs.declared.allotment.Allotment.{Allotment}
 use Rattle.tko_cli.specs.declared.notice.Notice.{Notice}
 use Rattle.tko_cli.specs.declared.notice.Notice.TheVariants as notice
 

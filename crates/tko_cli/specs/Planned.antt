@@ -7,7 +7,7 @@ use Rattle.tko_pools.specs.Addresses.{is_address}
 use Rattle.tko_pools.specs.Configs.{Configuration, Means, Refuses}
 use Rattle.tko_pools.specs.declared.fault.ConfigFault.{ConfigFault}
 use Rattle.tko_prober.specs.Delay.{IsRange}
-use Rattle.tko_server.specs.declared.patience.Patience.{Patience}
+use Rattle.tko_threads.specs.declared.patience.Patience.{Patience}
 use Rattle.tko_server.specs.declared.running.Options.{Options as Server}
 use Rattle.tko_options.specs.Trackers.{serve_settings}
 use Rattle.tko_commands.specs.Faults.{fault_of_config}

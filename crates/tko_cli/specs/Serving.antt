@@ -1,6 +1,5 @@
 -- What `serve` writes, and why it fails.
 use Rattle.std.specs.Prelude.{◌≡◌, ◌<◌, ◌⊎◌, ℕ, true, List, Option, is_some}
-use Rattle.tko_counts.specs.declared.counts.Counts.{Counts}
 use Rattle.tko_cli.specs.Announcements.{ready_text}
 use Rattle.tko_cli.specs.Notices.{HasNotices}
 use Rattle.tko_cli.specs.Planned.{IsPlanned, IsServerOf, NoPlan}
@@ -12,9 +11,12 @@ use Rattle.tko_commands.specs.declared.listen_fault.ListenFault.TheVariants as l
 use Rattle.tko_cli.specs.declared.planned.Plan.{Plan}
 use Rattle.tko_cli.specs.declared.serving.Prepared.{Prepared}
 use Rattle.tko_model.specs.Ranges.{IsWithinRanges}
+use Rattle.tko_server.specs.Closing.{HasEnded}
 use Rattle.tko_server.specs.Runs.{tracker_settings}
 use Rattle.tko_server.specs.declared.run_fault.RunFault.{RunFault}
 use Rattle.tko_server.specs.declared.run_fault.RunFault.TheVariants as server_fault
+use Rattle.tko_server.specs.declared.running.Ended.{Ended}
+use Rattle.tko_server.specs.declared.running.Options.{Options as Server}
 use Rattle.tko_options.specs.declared.serve_options.ServeOptions.{ServeOptions}
 
 -- the options name what to run on
@@ -22,25 +24,28 @@ pub record HasPlan (options : ServeOptions) : Type 0 where
   pub plan : Plan
   pub planned : IsPlanned options plan
 
--- `ready` went out, and then the totals' lines
-pub record HasTotals {O : Type 0} (takes : O → List ℕ → O → Type 0) (from to : O) : Type 0 where
-  pub middle : O
-  pub counts : Counts
-  pub ready : takes from ready_text middle
-  pub totals : takes middle (totals_text counts) to
-
--- the options name what to run on, and a server ran to its totals
-pub record HasServed {O : Type 0} (takes : O → List ℕ → O → Type 0) (options : ServeOptions)
-    (from to : O) : Type 0 where
-  pub plan : HasPlan options
-  pub totals : HasTotals takes from to
-
--- the server is to run on what the options name
-pub record IsPrepared (options : ServeOptions) (prepared : Prepared) : Type 0 where
+-- the server is one that the options name
+pub record IsNamed (options : ServeOptions) (server : Server) : Type 0 where
   pub plan : Plan
   pub planned : IsPlanned options plan
   pub open_files : Option ℕ
-  pub server : IsServerOf plan options open_files prepared.server
+  pub of_plan : IsServerOf plan options open_files server
+
+-- this server ran to its end: `ready` went out, and then the lines of its totals
+pub record HasTotals {O : Type 0} (takes : O → List ℕ → O → Type 0) (server : Server)
+    (from to : O) : Type 0 where
+  pub ended : Ended
+  pub ran : HasEnded server ended
+  pub middle : O
+  pub ready : takes from ready_text middle
+  pub totals : takes middle (totals_text ended.totals.counts) to
+
+-- a server that the options name ran to its end, and its totals went out
+pub record HasServed {O : Type 0} (takes : O → List ℕ → O → Type 0) (options : ServeOptions)
+    (from to : O) : Type 0 where
+  pub server : Server
+  pub named : IsNamed options server
+  pub totals : HasTotals takes server from to
 
 -- no setting of the server is out of its range
 abbrev pub IsRunnable : Prepared → Type 0
@@ -115,8 +120,8 @@ TotalsFail failures from to fault.Memory = to ≡ from
 TotalsFail failures from to _ = ⊥
 
 module _ {O : Type 0} (takes : O → List ℕ → O → Type 0) (failures : O → ℕ) where
-  -- why a server that was ready to run fails: the outlet failed; accepting failed after `ready`, and
-  -- then nothing else went out; or memory ran out, and then `ready` went out or nothing
+  -- why a server that was ready to run fails: the outlet failed; accepting failed after `ready`,
+  -- and then nothing else went out; or memory ran out, and then `ready` went out or nothing
   abbrev pub PreparedFails : O → O → Fault → Type 0
   PreparedFails from to fault.Write = failures from < failures to
   PreparedFails from to fault.Accept = takes from ready_text to

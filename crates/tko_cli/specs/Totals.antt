@@ -1,9 +1,9 @@
 -- How the totals of the workers are printed.
 use Rattle.std.specs.Prelude.{List, ℕ, [], ◌∷◌, ◌++◌, codes, decimal}
-use Rattle.tko_counts.specs.Numbers.{kind_word, number_of}
-use Rattle.tko_counts.specs.declared.counts.Counts.{Counts}
-use Rattle.tko_counts.specs.declared.kind.Kind.{Kind}
-use Rattle.tko_counts.specs.declared.kind.Kind.TheVariants.{Request, Attempt, Skip, Reply, NoServer, Probe}
+use Rattle.tko_model.specs.Numbers.{kind_word, number_of}
+use Rattle.tko_model.specs.declared.counts.Counts.{Counts}
+use Rattle.tko_model.specs.declared.kind.Kind.{Kind}
+use Rattle.tko_model.specs.declared.kind.Kind.TheVariants.{Request, Attempt, Skip, Reply, NoServer, Probe}
 
 -- the line of a kind
 abbrev pub total_text : Kind → Counts → List ℕ

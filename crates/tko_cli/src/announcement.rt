@@ -3,8 +3,7 @@ ghost use Rattle.std.specs.Prelude.{◌≡◌};
 ghost use Rattle.tko_cli.specs.Announcements.{HasPrinted, HasNotPrinted};
 
 use tko_commands::write_text;
-use tko_io::Outlet;
-use tko_links::IoRuntime;
+use tko_io::{IoRuntime, Outlet};
 use tko_server::{Announce, AnnounceFault, FirstAsks};
 
 /// The output on which `ready` is to be printed.

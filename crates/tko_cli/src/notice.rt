@@ -5,8 +5,7 @@ ghost use Rattle.tko_cli.specs.Notices.{HasNotice, HasNotices, notice_bytes, not
 use std::alloc::Global;
 use tko_bytes::NoMemory;
 use tko_commands::write_text;
-use tko_io::Outlet;
-use tko_links::IoRuntime;
+use tko_io::{IoRuntime, Outlet};
 use tko_model::append_number;
 use tko_server::Allotment;
 

@@ -1,6 +1,8 @@
 //! From the arguments to the status.
-ghost use Rattle.std.specs.Prelude.{◌≡◌, ◌≤◌};
-ghost use Rattle.tko_cli.specs.Endings.{IsFaultTold, IsQuiet};
+ghost use Rattle.std.specs.Prelude.{◌≡◌, ◌≤◌, OnOk, map, string_bytes};
+ghost use Rattle.tko_cli.specs.Endings.{HasServedFor, IsDone, IsFaultTold, ends};
+ghost use Rattle.tko_cli.specs.Notices.{HasNotices};
+ghost use Rattle.tko_cli.specs.Serving.{HasServed};
 
 use crate::serving::serve;
 use std::alloc::Global;
@@ -11,8 +13,7 @@ use tko_commands::{
     DONE, Fault, fail, loaded_server, refuse_config, refuse_listen, run_check, run_dry, run_replay,
     status_of, write_text,
 };
-use tko_io::{Inlet, Outlet};
-use tko_links::IoRuntime;
+use tko_io::{Inlet, IoRuntime, Outlet};
 use tko_options::{Asked, Refusal, ServeOptions};
 
 const REFUSED: u8 = 2;
@@ -34,8 +35,8 @@ pub fn command<
     F: Outlet,
 >(rt: &R, alloc: Global, words: &[String], input: &mut I, output: &mut O, faults: &mut F) -> u8
     ensures status { result ≤ 2 }
-    ensures done { result ≡ 0 → IsQuiet O.takes F.takes F.failures
-        output.old output.new faults.old faults.new }
+    ensures done { result ≡ 0 → IsDone I.Inlet O.Outlet F.Outlet (map string_bytes words.now)
+        (ends input.old output.old faults.old) (ends input.new output.new faults.new) }
     ensures fault { result ≡ 1 → IsFaultTold O.takes O.failures F.takes F.failures
         output.old output.new faults.old faults.new }
     ensures refused { result ≡ 2 → (input.new ≡ input.old) × (output.new ≡ output.old) }
@@ -68,8 +69,8 @@ fn run_server<
     F: Outlet,
 >(rt: &R, alloc: Global, options: ServeOptions, output: &mut O, faults: &mut F) -> u8
     ensures status { result ≤ 1 }
-    ensures done { result ≡ 0 → IsQuiet O.takes F.takes F.failures
-        output.old output.new faults.old faults.new }
+    ensures done { result ≡ 0 → HasServedFor O.Outlet F.Outlet options
+        (output.old, faults.old) (output.new, faults.new) }
     ensures fault { result ≡ 1 → IsFaultTold O.takes O.failures F.takes F.failures
         output.old output.new faults.old faults.new }
 {
@@ -93,8 +94,8 @@ fn serve_loaded<
     F: Outlet,
 >(rt: &R, alloc: Global, options: &ServeOptions, output: &mut O, faults: &mut F) -> u8
     ensures status { result ≤ 1 }
-    ensures done { result ≡ 0 → IsQuiet O.takes F.takes F.failures
-        output.old output.new faults.old faults.new }
+    ensures done { result ≡ 0 → HasServed O.takes options.now output.old output.new }
+    ensures noted { result ≡ 0 → HasNotices F.takes F.failures faults.old faults.new }
     ensures fault { result ≡ 1 → IsFaultTold O.takes O.failures F.takes F.failures
         output.old output.new faults.old faults.new }
 {
@@ -120,7 +121,9 @@ fn refuse<R: IoRuntime, F: Outlet>(rt: &R, faults: &mut F, text: &str) -> u8
 }
 
 /// Writes the help or the version.
-fn show<R: IoRuntime, O: Outlet>(rt: &R, outlet: &mut O, text: &str) -> Result<(), Fault> {
+fn show<R: IoRuntime, O: Outlet>(rt: &R, outlet: &mut O, text: &str) -> Result<(), Fault>
+    ensures { OnOk result (O.takes outlet.old text.now outlet.new) }
+{
     write_text(rt, outlet, text.as_bytes())?;
     Ok(())
 }

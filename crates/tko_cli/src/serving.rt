@@ -2,13 +2,14 @@
 ghost use Rattle.std.specs.Prelude.{◌≡◌, IfOk, OnOk, IfErr, OnErr, bytes_eq, codes, is_some, string_bytes};
 ghost use Rattle.tko_cli.specs.Announcements.{IsReadyWritten};
 ghost use Rattle.tko_cli.specs.Notices.{HasNotices};
-ghost use Rattle.tko_cli.specs.Serving.{HasNoListener, HasNoMetrics, HasServed, HasTotals, IsExplained, IsPrepared, IsRunnable, IsSilentOrNoted, IsUnprepared, PreparedFails, ServeFails, TotalsFail, fault_of_server};
+ghost use Rattle.tko_cli.specs.Serving.{HasNoListener, HasNoMetrics, HasServed, HasTotals, IsExplained, IsNamed, IsRunnable, IsSilentOrNoted, IsUnprepared, PreparedFails, ServeFails, TotalsFail, fault_of_server};
 ghost use Rattle.tko_cli.specs.Totals.{totals_text};
+ghost use Rattle.tko_server.specs.Closing.{HasEnded};
 
 use crate::announcement::{Announcement, give_back};
 use crate::notice::{Notice, write_notice, write_notice_if};
 use crate::open_files::{has_no_memory_limit, open_file_limit};
-use crate::planned::{Plan, plan_of};
+use crate::planned::plan_of;
 use crate::totals::totals_lines;
 use std::alloc::{AllocError, Global};
 use std::fs::{File, Files};
@@ -16,8 +17,7 @@ use std::net::TcpListener;
 use std::thread::Threads;
 use tko_commands::{Fault, ListenFault, write_text};
 use tko_desk::Totals;
-use tko_io::Outlet;
-use tko_links::IoRuntime;
+use tko_io::{IoRuntime, Outlet};
 use tko_metrics::Process;
 use tko_options::ServeOptions;
 use tko_pools::is_address;
@@ -33,9 +33,9 @@ pub(crate) struct Prepared {
 }
 
 /// Serves clients over TCP until the last of the connections has ended, and then prints the totals.
-/// `ready` is printed once clients can connect: when each worker has asked for its first one. Before
-/// it a notice says what the server does with its descriptors, and before the totals notices say
-/// what the workers met.
+/// `ready` is printed once clients can connect: when each worker has asked for its first one.
+/// Before it a notice says what the server does with its descriptors, and before the totals notices
+/// say what the workers met.
 pub(crate) fn serve<
     R: IoRuntime<Listener = TcpListener>
         + Threads
@@ -73,15 +73,14 @@ fn prepare<R: IoRuntime<Listener = TcpListener> + Files<File = File>>(
     alloc: Global,
     options: &ServeOptions,
 ) -> Result<Prepared, Fault>
-    ensures ok { IfOk result (IsPrepared options.now) }
+    ensures ok { IfOk result (λ prepared. IsNamed options.now prepared.server) }
     ensures err { IfErr result (IsUnprepared options.now) }
 {
     let plan = plan_of(alloc, options)?;
-    let logging = logging_of(rt, alloc, options, &plan)?;
+    let server = plan.server(options, open_file_limit(rt, alloc));
+    let logging = logging_of(rt, alloc, options, &server)?;
     let listener = listener_of(rt, alloc, options.listen.as_str())?;
-    let limit = open_file_limit(rt, alloc);
-    let metering = metering_of(rt, alloc, options, &plan, limit)?;
-    let server = plan.server(options, limit);
+    let metering = metering_of(rt, alloc, options, &server)?;
     Ok(Prepared {
         server,
         listener,
@@ -104,7 +103,7 @@ fn run_prepared<
     F: Outlet,
 >(rt: &R, alloc: Global, prepared: Prepared, output: &mut O, faults: &mut F) -> Result<(), Fault>
     requires { IsRunnable prepared }
-    ensures ok { OnOk result (HasTotals O.takes output.old output.new) }
+    ensures ok { OnOk result (HasTotals O.takes prepared.server output.old output.new) }
     ensures err { IfErr result (PreparedFails O.takes O.failures output.old output.new) }
     ensures noted { HasNotices F.takes F.failures faults.old faults.new }
 {
@@ -125,6 +124,7 @@ fn run_announced<
 >(rt: &R, alloc: Global, prepared: Prepared, output: &mut O) -> Result<Ended, RunFault>
     requires { IsRunnable prepared }
     ensures ok { OnOk result (IsReadyWritten O.takes O.failures output.old output.new) }
+    ensures ended { IfOk result (HasEnded prepared.server) }
     ensures err { IfErr result (λ cause.
         PreparedFails O.takes O.failures output.old output.new (fault_of_server cause)) }
 {
@@ -193,13 +193,13 @@ fn listener_of<R: IoRuntime<Listener = TcpListener>>(
     }
 }
 
-/// The event log that the options ask for, if they do. Its lines go to the standard error of the
-/// runtime, and not to the outlet of the faults.
+/// The event log of this server that the options ask for, if they do. Its lines go to the standard
+/// error of the runtime, and not to the outlet of the faults.
 fn logging_of<R: IoRuntime>(
     rt: &R,
     alloc: Global,
     options: &ServeOptions,
-    plan: &Plan,
+    server: &tko_server::Options,
 ) -> Result<Option<Logging>, AllocError>
     ensures { IfOk result (λ logging.
         is_some logging ≡ bytes_eq (string_bytes options.now.log) (codes "stderr")) }
@@ -207,19 +207,16 @@ fn logging_of<R: IoRuntime>(
     if !options.has_log() {
         return Ok(None);
     }
-    let failures = options.failures;
-    let logging = Logging::start(rt, alloc, options.listen.as_str(), &plan.config, failures)?;
+    let logging = Logging::start(rt, alloc, options.listen.as_str(), server)?;
     Ok(Some(logging))
 }
 
-/// The metrics that the options ask for, if they do, of a process that may have so many descriptors
-/// open.
+/// The metrics of this server that the options ask for, if they do.
 fn metering_of<R: IoRuntime<Listener = TcpListener> + Files<File = File>>(
     rt: &R,
     alloc: Global,
     options: &ServeOptions,
-    plan: &Plan,
-    limit: Option<u64>,
+    server: &tko_server::Options,
 ) -> Result<Option<Metering>, Fault>
     ensures ok { IfOk result (λ metering. is_some metering ≡ is_some options.now.metrics) }
     ensures err { IfErr result (HasNoMetrics options.now) }
@@ -230,8 +227,8 @@ fn metering_of<R: IoRuntime<Listener = TcpListener> + Files<File = File>>(
     let Some(listener) = listener_at(rt, address.as_str()) else {
         return Err(Fault::Metrics);
     };
-    let process = Process::open(rt, limit);
-    let metering = Metering::start(alloc, listener, &plan.config, options.threads, process)?;
+    let process = Process::open(rt, server.open_files);
+    let metering = Metering::start(alloc, listener, server, process)?;
     Ok(Some(metering))
 }
 

@@ -4,9 +4,8 @@ ghost use Rattle.tko_cli.specs.Totals.{total_text, totals_of, totals_text};
 
 use std::alloc::Global;
 use tko_bytes::NoMemory;
-use tko_counts::{Counts, Kind};
 use tko_desk::Totals;
-use tko_model::append_number;
+use tko_model::{Counts, Kind, append_number};
 
 /// A line for each kind, as `total request 4`.
 pub(crate) fn totals_lines(alloc: Global, totals: &Totals) -> Result<Vec<u8>, NoMemory>

@@ -9,14 +9,14 @@ use Rattle.tko_model.specs.declared.plain.OpenFault.{OpenFault}
 use Rattle.tko_model.specs.declared.plain.OpenFault.TheVariants as open_fault
 use Rattle.tko_model.specs.declared.settings.SettingsFault.{SettingsFault}
 use Rattle.tko_links.specs.declared.scripted.Script.{Script}
-use Rattle.tko_turns.specs.declared.step.Report.{Report}
+use Rattle.tko_session.specs.declared.step.Report.{Report}
 use Rattle.tko_io.specs.declared.io.Inlet.{Ghosts as InletGhosts}
 use Rattle.tko_io.specs.declared.io.Outlet.{Ghosts as OutletGhosts}
 use Rattle.tko_session.specs.declared.fault.SessionFault.{SessionFault}
 use Rattle.tko_session.specs.declared.fault.SessionFault.TheVariants as session_fault
 use Rattle.tko_session.specs.Ends.{IsCalm, SessionStops}
 use Rattle.tko_session.specs.Served.{Served, context, serving}
-use Rattle.tko_answer.specs.Answers.{Reaches}
+use Rattle.tko_reply.specs.Answers.{Reaches}
 use Rattle.tko_pools.specs.Configs.{Configuration, in_order}
 use Rattle.tko_commands.specs.declared.fault.Fault.{Fault}
 use Rattle.tko_commands.specs.declared.fault.Fault.TheVariants as fault

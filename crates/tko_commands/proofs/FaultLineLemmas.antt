@@ -1,5 +1,5 @@
 -- What was written for a fault.
-use Rattle.std.proofs.Common.{◌≡◌, ℕ, ◌<◌, List, refl, OnErr, OnOk, Result, Ok, Err}
+use Rattle.std.proofs.Common.{◌≡◌, ℕ, ◌<◌, List, refl, IsOk, OnErr, OnOk, Result, Ok, Err}
 use Rattle.tko_commands.specs.declared.fault.Fault.{Fault}
 use Rattle.tko_commands.specs.FaultLines.{IsReasonTold, IsFaultWritten, Written, Failed, HasLine}
 use Rattle.tko_commands.specs.Reasons.{HasLineOf, LeftOut}
@@ -24,3 +24,8 @@ pub is_fault_written : {O T E : Type 0} (takes : O → List ℕ → O → Type 0
     → IsFaultWritten takes failures reason old new
 is_fault_written takes failures reason old new (Ok value) line failed = Written line
 is_fault_written takes failures reason old new (Err error) line failed = Failed failed
+
+-- what holds where it is Ok, of one that is
+pub of_ok : {T E : Type 0} {P : Type 0} (result : Result T E) → IsOk result → OnOk result P → P
+of_ok (Ok value) is holds = holds
+of_ok (Err error) is holds = absurd (cc)

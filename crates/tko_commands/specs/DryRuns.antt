@@ -12,18 +12,18 @@ use Rattle.tko_links.specs.declared.scripted.Script.{Script}
 use Rattle.tko_health.specs.Health.{OneThread, IsGranted, IsTrackerStep}
 use Rattle.tko_links.specs.Scripted.{ScriptedState, IsPlayed}
 use Rattle.tko_prober.specs.declared.delays.Delays.{Delays}
-use Rattle.tko_backend.specs.declared.clock.FrozenClock.{FrozenClock}
-use Rattle.tko_answer.specs.declared.parts.Parts.{Parts}
-use Rattle.tko_turns.specs.declared.step.Report.{Report}
+use Rattle.tko_io.specs.declared.clock.FrozenClock.{FrozenClock}
+use Rattle.tko_reply.specs.declared.parts.Parts.{Parts}
+use Rattle.tko_session.specs.declared.step.Report.{Report}
 use Rattle.tko_io.specs.declared.io.Inlet.{Ghosts as InletGhosts}
 use Rattle.tko_io.specs.declared.io.Outlet.{Ghosts as OutletGhosts}
-use Rattle.tko_turns.specs.Effects.{effects_of}
-use Rattle.tko_turns.specs.Events.{Effects}
-use Rattle.tko_backend.specs.Clocks.{IsFrozen}
-use Rattle.tko_backend.specs.Probers.{no_probers}
+use Rattle.tko_session.specs.Effects.{effects_of}
+use Rattle.tko_session.specs.Events.{Effects}
+use Rattle.tko_io.specs.Clocks.{IsFrozen}
+use Rattle.tko_prober.specs.Probers.{no_probers}
 use Rattle.tko_session.specs.Served.{Served, context, serving}
-use Rattle.tko_answer.specs.TrailEvents.{Keeps}
-use Rattle.tko_answer.specs.Ghosts.{PartsGhosts}
+use Rattle.tko_reply.specs.TrailEvents.{Keeps}
+use Rattle.tko_reply.specs.Ghosts.{PartsGhosts}
 use Rattle.tko_pools.specs.Configs.{Configuration}
 use Rattle.tko_pools.specs.declared.fault.ConfigFault.{ConfigFault}
 use Rattle.tko_commands.specs.Configured.{IsConfigured, IsFlawed}
@@ -147,8 +147,10 @@ pub record IsDry {I O : Type 0} (inlet : InletGhosts I) (outlet : OutletGhosts O
       (context old.0 old.1 before) report (context new.0 middle after)
   pub trails : TrailsGo outlet.takes options.trail after.trails middle new.1
 
-module _ {I O : Type 0} (inlet : InletGhosts I) (outlet : OutletGhosts O) (options : DryOptions) where
-  -- a session over the parts that the options name ended by this fault, and then nothing was written
+module _ {I O : Type 0} (inlet : InletGhosts I) (outlet : OutletGhosts O)
+    (options : DryOptions) where
+  -- a session over the parts that the options name ended by this fault, and then nothing was
+  -- written
   pub record SessionFails (cause : SessionFault) (old new : I × O) : Type 0 where
     pub before : DryParts
     pub after : DryParts
@@ -180,7 +182,8 @@ module _ {I O : Type 0} (inlet : InletGhosts I) (outlet : OutletGhosts O) (optio
 
   -- where the output failed: in the replies, or in the trails' lines
   pub data OutputFails (old new : I × O) : Type 0 where
-    in_replies : (count : ℕ) → SessionFails (session_fault.Write count) old new → OutputFails old new
+    in_replies : (count : ℕ) → SessionFails (session_fault.Write count) old new
+        → OutputFails old new
     in_trails : TrailsFail old new → OutputFails old new
 
   -- where memory ran out: before anything was read or written, in the session, or before the first
@@ -190,9 +193,9 @@ module _ {I O : Type 0} (inlet : InletGhosts I) (outlet : OutletGhosts O) (optio
     in_session : SessionFails session_fault.Memory old new → MemoryFails old new
     before_trails : (trails : List (List Attempt)) → OwesTrails old new trails → MemoryFails old new
 
-  -- why a dry run fails: the options name no parts, and then nothing was read or written; the session
-  -- ended by a fault, and then nothing more was written; the output failed in the trails' lines; or
-  -- memory ran out
+  -- why a dry run fails: the options name no parts, and then nothing was read or written; the
+  -- session ended by a fault, and then nothing more was written; the output failed in the trails'
+  -- lines; or memory ran out
   abbrev pub DryFails : I × O → I × O → Fault → Type 0
   DryFails old new (fault.Outcomes number) =
       (first_bad (words_in options) ≡ Some number) × (new.0 ≡ old.0) × (new.1 ≡ old.1)

@@ -1,5 +1,6 @@
 pub mod Checks
 pub mod Configured
+pub mod Done
 pub mod DryRuns
 pub mod FaultLines
 pub mod Faults

@@ -6,8 +6,7 @@ use crate::Fault;
 use crate::writing::write_text;
 use std::alloc::Global;
 use tko_explain::report;
-use tko_io::Outlet;
-use tko_links::IoRuntime;
+use tko_io::{IoRuntime, Outlet};
 
 /// Prints what a configuration means, and the targets of these keys.
 pub(crate) fn check<R: IoRuntime, O: Outlet>(

@@ -9,14 +9,13 @@ use crate::outcomes::scripts_of;
 use crate::trail_lines::trail_lines;
 use crate::writing::write_text;
 use std::alloc::Global;
-use tko_backend::{Backend, FrozenClock, Probers};
 use tko_bytes::NoMemory;
-use tko_io::{Inlet, Outlet};
-use tko_links::{IoRuntime, Script, Scripted};
+use tko_io::{FrozenClock, Inlet, IoRuntime, Outlet};
+use tko_links::{Script, Scripted};
 use tko_model::Plain;
 use tko_options::DryOptions;
 use tko_pools::Config;
-use tko_prober::Delays;
+use tko_prober::{Backend, Delays, Probers};
 use tko_route::PlainHealth;
 use tko_session::{Kept, Parts, serve};
 

@@ -8,8 +8,7 @@ use crate::writing::write_text;
 use std::alloc::Global;
 use std::fs::{File, Files};
 use std::io;
-use tko_io::Outlet;
-use tko_links::IoRuntime;
+use tko_io::{IoRuntime, Outlet};
 use tko_options::{CheckOptions, DryOptions, ServeOptions};
 
 /// The options, with the text of their configuration's file in the place of the configuration.

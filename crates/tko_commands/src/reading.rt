@@ -3,8 +3,7 @@ ghost use Rattle.std.specs.Prelude.{◌≡◌, ◌<◌, ◌≤◌, ◌+◌, ◌�
 ghost use Rattle.tko_commands.specs.Readings.{CannotRead, IsText};
 
 use std::alloc::{AllocError, Global};
-use tko_io::{Inlet, piece_buffer, wait_for_piece};
-use tko_links::IoRuntime;
+use tko_io::{Inlet, IoRuntime, piece_buffer, wait_for_piece};
 
 /// Why a text can't be read.
 #[derive(Clone, Copy, Debug, PartialEq, Eq)]

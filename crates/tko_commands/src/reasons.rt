@@ -8,8 +8,7 @@ use crate::writing::write_text;
 use std::alloc::Global;
 use tko_bytes::NoMemory;
 use tko_explain::reason;
-use tko_io::Outlet;
-use tko_links::IoRuntime;
+use tko_io::{IoRuntime, Outlet};
 use tko_pools::ConfigFault;
 
 /// Writes why a text is no configuration, where this is the cause. The line is left out where

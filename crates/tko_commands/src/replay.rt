@@ -6,8 +6,7 @@ use crate::Fault;
 use crate::reading::read_text;
 use crate::writing::write_text;
 use std::alloc::Global;
-use tko_io::{Inlet, Outlet};
-use tko_links::IoRuntime;
+use tko_io::{Inlet, IoRuntime, Outlet};
 use tko_runs::{Schedule, check, play};
 
 /// One byte more than a schedule may have, so that a text that is too long is seen.

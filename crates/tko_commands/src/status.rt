@@ -1,6 +1,8 @@
 //! Commands run to their status. Their faults are reported.
-ghost use Rattle.std.specs.Prelude.{◌≡◌, ◌≤◌, ◌<◌, OnOk, OnErr};
+ghost use Rattle.std.specs.Prelude.{◌≡◌, ◌≤◌, ◌<◌, IsOk, OnOk, OnErr};
+ghost use Rattle.tko_commands.specs.Done.{HasCheckedAll, HasDried};
 ghost use Rattle.tko_commands.specs.FaultLines.{HasLine, IsFaultWritten, IsReasonTold};
+ghost use Rattle.tko_commands.specs.Replays.{Replays};
 
 use crate::checking::check;
 use crate::dry::dry;
@@ -11,8 +13,7 @@ use crate::writing::{WriteFault, write_text};
 use crate::{Fault, ListenFault};
 use std::alloc::Global;
 use std::fs::Files;
-use tko_io::{Inlet, Outlet};
-use tko_links::IoRuntime;
+use tko_io::{Inlet, IoRuntime, Outlet};
 use tko_options::{CheckOptions, DryOptions};
 use tko_pools::ConfigFault;
 
@@ -31,6 +32,8 @@ pub fn run_dry<R: IoRuntime + Files, I: Inlet, O: Outlet, F: Outlet>(
     faults: &mut F,
 ) -> u8
     ensures status { result ≤ 1 }
+    ensures dry { result ≡ 0 → HasDried I.Inlet O.Outlet options
+        (input.old, output.old) (input.new, output.new) }
     ensures done { result ≡ 0 → faults.new ≡ faults.old }
     ensures fault { result ≡ 1 → IsReasonTold F.takes F.failures faults.old faults.new }
 {
@@ -60,6 +63,8 @@ pub fn run_replay<R: IoRuntime, I: Inlet, O: Outlet, F: Outlet>(
     faults: &mut F,
 ) -> u8
     ensures status { result ≤ 1 }
+    ensures replay { result ≡ 0 → Replays I.gives I.is_ended O.takes
+        input.old output.old input.new output.new }
     ensures done { result ≡ 0 → faults.new ≡ faults.old }
     ensures fault { result ≡ 1 → IsReasonTold F.takes F.failures faults.old faults.new }
 {
@@ -76,6 +81,7 @@ pub fn run_check<R: IoRuntime + Files, O: Outlet, F: Outlet>(
     faults: &mut F,
 ) -> u8
     ensures status { result ≤ 1 }
+    ensures check { result ≡ 0 → HasCheckedAll O.takes options output.old output.new }
     ensures done { result ≡ 0 → faults.new ≡ faults.old }
     ensures fault { result ≡ 1 → IsReasonTold F.takes F.failures faults.old faults.new }
 {
@@ -97,6 +103,7 @@ pub fn status_of<R: IoRuntime, F: Outlet>(
     done: Result<(), Fault>,
 ) -> u8
     ensures status { result ≤ 1 }
+    ensures ok { result ≡ 0 → IsOk done }
     ensures done { result ≡ 0 → faults.new ≡ faults.old }
     ensures fault { result ≡ 1 → IsReasonTold F.takes F.failures faults.old faults.new }
 {
@@ -116,6 +123,7 @@ fn status_over<R: IoRuntime, F: Outlet>(
     done: Result<(), Fault>,
 ) -> u8
     ensures status { result ≤ 1 }
+    ensures ok { result ≡ 0 → IsOk done }
     ensures done { result ≡ 0 → faults.new ≡ faults.old }
     ensures fault { result ≡ 1 → IsReasonTold F.takes F.failures faults.old faults.new }
 {

@@ -2,8 +2,7 @@
 ghost use Rattle.std.specs.Prelude.{◌≡◌, ◌<◌, OnErr, OnOk};
 ghost use Rattle.tko_commands.specs.Texts.{WritesFront};
 
-use tko_io::{Outlet, write_all};
-use tko_links::IoRuntime;
+use tko_io::{IoRuntime, Outlet, write_all};
 
 /// The outlet failed.
 #[derive(Clone, Copy, Debug, PartialEq, Eq)]

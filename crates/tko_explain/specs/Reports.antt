@@ -55,8 +55,8 @@ report_text root pools config keys =
 
 -- what no configuration tells of its servers
 abbrev pub values_note : List ℕ
-values_note =
-    codes "note: no server may hold a value above 1 MiB (memcached -I above 1m): it would be marked\n"
+values_note = codes "note: no server may hold a value above 1 MiB (memcached -I above 1m)"
+    ++ codes ": it would be marked\n"
 
 -- a text means a configuration, and this is what is printed of it and of these keys, with whether
 -- an object of the text has a key twice, and then the note

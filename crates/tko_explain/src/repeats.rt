@@ -1,5 +1,5 @@
-//! What a configuration names more than once, as lines. Where memory runs out, the buffer may hold a
-//! part of a text.
+//! What a configuration names more than once, as lines. Where memory runs out, the buffer may hold
+//! a part of a text.
 ghost use Rattle.std.specs.Prelude.{◌≡◌, ◌++◌, IfOk, OnOk, map};
 ghost use Rattle.serde_json.specs.View.{items_view, members_view, view};
 ghost use Rattle.tko_pools.specs.Json.{texts_of};

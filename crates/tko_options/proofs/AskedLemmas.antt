@@ -1,13 +1,16 @@
 -- The command that clap found.
-use Rattle.std.proofs.Common.{◌≡◌, ℕ, List, Some, subst}
+use Rattle.std.proofs.Common.{◌≡◌, ℕ, Bool, true, false, List, Some, refl, subst}
 use Rattle.std.specs.Prelude.{option_map}
 use Rattle.clap.specs.Simple.{subcommand_rows_of}
 use Rattle.clap.specs.Words.{App, HasMatchesOf, found_of, rows_of, subcommand_name_of}
 use Rattle.clap.specs.declared.parser.matches.ArgMatches.{ArgMatches}
 use Rattle.clap.specs.declared.parser.matches.Found.{Found}
-use Rattle.tko_options.specs.Asked.{AsksFor, IsCommandWith, IsReadFrom}
+use Rattle.clap.specs.Takes.{takes}
+use Rattle.tko_options.specs.Asked.{AsksFor, IsCommandWith, IsNoAnswer, IsReadFrom, IsRefusal}
 use Rattle.tko_options.specs.Program.{program_app}
 use Rattle.tko_options.specs.declared.asked.Asked.{Asked}
+use Rattle.tko_options.specs.declared.refusal.Refusal.{Refusal}
+use Rattle.tko_options.specs.declared.refusal.Refusal.TheVariants as refusal
 
 pub is_command : (name : List ℕ) (are : Found → Type 0) (matches found : ArgMatches)
     → subcommand_name_of matches ≡ Some name
@@ -20,3 +23,21 @@ pub read_from : (words : List (List ℕ)) (app : App) (matches : ArgMatches) (as
     → HasMatchesOf app words matches → AsksFor matches asked → IsReadFrom words asked
 read_from words app matches asked is has asks =
     record { matches = matches; of_words = subst (λ it. HasMatchesOf it words matches) is has; asks = asks }
+
+untaken : {K : Type 0} (taken : Bool) → (taken ≡ true → K) → (K → ⊥) → taken ≡ false
+untaken false passes other = refl
+untaken true passes other = absurd (other (passes refl))
+
+-- clap refused the words, and not since memory ran out
+pub refused_by : {K : Type 0} (words : List (List ℕ)) (app : App) (text : Refusal) → app ≡ program_app
+    → (takes app words ≡ true → K) → (K → text ≡ refusal.Memory) → IsRefusal words text
+refused_by words app (refusal.Answer text) is passes memory =
+    subst (λ it. takes it words ≡ false) is (untaken (takes app words) passes (λ k. let no = memory k in cc))
+refused_by words app (refusal.Wrong text) is passes memory = tt
+refused_by words app refusal.Memory is passes memory = tt
+
+-- a refusal of words that clap takes
+pub no_answer : (words : List (List ℕ)) (text : Refusal) → IsNoAnswer text → IsRefusal words text
+no_answer words (refusal.Answer text) none = absurd none
+no_answer words (refusal.Wrong text) none = tt
+no_answer words refusal.Memory none = tt

@@ -1,6 +1,7 @@
 -- What the words of the command line ask for.
-use Rattle.std.specs.Prelude.{◌≡◌, ℕ, Bool, true, List, Some, codes, option_map, string_bytes}
+use Rattle.std.specs.Prelude.{◌≡◌, ℕ, Bool, true, false, List, Some, codes, option_map, string_bytes}
 use Rattle.clap.specs.Simple.{subcommand_rows_of}
+use Rattle.clap.specs.Takes.{takes}
 use Rattle.clap.specs.Words.{HasMatchesOf, rows_of, subcommand_name_of}
 use Rattle.clap.specs.declared.parser.matches.ArgMatches.{ArgMatches}
 use Rattle.clap.specs.declared.parser.matches.Found.{Found}
@@ -8,6 +9,8 @@ use Rattle.tko_options.specs.Found.{AreCheckFound, AreDryFound, AreFound, is_log
 use Rattle.tko_options.specs.Program.{program_app}
 use Rattle.tko_options.specs.declared.asked.Asked.{Asked}
 use Rattle.tko_options.specs.declared.asked.Asked.TheVariants as asked
+use Rattle.tko_options.specs.declared.refusal.Refusal.{Refusal}
+use Rattle.tko_options.specs.declared.refusal.Refusal.TheVariants as refusal
 
 -- the words name this command, and clap found this for its options
 pub record IsCommand (name : List ℕ) (matches : ArgMatches) (found : Found) : Type 0 where
@@ -41,3 +44,15 @@ pub record IsReadFrom (words : List (List ℕ)) (wanted : Asked) : Type 0 where
   pub matches : ArgMatches
   pub of_words : HasMatchesOf program_app words matches
   pub asks : AsksFor matches wanted
+
+-- words that clap takes are not answered with a text of its own, as the help or the version
+abbrev pub IsRefusal : List (List ℕ) → Refusal → Type 0
+IsRefusal words (refusal.Answer text) = takes program_app words ≡ false
+IsRefusal words (refusal.Wrong text) = Unit {0}
+IsRefusal words refusal.Memory = Unit {0}
+
+-- there is no text for the standard output
+abbrev pub IsNoAnswer : Refusal → Type 0
+IsNoAnswer (refusal.Answer text) = ⊥
+IsNoAnswer (refusal.Wrong text) = Unit {0}
+IsNoAnswer refusal.Memory = Unit {0}

@@ -1,6 +1,6 @@
 //! What the words of the command line ask for.
-ghost use Rattle.std.specs.Prelude.{◌≡◌, true, IfOk, IfSome, map, string_bytes};
-ghost use Rattle.tko_options.specs.Asked.{AsksFor, IsReadFrom, names_log};
+ghost use Rattle.std.specs.Prelude.{◌≡◌, true, IfErr, IfOk, IfSome, map, string_bytes};
+ghost use Rattle.tko_options.specs.Asked.{AsksFor, IsNoAnswer, IsReadFrom, IsRefusal, names_log};
 
 use crate::check_options::CheckOptions;
 use crate::command_line::program;
@@ -29,6 +29,7 @@ impl Asked {
     pub fn read(alloc: Global, words: &[String]) -> Result<Asked, Refusal>
         ensures read { IfOk result (IsReadFrom (map string_bytes words.now)) }
         ensures log { IfOk result (λ asked. names_log asked ≡ true) }
+        ensures refused { IfErr result (IsRefusal (map string_bytes words.now)) }
     {
         match program(alloc)?.try_get_matches_from(words) {
             Ok(matches) => Asked::among(alloc, &matches),
@@ -40,6 +41,7 @@ impl Asked {
     fn among(alloc: Global, matches: &ArgMatches<'_>) -> Result<Asked, Refusal>
         ensures asks { IfOk result (AsksFor matches.now) }
         ensures log { IfOk result (λ asked. names_log asked ≡ true) }
+        ensures refused { IfErr result IsNoAnswer }
     {
         let Some(asked) = Asked::of(alloc, matches)? else {
             return Err(refusal(alloc, ErrorKind::MissingSubcommand, WITHOUT_COMMAND)?);
@@ -82,7 +84,9 @@ impl Asked {
 }
 
 /// The refusal of words that clap takes.
-fn refusal(alloc: Global, kind: ErrorKind, reason: &str) -> Result<Refusal, AllocError> {
+fn refusal(alloc: Global, kind: ErrorKind, reason: &str) -> Result<Refusal, AllocError>
+    ensures { IfOk result IsNoAnswer }
+{
     let error = program(alloc)?.error(kind, reason)?;
-    Ok(Refusal::of(alloc, &error))
+    Ok(Refusal::Wrong(format!(in alloc; "{error}")?))
 }

@@ -1,4 +1,7 @@
 //! Words that name no command to run.
+ghost use Rattle.std.specs.Prelude.{◌≡◌};
+ghost use Rattle.clap.specs.declared.error.kind.ErrorKind.TheVariants.{OutOfMemory};
+ghost use Rattle.clap.specs.Values.{kind_of};
 
 use clap::Error;
 use clap::error::ErrorKind;
@@ -15,6 +18,11 @@ pub enum Refusal {
 }
 
 impl From<AllocError> for Refusal {
+    ghost use Rattle.std.specs.Prelude.{◌≡◌};
+    ghost use Rattle.tko_options.specs.declared.refusal.Refusal.TheVariants.{Memory};
+
+    ghost from_gives = { λ _ refusal. refusal ≡ Memory };
+
     fn from(_: AllocError) -> Refusal {
         Refusal::Memory
     }
@@ -22,7 +30,9 @@ impl From<AllocError> for Refusal {
 
 impl Refusal {
     /// What clap says of the words.
-    pub(crate) fn of(alloc: Global, error: &Error) -> Refusal {
+    pub(crate) fn of(alloc: Global, error: &Error) -> Refusal
+        ensures { kind_of error.now ≡ OutOfMemory → result ≡ Refusal.Memory }
+    {
         if error.kind() == ErrorKind::OutOfMemory {
             return Refusal::Memory;
         }

@@ -144,7 +144,8 @@ pub(crate) fn config<'a>(alloc: Global) -> Result<Arg<'a>, AllocError>
         .required_unless_present("config-file")
 }
 
-/// `--config-file PATH`, without which `--config` is wanted. So clap names both where there is none.
+/// `--config-file PATH`, without which `--config` is wanted. So clap names both where there is
+/// none.
 pub(crate) fn required_file<'a>(alloc: Global) -> Result<Arg<'a>, AllocError>
     ensures { IfOk result (IsOption config_file_option) }
 {

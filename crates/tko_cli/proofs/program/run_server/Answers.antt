@@ -8,7 +8,12 @@ returns-in-Err-clause-fault g c =
     c.fail.new.faults c.in-Err.ensures.told c.fail.ensures.fault)
 
 pub returns-in-Ok-clause-done : goal.returns-in-Ok-clause-done
-returns-in-Ok-clause-done g c = rw c.in-Ok.ensures.kept at c.serve_loaded.ensures.done
+returns-in-Ok-clause-done g c = λ is. record {
+  loaded = c.in-Ok.options;
+  text = c.in-Ok.ensures.ok;
+  served = c.serve_loaded.ensures.done is;
+  noted = rw c.in-Ok.ensures.kept at c.serve_loaded.ensures.noted is;
+}
 
 pub returns-in-Ok-clause-fault : goal.returns-in-Ok-clause-fault
 returns-in-Ok-clause-fault g c = rw c.in-Ok.ensures.kept at c.serve_loaded.ensures.fault

@@ -1,9 +1,5 @@
-use Rattle.tko_cli.specs.Endings.{Noted}
 use Rattle.tko_cli.proofs.EndingLemmas.{fault_told}
 use Rattle.tko_cli.proofs.program.serve_loaded.Goals as goal
-
-pub returns-in-Ok-clause-done : goal.returns-in-Ok-clause-done
-returns-in-Ok-clause-done g c = λ is. Noted c.args.options.now c.in-Ok.ensures.ok c.in-Ok.ensures.noted
 
 pub returns-in-Err-clause-fault : goal.returns-in-Err-clause-fault
 returns-in-Err-clause-fault g c =

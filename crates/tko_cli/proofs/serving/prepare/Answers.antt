@@ -20,6 +20,6 @@ pub returns-clause-ok : goal.returns-clause-ok
 returns-clause-ok g c = record {
   plan = c.in_ok-plan.plan;
   planned = c.in_ok-plan.ensures.ok;
-  open_files = c.open_file_limit-limit.result;
-  server = c.server-server.ensures;
+  open_files = c.open_file_limit.result;
+  of_plan = c.server-server.ensures;
 }

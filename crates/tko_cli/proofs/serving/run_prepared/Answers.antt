@@ -5,8 +5,9 @@ use Rattle.tko_cli.proofs.serving.run_prepared.Goals as goal
 pub returns-in-Ok-clause-ok : goal.returns-in-Ok-clause-ok
 returns-in-Ok-clause-ok g c =
     on_ok c.write_totals.result c.write_totals.ensures.ok (λ totals. record {
+      ended = c.in-Ok.ended;
+      ran = c.in-Ok.ensures.ended;
       middle = c.run_announced.new.output;
-      counts = c.in-Ok.ended.totals.counts;
       ready = c.in-Ok.ensures.ok.ready;
       totals = totals;
     })
