@@ -10,6 +10,8 @@ import tried_tests
 
 # How many of a crate's modules a check had to check, and did not find kept.
 CHECKED = re.compile(r"^crate \w+: modules loaded=\d+ checked=(\d+)$", re.M)
+# What it prints of a function that no call can reach.
+EMPTY = re.compile(r"^warning: (no call of `(?![^`]*::fn::).*)$", re.M)
 # What a check prints of each thing that is well.
 WELL = re.compile(r"^(?:(?:fn|struct|enum|impl|trait|const|static) \S+: proved|(?:statements|checked|crate) .*)\n", re.M)
 
@@ -35,14 +37,27 @@ def changed_by(rt, names, crates):
 
 def is_changed(crate):
     """Whether the check of the crate found anything that its earlier ones did not: its own text, or a contract below."""
-    checked = CHECKED.findall(ran(crate, "check"))
+    checked = CHECKED.findall(proved(crate, "check"))
     return not checked or checked[-1] != "0"
 
 
 def test(crate):
     """Runs the tests of the crate, those whose proofs are dear without them."""
     if crate.has_tests():
-        ran(crate, *(["try", "--test"] if tried_tests.is_tried(crate) else ["test"]))
+        if tried_tests.is_tried(crate):
+            ran(crate, "try", "--test")
+        else:
+            proved(crate, "test")
+
+
+def proved(crate, word):
+    """What a command printed that proves, or the end of this run where it failed, or where no call can meet the contract
+    of a function, of which a proof alone says nothing."""
+    said = ran(crate, word, "--empty-contracts")
+    empty = EMPTY.search(said)
+    if empty:
+        kit.stop(f"rt {word} in crates/{crate.name} proved a function that nobody can call: {empty[1]}")
+    return said
 
 
 def ran(crate, *words):
