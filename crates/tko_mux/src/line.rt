@@ -1,5 +1,6 @@
 //! The connections to one server.
 ghost use Rattle.std.specs.Prelude.{◌≡◌, ◌<◌, ◌≤◌, [], Some, None, IsSome, Ok, OnErr, OnOk, length, option_copied, option_map, take};
+ghost use Rattle.std.specs.Bool.{OnFalse, OnTrue};
 ghost use Rattle.tko_pipe.specs.Ends.{ExpireEnds, GotEnds, TakeEnds};
 ghost use Rattle.tko_pipe.specs.Pipes.{IsCause, IsConnected, IsShut, IsWritten, PipeState, pushing, shutting};
 ghost use Rattle.tko_mux.specs.Lines.{IsLinePushed, IsOnLive, IsOnPipe, LineLeaves, first_on, idle_line, line_of, link_on, unwritten_on};
@@ -44,6 +45,14 @@ impl Line {
         ensures { option_copied result ≡ self.now.pipe }
     {
         self.pipe.as_ref()
+    }
+
+    /// Whether there was a connection that was shut, and that not all who waited on it have left.
+    pub fn is_leaving(&self) -> bool
+        ensures some { OnTrue result (IsSome self.now.ended) }
+        ensures none { OnFalse result (self.now.ended ≡ None) }
+    {
+        self.ended.is_some()
     }
 
     /// Who waits for the next response.

@@ -63,6 +63,7 @@ impl<P, S: Asking<P> + Drop> Mux<S, P> {
             IsAdmitted self.old.roster number (record { session = session }) self.new.roster) }
         ensures err { OnErr result (self.new ≡ self.old) }
         ensures lines { self.new.lines ≡ self.old.lines }
+        ensures limit { self.new.limit ≡ self.old.limit }
         ensures ready { AreReady ⟦<Client<S> as Driven<P>>⟧.ready self.new.roster }
         ensures linked { AreLinked S.awaited self.new.roster.slots self.new.lines }
     {
@@ -79,6 +80,7 @@ impl<P, S: Asking<P> + Drop> Mux<S, P> {
         ensures none { IfNone result ((self.new ≡ self.old)
             × IsKept S.awaited self.old.roster.slots number) }
         ensures lines { self.new.lines ≡ self.old.lines }
+        ensures limit { self.new.limit ≡ self.old.limit }
         ensures ready { AreReady ⟦<Client<S> as Driven<P>>⟧.ready self.new.roster }
         ensures linked { AreLinked S.awaited self.new.roster.slots self.new.lines }
     {
@@ -130,6 +132,7 @@ impl<P, S: Asking<P> + Drop> Mux<S, P> {
         ensures ok { OnOk result (IsOnLine (λ was it. IsLinePushed self.old.limit was
             (pushing Asker.Probe due Request.Version) it) self.old.lines duty self.new.lines) }
         ensures err { OnErr result (self.new ≡ self.old) }
+        ensures limit { self.new.limit ≡ self.old.limit }
         ensures roster { self.new.roster ≡ self.old.roster }
         ensures linked { AreLinked S.awaited self.new.roster.slots self.new.lines }
     {

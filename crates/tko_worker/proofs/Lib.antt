@@ -1,3 +1,4 @@
+mod NotedLemmas
 mod PortLemmas
 mod ReachLemmas
 mod RestLemmas

@@ -3,7 +3,7 @@ use Rattle.std.specs.Prelude.{◌≡◌, ℕ, [], Option, None, IsSome}
 use Rattle.tko_mux.specs.declared.asking.Given.{Given}
 use Rattle.tko_mux.specs.declared.asking.Given.TheVariants.{Input, Outcome}
 use Rattle.tko_worker.specs.declared.guest.Event.{Event}
-use Rattle.tko_worker.specs.declared.guest.Event.TheVariants.{Readable, Serve, Writable}
+use Rattle.tko_worker.specs.declared.guest.Event.TheVariants.{Ended, Readable, Serve, Writable}
 use Rattle.tko_worker.specs.declared.guest.Guest.{Guest}
 use Rattle.tko_worker.specs.declared.guest.Shared.{Shared}
 use Rattle.tko_worker.specs.declared.guest.Turned.{Turned}
@@ -18,6 +18,7 @@ use Rattle.tko_worker.specs.Talks.{Talk}
 abbrev pub MayServe : Event → Option ℕ → Type 0
 MayServe Readable awaited = Unit {0}
 MayServe Writable awaited = Unit {0}
+MayServe Ended awaited = Unit {0}
 MayServe Serve awaited = awaited ≡ None
 
 -- it asks a server exactly if it says so
@@ -54,6 +55,20 @@ seen awaited talk port guest = record {
   port = port guest.port;
 }
 
+-- this only says what came, and does not serve the client
+abbrev pub IsNotice : Event → Type 0
+IsNotice Readable = Unit {0}
+IsNotice Writable = Unit {0}
+IsNotice Ended = Unit {0}
+IsNotice Serve = ⊥
+
+-- what that does to the client's port
+abbrev pub noting : Event → PortState → PortState
+noting Readable port = now_readable port
+noting Writable port = now_writable port
+noting Ended port = now_readable port
+noting Serve port = port
+
 -- what a call does to it: an event is noted at its port, and its session stays; or it is served; or
 -- its session takes what came, and its port stays
 abbrev pub GuestDoes : Given Event → Option ℕ → Turned → Seen → Seen → Type 0
@@ -61,14 +76,26 @@ GuestDoes (Input Readable) asked did old new =
     (did ≡ Noted) × (new ≡ record old { port = now_readable old.port })
 GuestDoes (Input Writable) asked did old new =
     (did ≡ Noted) × (new ≡ record old { port = now_writable old.port })
+GuestDoes (Input Ended) asked did old new =
+    (did ≡ Noted) × (new ≡ record old { port = now_readable old.port })
 GuestDoes (Input Serve) asked did old new = ServedAs did new.talk new.port × AsksIf did asked
 GuestDoes (Outcome came) asked did old new = (did ≡ Took) × (new.port ≡ old.port)
+
+-- an event leaves the session as it is, and what all clients share
+abbrev pub EventKeeps : {L T P : Type 0} → Given Event → Guest L T × Shared P → Guest L T × Shared P
+    → Type 0
+EventKeeps (Input Readable) old new = (new.0.talk ≡ old.0.talk) × (new.1 ≡ old.1)
+EventKeeps (Input Writable) old new = (new.0.talk ≡ old.0.talk) × (new.1 ≡ old.1)
+EventKeeps (Input Ended) old new = (new.0.talk ≡ old.0.talk) × (new.1 ≡ old.1)
+EventKeeps (Input Serve) old new = Unit {0}
+EventKeeps (Outcome came) old new = Unit {0}
 
 pub record IsGuestCall {L T P : Type 0} (awaited : T → Option ℕ) (talk : T → Talk)
     (port : L → PortState) (old : Guest L T × Shared P) (call : Given Event × (Option ℕ × Turned))
     (new : Guest L T × Shared P) : Type 0 where
   pub did : GuestDoes call.0 call.1.0 call.1.1 (seen awaited talk port old.0)
       (seen awaited talk port new.0)
+  pub kept : EventKeeps call.0 old new
 
 -- nothing can be done for a client before its next event
 abbrev pub IsResting : Seen → Type 0

@@ -1,11 +1,12 @@
 -- A worker: who rests, and who is to be served.
 use Rattle.std.specs.Prelude.{◌≡◌, ◌≢◌, ◌⊎◌, ℕ, List, [], ◌∷◌, ◌++◌, Option, Some, None}
-use Rattle.tko_roster.specs.Rosters.{session_at}
+use Rattle.tko_roster.specs.Rosters.{IsAdmitted, IsMoved, IsReleased, session_at}
 use Rattle.tko_mux.specs.declared.client.Client.{Client}
 use Rattle.tko_mux.specs.declared.asking.Given.TheVariants.{Input}
 use Rattle.tko_mux.specs.declared.mux.delivery.Delivery.{Delivery}
 use Rattle.tko_mux.specs.declared.mux.delivery.Delivery.TheVariants.{Probed, Reached}
 use Rattle.tko_mux.specs.declared.mux.delivery.Done.{Done}
+use Rattle.tko_mux.specs.Linking.{IsKept}
 use Rattle.tko_mux.specs.Muxes.{IsMade, MuxState}
 use Rattle.tko_text.specs.declared.request.Request.{Request}
 use Rattle.tko_worker.specs.declared.guest.Event.TheVariants.{Serve}
@@ -57,6 +58,70 @@ abbrev pub IsListed : {L T : Type 0} → Sight L T → List (Option (Client (Gue
     → List ℕ → List ℕ → Type 0
 IsListed sight slots number old new =
     (RestAt sight slots number × (new ≡ old)) ⊎ (new ≡ old ++ number ∷ [])
+
+-- an event was noted at the port of a number's client. Its session, all others and all else stay
+pub record IsNotedAt {L T P : Type 0} (port : L → PortState) (note : PortState → PortState)
+    (old : MuxState (Guest L T) (Shared P)) (number : ℕ) (new : MuxState (Guest L T) (Shared P))
+    : Type 0 where
+  pub was : Client (Guest L T)
+  pub now : Client (Guest L T)
+  pub moved : IsMoved old.roster.slots number (Some was) (Some now) new.roster.slots
+  pub flag : port now.session.port ≡ note (port was.session.port)
+  pub talk : now.session.talk ≡ was.session.talk
+  pub parts : new.roster.parts ≡ old.roster.parts
+  pub lines : new.lines ≡ old.lines
+  pub limit : new.limit ≡ old.limit
+
+-- an event came for a number: it has no client, and nothing changes; or it was noted at its port
+pub data HasReached {L T P : Type 0} (port : L → PortState) (note : PortState → PortState)
+    (old : MuxState (Guest L T) (Shared P)) (number : ℕ) (new : MuxState (Guest L T) (Shared P))
+    : Type 0 where
+  nobody : session_at old.roster.slots number ≡ None → new ≡ old
+      → HasReached port note old number new
+  noted : IsNotedAt port note old number new → HasReached port note old number new
+
+-- the client of a number left, which has no request under way
+pub record HasLeft {L T P : Type 0} (awaited : T → Option ℕ) (old : MuxState (Guest L T) (Shared P))
+    (number : ℕ) (new : MuxState (Guest L T) (Shared P)) : Type 0 where
+  pub client : Client (Guest L T)
+  pub released : IsReleased (λ it. awaited it.session.talk) old.roster number client new.roster
+  pub lines : new.lines ≡ old.lines
+  pub limit : new.limit ≡ old.limit
+
+-- where a client was to leave: it left; or it stays, since a request of it is under way; or there is
+-- none
+pub data DropEnds {L T P : Type 0} (awaited : T → Option ℕ) (old : MuxState (Guest L T) (Shared P))
+    (number : ℕ) (new : MuxState (Guest L T) (Shared P)) : Type 0 where
+  kept : IsKept (λ guest. awaited guest.talk) old.roster.slots number → new ≡ old
+      → DropEnds awaited old number new
+  left : HasLeft awaited old number new → DropEnds awaited old number new
+
+-- a number was noted as one that is to be served; or memory ran out for that, and its client leaves
+pub data ListEnds {L T P : Type 0} (awaited : T → Option ℕ) (old : MuxState (Guest L T) (Shared P))
+    (number : ℕ) (numbers : List ℕ) (new : MuxState (Guest L T) (Shared P)) (now : List ℕ) : Type 0
+  where
+    listed : now ≡ numbers ++ number ∷ [] → new ≡ old → ListEnds awaited old number numbers new now
+    lost : now ≡ numbers → DropEnds awaited old number new
+        → ListEnds awaited old number numbers new now
+
+-- an event came for a number, and its client is to be served in this turn
+pub record IsNoted {L T P : Type 0} (sight : Sight L T) (note : PortState → PortState)
+    (old : WorkerState L T P) (number : ℕ) (new : WorkerState L T P) : Type 0 where
+  pub reached : MuxState (Guest L T) (Shared P)
+  pub has_reached : HasReached sight.2 note old.mux number reached
+  pub listed : ListEnds sight.0 reached number old.touched new.mux new.touched
+  pub spent : new.spent ≡ old.spent
+
+-- a client has the number, with this port and this session, and is to be served in this turn
+pub record IsOpened {L T P : Type 0} (sight : Sight L T) (old : WorkerState L T P) (port : L)
+    (talk : T) (number : ℕ) (new : WorkerState L T P) : Type 0 where
+  pub mid : MuxState (Guest L T) (Shared P)
+  pub admitted : IsAdmitted old.mux.roster number
+      (record { session = record { port = port; talk = talk } }) mid.roster
+  pub lines : mid.lines ≡ old.mux.lines
+  pub limit : mid.limit ≡ old.mux.limit
+  pub listed : ListEnds sight.0 mid number old.touched new.mux new.touched
+  pub spent : new.spent ≡ old.spent
 
 -- the client of a number was served
 pub record WasServed {L T P : Type 0} (sight : Sight L T) (asks_for : Guest L T → Option Request)

@@ -23,6 +23,8 @@ pub enum Event {
     Readable,
     /// An event said that its port is writable.
     Writable,
+    /// An event said that the client sends no more.
+    Ended,
     /// It is to be served.
     Serve,
 }
@@ -80,6 +82,10 @@ impl<P, L: Port, T: Talking<P>> Asking<Shared<P>> for Guest<L, T> {
             }
             Event::Writable => {
                 self.port.set_writable();
+                (None, Turned::Noted)
+            }
+            Event::Ended => {
+                self.port.set_ended();
                 (None, Turned::Noted)
             }
             Event::Serve => serve(&mut self.port, &mut self.talk, shared),

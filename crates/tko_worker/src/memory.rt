@@ -63,6 +63,10 @@ impl Port for MemoryPort {
         self.writable = true;
     }
 
+    fn set_ended(&mut self) {
+        self.readable = true;
+    }
+
     fn read(&mut self, buffer: &mut [u8]) -> Read {
         let left = self.input.len().saturating_sub(self.at);
         if left == 0 {

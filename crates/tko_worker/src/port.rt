@@ -35,6 +35,11 @@ pub trait Port {
     fn set_writable(&mut self)
         ensures { port self.new ≡ now_writable (port self.old) };
 
+    /// An event said that the other side sends no more. From then on a read that did not fill the
+    /// buffer leaves it readable, so that the end is read too.
+    fn set_ended(&mut self)
+        ensures { port self.new ≡ now_readable (port self.old) };
+
     /// Reads what is there, as far as the buffer has room.
     fn read(&mut self, buffer: &mut [u8]) -> Read
         requires readable { (port self.old).readable ≡ true }

@@ -1,10 +1,12 @@
 //! One turn of events of a worker.
-ghost use Rattle.std.specs.Prelude.{◌≡◌, ◌<◌, [], None, IfNone, IfOk, length};
+ghost use Rattle.std.specs.Prelude.{◌≡◌, ◌<◌, [], None, IfNone, IfOk, OnErr, length};
 ghost use Rattle.std.specs.Bool.{OnFalse, OnTrue};
 ghost use Rattle.tko_roster.specs.Rosters.{AreReady};
 ghost use Rattle.tko_mux.specs.Linking.{AreLinked};
 ghost use Rattle.tko_mux.specs.Muxes.{HasNoneLeaving, line_at};
-ghost use Rattle.tko_worker.specs.Workers.{IsListed, IsListedFor, IsServed, NobodyForgotten, OthersStay, OthersStayFor, RestAt, WasServed};
+ghost use Rattle.tko_worker.specs.Guests.{IsNotice, noting};
+ghost use Rattle.tko_worker.specs.Ports.{now_readable, now_writable};
+ghost use Rattle.tko_worker.specs.Workers.{DropEnds, IsListed, IsListedFor, IsNoted, IsOpened, IsServed, ListEnds, NobodyForgotten, OthersStay, OthersStayFor, RestAt, WasServed};
 
 use crate::{Event, Guest, Port, Shared, Talking, Turned};
 use std::alloc::Global;
@@ -72,6 +74,9 @@ impl<P, L: Port + Drop, T: Talking<P> + Drop> Worker<L, T, P> {
             self.old.mux.roster.slots self.old.mux.lines }
         requires nobody { NobodyForgotten (T.awaited, T.talk, L.port)
             self.old.mux.roster.slots self.old.touched self.old.spent }
+        ensures ok { IfOk result (λ number. IsOpened (T.awaited, T.talk, L.port) self.old port talk
+            number self.new) }
+        ensures err { OnErr result (self.new ≡ self.old) }
         ensures nobody { NobodyForgotten (T.awaited, T.talk, L.port)
             self.new.mux.roster.slots self.new.touched self.new.spent }
         ensures ready { AreReady ⟦<Client<Guest<L, T>> as Driven<Shared<P>>>⟧.ready
@@ -92,6 +97,7 @@ impl<P, L: Port + Drop, T: Talking<P> + Drop> Worker<L, T, P> {
             self.old.mux.roster.slots self.old.mux.lines }
         requires nobody { NobodyForgotten (T.awaited, T.talk, L.port)
             self.old.mux.roster.slots self.old.touched self.old.spent }
+        ensures noted { IsNoted (T.awaited, T.talk, L.port) now_readable self.old number self.new }
         ensures nobody { NobodyForgotten (T.awaited, T.talk, L.port)
             self.new.mux.roster.slots self.new.touched self.new.spent }
         ensures ready { AreReady ⟦<Client<Guest<L, T>> as Driven<Shared<P>>>⟧.ready
@@ -99,8 +105,7 @@ impl<P, L: Port + Drop, T: Talking<P> + Drop> Worker<L, T, P> {
         ensures linked { AreLinked ⟦<Guest<L, T> as Asking<Shared<P>>>⟧.awaited
             self.new.mux.roster.slots self.new.mux.lines }
     {
-        let _ = self.mux.act(alloc, number, Event::Readable, 0);
-        list(&mut self.mux, &mut self.touched, number);
+        self.note(alloc, number, Event::Readable);
     }
 
     /// An event said that a client's port is writable.
@@ -111,6 +116,7 @@ impl<P, L: Port + Drop, T: Talking<P> + Drop> Worker<L, T, P> {
             self.old.mux.roster.slots self.old.mux.lines }
         requires nobody { NobodyForgotten (T.awaited, T.talk, L.port)
             self.old.mux.roster.slots self.old.touched self.old.spent }
+        ensures noted { IsNoted (T.awaited, T.talk, L.port) now_writable self.old number self.new }
         ensures nobody { NobodyForgotten (T.awaited, T.talk, L.port)
             self.new.mux.roster.slots self.new.touched self.new.spent }
         ensures ready { AreReady ⟦<Client<Guest<L, T>> as Driven<Shared<P>>>⟧.ready
@@ -118,7 +124,47 @@ impl<P, L: Port + Drop, T: Talking<P> + Drop> Worker<L, T, P> {
         ensures linked { AreLinked ⟦<Guest<L, T> as Asking<Shared<P>>>⟧.awaited
             self.new.mux.roster.slots self.new.mux.lines }
     {
-        let _ = self.mux.act(alloc, number, Event::Writable, 0);
+        self.note(alloc, number, Event::Writable);
+    }
+
+    /// An event said that a client sends no more.
+    pub fn ended(&mut self, alloc: Global, number: usize)
+        requires ready { AreReady ⟦<Client<Guest<L, T>> as Driven<Shared<P>>>⟧.ready
+            self.old.mux.roster }
+        requires linked { AreLinked ⟦<Guest<L, T> as Asking<Shared<P>>>⟧.awaited
+            self.old.mux.roster.slots self.old.mux.lines }
+        requires nobody { NobodyForgotten (T.awaited, T.talk, L.port)
+            self.old.mux.roster.slots self.old.touched self.old.spent }
+        ensures noted { IsNoted (T.awaited, T.talk, L.port) now_readable self.old number self.new }
+        ensures nobody { NobodyForgotten (T.awaited, T.talk, L.port)
+            self.new.mux.roster.slots self.new.touched self.new.spent }
+        ensures ready { AreReady ⟦<Client<Guest<L, T>> as Driven<Shared<P>>>⟧.ready
+            self.new.mux.roster }
+        ensures linked { AreLinked ⟦<Guest<L, T> as Asking<Shared<P>>>⟧.awaited
+            self.new.mux.roster.slots self.new.mux.lines }
+    {
+        self.note(alloc, number, Event::Ended);
+    }
+
+    /// Notes an event at a client's port, and that this client is to be served.
+    fn note(&mut self, alloc: Global, number: usize, event: Event)
+        requires event { IsNotice event }
+        requires ready { AreReady ⟦<Client<Guest<L, T>> as Driven<Shared<P>>>⟧.ready
+            self.old.mux.roster }
+        requires linked { AreLinked ⟦<Guest<L, T> as Asking<Shared<P>>>⟧.awaited
+            self.old.mux.roster.slots self.old.mux.lines }
+        requires nobody { NobodyForgotten (T.awaited, T.talk, L.port)
+            self.old.mux.roster.slots self.old.touched self.old.spent }
+        ensures noted { IsNoted (T.awaited, T.talk, L.port) (noting event) self.old number
+            self.new }
+        ensures nobody { NobodyForgotten (T.awaited, T.talk, L.port)
+            self.new.mux.roster.slots self.new.touched self.new.spent }
+        ensures ready { AreReady ⟦<Client<Guest<L, T>> as Driven<Shared<P>>>⟧.ready
+            self.new.mux.roster }
+        ensures linked { AreLinked ⟦<Guest<L, T> as Asking<Shared<P>>>⟧.awaited
+            self.new.mux.roster.slots self.new.mux.lines }
+    {
+        let _ = self.mux.act(alloc, number, event, 0);
         list(&mut self.mux, &mut self.touched, number);
     }
 
@@ -286,6 +332,7 @@ fn list<P, L: Port + Drop, T: Talking<P> + Drop>(
     requires ready { AreReady ⟦<Client<Guest<L, T>> as Driven<Shared<P>>>⟧.ready mux.old.roster }
     requires linked { AreLinked ⟦<Guest<L, T> as Asking<Shared<P>>>⟧.awaited
         mux.old.roster.slots mux.old.lines }
+    ensures ends { ListEnds T.awaited mux.old number numbers.old.items mux.new numbers.new.items }
     ensures listed { IsListed (T.awaited, T.talk, L.port) mux.new.roster.slots number
         numbers.old.items numbers.new.items }
     ensures lines { mux.new.lines ≡ mux.old.lines }
@@ -295,8 +342,27 @@ fn list<P, L: Port + Drop, T: Talking<P> + Drop>(
         mux.new.roster.slots mux.new.lines }
 {
     if numbers.push(number).is_err() {
-        let _ = mux.close(number);
+        drop_client(mux, number);
     }
+}
+
+/// The client of a number leaves, unless a request of it is under way.
+fn drop_client<P, L: Port + Drop, T: Talking<P> + Drop>(
+    mux: &mut Mux<Guest<L, T>, Shared<P>>,
+    number: usize,
+)
+    requires ready { AreReady ⟦<Client<Guest<L, T>> as Driven<Shared<P>>>⟧.ready mux.old.roster }
+    requires linked { AreLinked ⟦<Guest<L, T> as Asking<Shared<P>>>⟧.awaited
+        mux.old.roster.slots mux.old.lines }
+    ensures ends { DropEnds T.awaited mux.old number mux.new }
+    ensures rests { RestAt (T.awaited, T.talk, L.port) mux.new.roster.slots number }
+    ensures lines { mux.new.lines ≡ mux.old.lines }
+    ensures others { OthersStay number mux.old.roster.slots mux.new.roster.slots }
+    ensures ready { AreReady ⟦<Client<Guest<L, T>> as Driven<Shared<P>>>⟧.ready mux.new.roster }
+    ensures linked { AreLinked ⟦<Guest<L, T> as Asking<Shared<P>>>⟧.awaited
+        mux.new.roster.slots mux.new.lines }
+{
+    let _ = mux.close(number);
 }
 
 /// Serves a client, and returns whether it is to be served again.

@@ -33,6 +33,7 @@ impl<P, S: Asking<P> + Drop> Mux<S, P> {
         ensures connected { IsOnLine (λ was it. IsOnLive IsConnected was it)
             self.old.lines server self.new.lines }
         ensures roster { self.new.roster ≡ self.old.roster }
+        ensures limit { self.new.limit ≡ self.old.limit }
         ensures linked { AreLinked S.awaited self.new.roster.slots self.new.lines }
     {
         self.lines[server].connected();
@@ -50,6 +51,7 @@ impl<P, S: Asking<P> + Drop> Mux<S, P> {
             (λ p q. IsWritten p (take count p.unwritten) q) was it)
             self.old.lines server self.new.lines }
         ensures roster { self.new.roster ≡ self.old.roster }
+        ensures limit { self.new.limit ≡ self.old.limit }
         ensures linked { AreLinked S.awaited self.new.roster.slots self.new.lines }
     {
         self.lines[server].wrote(count);
@@ -66,6 +68,7 @@ impl<P, S: Asking<P> + Drop> Mux<S, P> {
         ensures got { IsOnLine (λ was it. IsOnPipe
             (λ p q. GotEnds p bytes.now now result q) was it) self.old.lines server self.new.lines }
         ensures roster { self.new.roster ≡ self.old.roster }
+        ensures limit { self.new.limit ≡ self.old.limit }
         ensures linked { AreLinked S.awaited self.new.roster.slots self.new.lines }
     {
         self.lines[server].got(now, bytes)
@@ -80,6 +83,7 @@ impl<P, S: Asking<P> + Drop> Mux<S, P> {
         ensures expired { IsOnLine (λ was it. IsOnPipe (λ p q. ExpireEnds p now result q) was it)
             self.old.lines server self.new.lines }
         ensures roster { self.new.roster ≡ self.old.roster }
+        ensures limit { self.new.limit ≡ self.old.limit }
         ensures linked { AreLinked S.awaited self.new.roster.slots self.new.lines }
     {
         self.lines[server].expire(now)
@@ -96,6 +100,7 @@ impl<P, S: Asking<P> + Drop> Mux<S, P> {
         ensures shut { IsOnLine (λ was it. IsOnPipe (λ p q. IsShut p (shutting p cause) q) was it)
             self.old.lines server self.new.lines }
         ensures roster { self.new.roster ≡ self.old.roster }
+        ensures limit { self.new.limit ≡ self.old.limit }
         ensures linked { AreLinked S.awaited self.new.roster.slots self.new.lines }
     {
         self.lines[server].shut(cause);

@@ -1,5 +1,5 @@
-use Rattle.std.proofs.Common.{rules, subst, sym}
-use Rattle.tko_worker.specs.Workers.{NobodyForgotten, WorkerState}
+use Rattle.std.proofs.Common.{rules, refl, subst, sym}
+use Rattle.tko_worker.specs.Workers.{IsOpened, NobodyForgotten, WorkerState}
 use Rattle.tko_worker.proofs.RestLemmas.{admitted_others, one_listed}
 use Rattle.tko_worker.proofs.worker.Worker.open.Goals as goal
 
@@ -15,3 +15,21 @@ returns-clause-nobody g c =
     (admitted_others c.self.inside.mux.roster c.open.new.self.roster c.in_ok-number.number
     (record { session = record { port = c.args.port; talk = c.args.talk } }) (search rules))
     c.list.ensures.others c.list.ensures.listed
+
+pub returns-clause-ok : goal.returns-clause-ok
+returns-clause-ok g c =
+    subst (λ (w : WorkerState _ _ _). IsOpened (g.T.Talking.awaited, g.T.Talking.talk, g.L.Port.port)
+    w c.args.port c.args.talk c.in_ok-number.number
+    (record {
+      mux = c.list.new.mux;
+      touched = c.list.new.numbers.items;
+      spent = c.self.inside.spent.items;
+    })) c.self.view_is
+    (record {
+      mid = c.open.new.self;
+      admitted = search rules;
+      lines = c.open.ensures.lines;
+      limit = c.open.ensures.limit;
+      listed = c.list.ensures.ends;
+      spent = refl;
+    })
