@@ -1,5 +1,5 @@
 -- Laws of a whole session: nothing yet, one delivery more, one piece more, the end.
-use Rattle.std.proofs.Common.{◌≡◌, ◌≢◌, ℕ, Bool, true, ◌+◌, ◌<◌, ◌^◌, List, [], ◌∷◌, ◌++◌, drop, length, refl, sym, ap, subst, ◌∙◌, append_assoc, append-nil, arith, add-zero, Some, false, Result, Ok, Err}
+use Rattle.std.proofs.Common.{◌≡◌, ◌≢◌, ℕ, Bool, true, ◌+◌, ◌<◌, ◌≤◌, ◌^◌, List, [], ◌∷◌, ◌++◌, drop, length, refl, sym, ap, subst, ◌∙◌, append_assoc, append-nil, arith, add-zero, Some, false, Result, Ok, Err}
 use Rattle.std.proofs.lemmas.List.{drop_at}
 use Rattle.tko_model.proofs.RecordLemmas.{gains_append, gains_none, gains_one}
 use Rattle.tko_io.specs.declared.io.Inlet.{Ghosts as InletGhosts}
@@ -7,7 +7,6 @@ use Rattle.tko_io.specs.declared.io.Outlet.{Ghosts as OutletGhosts}
 use Rattle.tko_reply.specs.declared.parts.Parts.{Parts}
 use Rattle.tko_reply.specs.Ghosts.{PartsGhosts}
 use Rattle.std.specs.Prelude.{MatchBool}
-use Rattle.tko_text.specs.declared.item.Item.{Item}
 use Rattle.tko_text.specs.declared.reader.FeedFault.{FeedFault}
 use Rattle.tko_text.specs.declared.reader.FeedFault.TheVariants as feed
 use Rattle.tko_text.specs.Reading.{Gives, Never, Reading, fed, start}
@@ -24,14 +23,15 @@ use Rattle.tko_io.proofs.WriteLemmas.{writes_append, writes_none}
 use Rattle.tko_bytes.specs.declared.memory.NoMemory.{NoMemory}
 use Rattle.tko_session.specs.Effects.{effects_of}
 use Rattle.tko_session.specs.AnswerEnds.{AnsweringEnds, IsRun, NoneRun}
-use Rattle.tko_session.specs.Ends.{AllDelivered, DeliveryStops, PieceStops, SessionStops, WriterFailed}
-use Rattle.tko_session.specs.Events.{Effects, Event, IdleRound, Rounded, idle_rounds, turns_of}
+use Rattle.tko_session.specs.Ends.{AllDelivered, DeliveryStops, PieceStops, SessionStops, ShortOfMemory, WriterFailed}
+use Rattle.tko_session.specs.Events.{Effects, Event, IdleRound, NoneAtWork, NoneShort, Rounded, idle_rounds, turns_of}
+use Rattle.tko_session.specs.Batches.{EndInBatch}
 use Rattle.tko_session.specs.Faults.{fault_of}
-use Rattle.tko_session.specs.SessionState.{SessionState, Snapshot, Answered, AnsweredPart, GoesOn, InSession, IsBehind, ProgressIs, fed_state, fresh, items_of, snapshot, text_of, cut_short, no_more, stop_point}
-use Rattle.tko_session.specs.Served.{Context, Delivered, DeliveredPart, Delivery, EndsAt, Served, ServedSoFar, StoppedByLine, StoppedByRead, StoppedByWrite, StoppedEarly, Transcript, after_cut, at_end_of_input, at_once, at_quit, context, delivering, delivery, serve_state, serving}
-use Rattle.tko_session.proofs.EventLemmas.{idles-append, order-append}
+use Rattle.tko_session.specs.SessionState.{SessionState, Snapshot, Answered, AnsweredPart, BeginBelowBound, GoesOn, InSession, IsBehind, ProgressIs, fed_state, fresh, items_of, snapshot, text_of, cut_short, no_more, stop_point}
+use Rattle.tko_session.specs.Served.{Context, Delivered, DeliveredPart, Delivery, EndsAt, Served, ServedSoFar, StoppedByLine, StoppedByMemory, StoppedByRead, StoppedByWrite, StoppedEarly, Transcript, after_cut, at_end_of_input, at_once, at_quit, context, delivering, delivery, serve_state, serving}
+use Rattle.tko_session.proofs.EventLemmas.{idles-append, order-append, short-after, short-append, short-last, short-none, work-short}
 use Rattle.tko_session.proofs.TextFacts.{open_start, reading_goes_on}
-use Rattle.tko_session.proofs.TurnLemmas.{counts_append, counts_idle, counts_none, goes_on-append, goes_on-none, in_session, in_session_of, items-append, text-append, turned_append, turned_idle, turned_none, events_in_session, events_progress, part_none, part_paid}
+use Rattle.tko_session.proofs.TurnLemmas.{counts_append, counts_idle, counts_none, events_go_on, events_in_session, events_progress, goes_on-none, in_session, in_session_of, items-append, items-paid, paid, part_none, text-append, text-paid, turned_append, turned_idle, turned_none, turned_paid}
 
 -- what an end reported in two parts, it reported as a whole
 abbrev Joins : {E : Type 0} → (E → List ℕ → E → Type 0) → Type 0
@@ -45,23 +45,67 @@ false_is_true same = cc
 
 module _ {W : Type 0} {does : Effects W} where
   -- no round is owed, so that no request was cut short
-  ends_settled : {items : List Item} {left : Reading} {reached : W} {new : Snapshot W} → IsBehind does.cut (stop_point items left reached) new
-      → new.state.owes ≡ false → EndsAt does (stop_point items left reached) new.parts
-  ends_settled (no_more same none) settled = at_once same
-  ends_settled (cut_short it to goes emits is owed) settled = absurd (false_is_true (sym settled ∙ owed))
+  ends_settled : {events : List Event} {left : Reading} {reached : W} {new : Snapshot W} → NoneShort events
+      → IsBehind does.cut (stop_point events left reached) new → new.state.owes ≡ false → EndsAt does (stop_point events left reached) new.parts
+  ends_settled {events} calm (no_more same none) settled = at_once (short-none events calm) same
+  ends_settled calm (cut_short it to goes emits is owed) settled = absurd (false_is_true (sym settled ∙ owed))
 
-  -- a session that ended after items ended after all of them
-  ends_after : {left : Reading} {reached after : W} (items more : List Item) → GoesOn items
-      → EndsAt does (stop_point more left reached) after → EndsAt does (stop_point (items ++ more) left reached) after
-  ends_after items more goes (at_once same) = at_once same
-  ends_after items more goes (after_cut it to mid visits going emits is round) =
-      after_cut it to mid visits (goes_on-append items more goes going) emits is round
+  -- a session that ended after events ended after all of them
+  ends_after : {left : Reading} {reached after : W} (events more : List Event) → NoneShort events → GoesOn (items_of (turns_of events))
+      → EndsAt does (stop_point more left reached) after → EndsAt does (stop_point (events ++ more) left reached) after
+  ends_after events more calm goes (at_once short same) = at_once (short-after events more calm short) same
+  ends_after events more calm goes (after_cut it to mid visits short going emits is round) =
+      after_cut it to mid visits (short-append events more calm short) (events_go_on events more goes going) emits is round
+
+-- events were answered from an empty outbox, and then a round was run at most
+one_batch : (events last : List Event) (outbox written : List ℕ) → outbox ≡ [] → BeginBelowBound (length outbox) (turns_of events)
+    → NoneAtWork events → turns_of last ≡ [] → length last ≤ 1 → EndInBatch (events ++ last) written
+one_batch events last outbox written empty begin none round one = record {
+  before = [];
+  batch = events;
+  last = last;
+  parts = refl;
+  front = record { more = written; is = refl };
+  is = record { begin = subst (λ (xs : List ℕ). BeginBelowBound (length xs) (turns_of events)) empty begin; at_once = none };
+  round = record { one = one; none = round };
+}
+
+-- all was written, and then a round was run at most
+no_batch : (events last : List Event) → turns_of last ≡ [] → length last ≤ 1 → EndInBatch (events ++ last) (text_of (turns_of events))
+no_batch events last round one = record {
+  before = events;
+  batch = [];
+  last = last;
+  parts = refl;
+  front = record { more = []; is = sym (append-nil (text_of (turns_of events))) };
+  is = record { begin = tt; at_once = refl };
+  round = record { one = one; none = round };
+}
+
+-- the last batch of more events is that of all
+batch_after : (events more : List Event) (written : List ℕ) → EndInBatch more written
+    → EndInBatch (events ++ more) (text_of (turns_of events) ++ written)
+batch_after events more written back = record {
+  before = events ++ back.before;
+  batch = back.batch;
+  last = back.last;
+  parts = ap (λ xs. events ++ xs) back.parts ∙ sym (append_assoc events back.before (back.batch ++ back.last));
+  front = record {
+    more = back.front.more;
+    is =
+        ap (λ xs. text_of (turns_of events) ++ xs) back.front.is
+        ∙ sym (append_assoc (text_of (turns_of events)) (text_of (turns_of back.before)) back.front.more)
+        ∙ ap (λ xs. xs ++ back.front.more) (sym (text-append events back.before));
+  };
+  is = back.is;
+  round = back.round;
+}
 
 module _ {O W : Type 0} {outlet : OutletGhosts O} {does : Effects W} where
   -- items were answered, and the front of their replies was written
   part_delivered : {old : Delivery O W} {mid : Snapshot W} {new : Delivery O W} (front unwritten : List ℕ)
       → (part : AnsweredPart does old.session mid)
-      → EndsAt does (stop_point (items_of (turns_of part.events)) part.left part.reached) new.session.parts
+      → EndsAt does (stop_point part.events part.left part.reached) new.session.parts
       → old.session.state.outbox ≡ [] → mid.state.outbox ≡ front ++ unwritten
       → Writes outlet.takes (old.writer, old.written) front (new.writer, new.written)
       → DeliveredPart (delivering outlet does) 0 old new
@@ -80,15 +124,25 @@ module _ {O W : Type 0} {outlet : OutletGhosts O} {does : Effects W} where
     unwritten = unwritten;
     text = sym (part.outbox ∙ ap (λ xs. xs ++ text_of (turns_of part.events)) empty) ∙ split;
     output = wrote;
+    batch =
+        subst (λ events. EndInBatch events front) (append-nil part.events)
+        (one_batch part.events [] _ front empty part.begin part.at_once refl (omega arith));
   }
 
   -- nothing was answered
   pub not_delivered : (state state' : SessionState) (parts : W) (writer : O) (written : ℕ) → outlet.takes writer [] writer
       → state.outbox ≡ [] → state.owes ≡ false
-      → DeliveredPart (delivering outlet does) 0 (delivery state parts writer written) (delivery state' parts writer written)
+      → ShortOfMemory (delivering outlet does) (delivery state parts writer written) (delivery state' parts writer written)
+  unfolding part_delivered
   not_delivered state state' parts writer written nothing_out empty none =
       let part : AnsweredPart does (snapshot state parts) (snapshot state parts) = part_none state state parts refl none none in
-      part_delivered [] [] part (ends_settled part.behind none) empty empty (writes_none writer written nothing_out)
+      record {
+        part =
+            part_delivered [] [] part (ends_settled (work-short part.events part.at_once) part.behind none) empty empty
+            (writes_none writer written nothing_out);
+        whole = refl;
+        calm = refl;
+      }
 
   pub all_none : (state : SessionState) (parts : W) (writer : O) (written : ℕ) → outlet.takes writer [] writer
       → state.outbox ≡ [] → state.owes ≡ false
@@ -105,37 +159,6 @@ module _ {O W : Type 0} {outlet : OutletGhosts O} {does : Effects W} where
     idle = refl;
     calm = refl;
   }
-
-  -- items were answered, their replies were written, the owed round was run, and the outbox was
-  -- cleared
-  pub all_of : {progress : Progress} {old : Delivery O W} {mid : Snapshot W} {state : SessionState} {writer : O} {written : ℕ}
-      → Answered does progress old.session mid → old.session.state.outbox ≡ [] → mid.state.owes ≡ false
-      → Writes outlet.takes (old.writer, old.written) mid.state.outbox (writer, written) → outlet.failures writer ≡ outlet.failures old.writer
-      → state ≡ record mid.state { outbox = [] }
-      → AllDelivered (delivering outlet does) progress old (delivery state mid.parts writer written)
-  all_of {progress} {old} {mid} {state} {writer} {written} answered empty none wrote calm cleared =
-      rw cleared (record {
-        delivered = record {
-          events = answered.events;
-          turned = record {
-            gives = answered.turned.gives;
-            gains = answered.turned.gains;
-            order = answered.turned.order;
-            counts = answered.turned.counts;
-            memory = answered.turned.memory;
-            requests = answered.turned.requests;
-          };
-          output =
-              let text : mid.state.outbox ≡ text_of (turns_of answered.events) =
-              answered.outbox ∙ ap (λ xs. xs ++ text_of (turns_of answered.events)) empty in
-              subst (λ xs. Writes outlet.takes (old.writer, old.written) xs (writer, written)) text wrote;
-          outbox = refl;
-          owes = none;
-          progress_is = answered.progress_is;
-        };
-        idle = answered.idles;
-        calm = calm;
-      })
 
   abbrev delivered_append : Joins outlet.takes → {progress : Progress} {old mid new : Delivery O W}
       → Delivered (delivering outlet does) More old mid → Delivered (delivering outlet does) progress mid new
@@ -180,9 +203,7 @@ module _ {O W : Type 0} {outlet : OutletGhosts O} {does : Effects W} where
     left = back.left;
     reached = back.reached;
     idle = omega (arith, same, back.idle, idles-append first.events back.events);
-    ends =
-        subst (λ items. EndsAt does (stop_point items back.left back.reached) new.session.parts) (sym (items-append first.events back.events))
-        (ends_after (items_of (turns_of first.events)) (items_of (turns_of back.events)) first.progress_is back.ends);
+    ends = ends_after first.events back.events first.turned.memory first.progress_is back.ends;
     gives =
         let gives = Gives-append _ _ _ _ _ first.turned.gives back.gives in
         subst (λ items. Gives old.session.state.reading items back.left) (sym (items-append first.events back.events)) gives;
@@ -196,14 +217,14 @@ module _ {O W : Type 0} {outlet : OutletGhosts O} {does : Effects W} where
         text-append first.events back.events ∙ ap (λ text. text_of (turns_of first.events) ++ text) back.text
         ∙ sym (append_assoc (text_of (turns_of first.events)) back.front back.unwritten);
     output = writes_append joins first.output back.output;
+    batch = batch_after first.events back.events back.front back.batch;
   }
 
   -- memory ran out where the reader took a piece, and nothing of it was answered
   pub not_taken : (cause : FeedFault) {old new : Delivery O W} → cause ≢ feed.Failed
-      → DeliveredPart (delivering outlet does) 0 old new → outlet.failures new.writer ≡ outlet.failures old.writer
-      → PieceStops (delivering outlet does) old (fault_of cause) new
-  not_taken feed.Failed other part calm = absurd (other refl)
-  not_taken feed.Memory other part calm = record { part = part; calm = calm }
+      → ShortOfMemory (delivering outlet does) old new → PieceStops (delivering outlet does) old (fault_of cause) new
+  not_taken feed.Failed other short = absurd (other refl)
+  not_taken feed.Memory other short = short
 
   -- some items of a piece were delivered, and more of them
   pub all_append : Joins outlet.takes → {progress : Progress} {old mid new : Delivery O W}
@@ -232,7 +253,7 @@ module _ {O W : Type 0} {outlet : OutletGhosts O} {does : Effects W} where
   }
   piece_stopped joins fault.LineTooLong new front stops = absurd stops
   piece_stopped joins fault.Memory new front stops =
-      record { part = part_append joins front.delivered front.idle stops.part; calm = stops.calm ∙ front.calm }
+      record { part = part_append joins front.delivered front.idle stops.part; whole = stops.whole; calm = stops.calm ∙ front.calm }
 
 module _ {I O W : Type 0} {inlet : InletGhosts I} {outlet : OutletGhosts O} {does : Effects W} where
   pub so_far_none : (reader : I) (writer : O) (parts : W) → inlet.gives reader [] reader → outlet.takes writer [] writer
@@ -387,7 +408,19 @@ module _ {I O W : Type 0} {inlet : InletGhosts I} {outlet : OutletGhosts O} {doe
         unwritten = all.unwritten;
         text = all.text;
         output = all.output.output;
+        batch = all.batch;
       }
+
+  -- memory ran out in it
+  stopped_by_memory : Joins inlet.gives → Joins outlet.takes
+      → {old : Context I O W} {reader reader' : I} {mid new : Delivery O W}
+      → (piece : List ℕ) → ServedSoFar (serving inlet outlet does) NeedsInput old (serve_state reader mid)
+      → inlet.gives reader piece reader' → inlet.idles reader' ≡ inlet.idles reader
+      → ShortOfMemory (delivering outlet does) (delivery (fed_state mid.session.state piece) mid.session.parts mid.writer mid.written) new
+      → StoppedByMemory (serving inlet outlet does) old (context reader' new.writer new.session.parts)
+  unfolding stopped_early part_append
+  stopped_by_memory joins_in joins_out piece so_far read calm short =
+      record { early = stopped_early joins_in joins_out piece so_far read calm short.part; whole = short.whole }
 
   -- the writer failed in it
   stopped_by_write : Joins inlet.gives → Joins outlet.takes
@@ -423,30 +456,34 @@ module _ {I O W : Type 0} {inlet : InletGhosts I} {outlet : OutletGhosts O} {doe
     record { reads = reads; writes = stops.calm ∙ writes },
   )
   session_stopped joins_in joins_out fault.Memory new piece so_far read still reads writes stops = (
-    stopped_early joins_in joins_out piece so_far read still stops.part,
+    stopped_by_memory joins_in joins_out piece so_far read still stops,
     record { reads = reads; writes = stops.calm ∙ writes },
   )
 
   -- nothing was read or written
   pub stopped_at_once : (reader : I) (writer : O) (parts : W) → inlet.gives reader [] reader → outlet.takes writer [] writer
-      → StoppedEarly (serving inlet outlet does) (context reader writer parts) (context reader writer parts)
+      → StoppedByMemory (serving inlet outlet does) (context reader writer parts) (context reader writer parts)
   stopped_at_once reader writer parts nothing_in nothing_out = record {
-    bytes = [];
-    events = [];
-    left = start;
-    reached = parts;
-    input = nothing_in;
-    items = Gives-none start;
-    gains = gains_none parts;
-    counts = counts_none parts;
-    order = refl;
-    idles = sym (add-zero (inlet.idles reader));
-    ends = at_once refl;
-    in_session = in_session_of [] goes_on-none;
-    front = [];
-    unwritten = [];
-    text = refl;
-    output = nothing_out;
+    early = record {
+      bytes = [];
+      events = [];
+      left = start;
+      reached = parts;
+      input = nothing_in;
+      items = Gives-none start;
+      gains = gains_none parts;
+      counts = counts_none parts;
+      order = refl;
+      idles = sym (add-zero (inlet.idles reader));
+      ends = at_once (short-none [] refl) refl;
+      in_session = in_session_of [] goes_on-none;
+      front = [];
+      unwritten = [];
+      text = refl;
+      output = nothing_out;
+      batch = no_batch [] [] refl (omega arith);
+    };
+    whole = refl;
   }
 
   -- a session that needs input may still read
@@ -495,7 +532,7 @@ module _ {I O H L T C : Type 0} {inlet : InletGhosts I} {outlet : OutletGhosts O
       → ServedSoFar (serving inlet outlet (effects_of ghosts)) NeedsInput old (serve_state reader mid)
       → inlet.gives reader [] reader' → inlet.idles reader' ≡ inlet.idles reader + 1
       → Rounded ghosts.backend short mid.session.parts after
-      → StoppedEarly (serving inlet outlet (effects_of ghosts)) old (context reader' mid.writer after)
+      → StoppedByMemory (serving inlet outlet (effects_of ghosts)) old (context reader' mid.writer after)
   stopped_idle joins {short} {old} {reader} {reader'} {mid} {after} so_far read idle rounded =
       let before = so_far.delivered in
       let last : List Event = IdleRound rounded.round.visits ∷ [] in
@@ -503,41 +540,72 @@ module _ {I O H L T C : Type 0} {inlet : InletGhosts I} {outlet : OutletGhosts O
       let text = text-append before.events last ∙ append-nil (text_of (turns_of before.events)) in
       let ended = in_session NeedsInput (items_of (turns_of before.events)) mid.session.state.reading before.progress_is in
       record {
-        bytes = so_far.bytes;
-        events = before.events ++ last;
-        left = mid.session.state.reading;
-        reached = after;
-        input =
-            let all = joins old.reader reader reader' so_far.bytes [] so_far.input read in
-            subst (λ bytes. inlet.gives old.reader bytes reader') (append-nil so_far.bytes) all;
-        items = subst (λ xs. Gives (fed start so_far.bytes) xs mid.session.state.reading) (sym items) before.turned.gives;
-        gains = gains_append before.turned.gains (gains_one (record { short = short; round = rounded.round; visited = refl; others = rounded.others; sends = rounded.sends }));
-        counts = counts_append before.turned.counts (counts_idle {ghosts = ghosts} rounded);
-        order = order-append false mid.session.state.owes false before.events last before.turned.order (rw before.owes refl);
-        idles = omega (arith, so_far.idles, idle, idles-append before.events last);
-        ends = at_once refl;
-        in_session = subst InSession (sym items) ended;
-        front = text_of (turns_of before.events);
-        unwritten = [];
-        text = text ∙ sym (append-nil (text_of (turns_of before.events)));
-        output = before.output.output;
+        early = record {
+          bytes = so_far.bytes;
+          events = before.events ++ last;
+          left = mid.session.state.reading;
+          reached = after;
+          input =
+              let all = joins old.reader reader reader' so_far.bytes [] so_far.input read in
+              subst (λ bytes. inlet.gives old.reader bytes reader') (append-nil so_far.bytes) all;
+          items = subst (λ xs. Gives (fed start so_far.bytes) xs mid.session.state.reading) (sym items) before.turned.gives;
+          gains = gains_append before.turned.gains (gains_one (record { short = short; round = rounded.round; visited = refl; others = rounded.others; sends = rounded.sends }));
+          counts = counts_append before.turned.counts (counts_idle {ghosts = ghosts} rounded);
+          order = order-append false mid.session.state.owes false before.events last before.turned.order (rw before.owes refl);
+          idles = omega (arith, so_far.idles, idle, idles-append before.events last);
+          ends = at_once (short-last before.events last before.turned.memory (omega arith)) refl;
+          in_session = subst InSession (sym items) ended;
+          front = text_of (turns_of before.events);
+          unwritten = [];
+          text = text ∙ sym (append-nil (text_of (turns_of before.events)));
+          output = before.output.output;
+          batch = no_batch before.events last refl (omega arith);
+        };
+        whole = refl;
       }
 
 module _ {H L T C : Type 0} {ghosts : PartsGhosts H L T C} where
   -- after a request that was cut short its round was run
-  ends_paid : {items : List Item} {left : Reading} {reached after : Parts H L T C} {mid : Snapshot (Parts H L T C)} {short : Bool}
-      → IsBehind (effects_of ghosts).cut (stop_point items left reached) mid
+  ends_paid : {events : List Event} {left : Reading} {reached after : Parts H L T C} {mid : Snapshot (Parts H L T C)} {short : Bool}
+      → NoneShort events → IsBehind (effects_of ghosts).cut (stop_point events left reached) mid
       → IsRun ghosts.backend mid short after
-      → EndsAt (effects_of ghosts) (stop_point items left reached) after
-  ends_paid {items} {left} {reached} {after} {mid} {short} (no_more same none) run =
+      → EndsAt (effects_of ghosts) (stop_point events left reached) after
+  ends_paid {events} {left} {reached} {after} {mid} {short} calm (no_more same none) run =
       let P : Bool → Type 0 = λ owes. MatchBool owes (Rounded ghosts.backend short mid.parts after) (NoneRun short mid.parts after) in
-      at_once ((subst P none run.ran).same ∙ same)
-  ends_paid {items} {left} {reached} {after} {mid} {short} (cut_short it to goes emits is owed) run =
+      at_once (short-none events calm) ((subst P none run.ran).same ∙ same)
+  ends_paid {events} {left} {reached} {after} {mid} {short} calm (cut_short it to goes emits is owed) run =
       let P : Bool → Type 0 = λ owes. MatchBool owes (Rounded ghosts.backend short mid.parts after) (NoneRun short mid.parts after) in
       let rounded : Rounded ghosts.backend short mid.parts after = subst P owed run.ran in
-      after_cut it to mid.parts rounded.round.visits goes emits is (record { short = short; round = rounded.round; visited = refl; others = rounded.others; sends = rounded.sends })
+      after_cut it to mid.parts rounded.round.visits calm goes emits is (record { short = short; round = rounded.round; visited = refl; others = rounded.others; sends = rounded.sends })
 
 module _ {O H L T C : Type 0} {outlet : OutletGhosts O} {ghosts : PartsGhosts H L T C} where
+  -- items were answered, their replies were written, the owed round was run, and no reply waits
+  pub all_of : {progress : Progress} {old : Delivery O (Parts H L T C)} {mid : Snapshot (Parts H L T C)} {state : SessionState}
+      {after : Parts H L T C} {writer : O} {written : ℕ}
+      → Answered (effects_of ghosts) progress old.session mid → IsRun ghosts.backend mid false after
+      → old.session.state.outbox ≡ [] → Writes outlet.takes (old.writer, old.written) mid.state.outbox (writer, written)
+      → outlet.failures writer ≡ outlet.failures old.writer → state ≡ record mid.state { outbox = []; owes = false }
+      → AllDelivered (delivering outlet (effects_of ghosts)) progress old (delivery state after writer written)
+  all_of {progress} {old} {mid} {state} {after} {writer} {written} answered run empty wrote calm is =
+      let it = paid {ghosts = ghosts} run in
+      let text : mid.state.outbox ≡ text_of (turns_of (answered.events ++ it.last)) =
+      answered.outbox ∙ ap (λ xs. xs ++ text_of (turns_of answered.events)) empty ∙ sym (text-paid answered.events it.last it.none) in
+      let reading : state.reading ≡ mid.state.reading = ap (λ (s : SessionState). s.reading) is in
+      record {
+        delivered = record {
+          events = answered.events ++ it.last;
+          turned = turned_append answered.turned (turned_paid {ghosts = ghosts} [] it is);
+          output = subst (λ xs. Writes outlet.takes (old.writer, old.written) xs (writer, written)) text wrote;
+          outbox = ap (λ (s : SessionState). s.outbox) is;
+          owes = ap (λ (s : SessionState). s.owes) is;
+          progress_is =
+              subst (λ xs. ProgressIs progress xs state.reading) (sym (items-paid answered.events it.last it.none))
+              (subst (λ to. ProgressIs progress (items_of (turns_of answered.events)) to) (sym reading) answered.progress_is);
+        };
+        idle = omega (arith, answered.idles, it.idles, idles-append answered.events it.last);
+        calm = calm;
+      }
+
   -- all items were answered, the owed round was run, and the front of the replies was written
   pub ok_delivered : {progress : Progress} {short : Bool} {old new : Delivery O (Parts H L T C)} {mid : Snapshot (Parts H L T C)}
       → (front unwritten : List ℕ)
@@ -547,10 +615,28 @@ module _ {O H L T C : Type 0} {outlet : OutletGhosts O} {ghosts : PartsGhosts H 
       → Writes outlet.takes (old.writer, old.written) front (new.writer, new.written)
       → DeliveredPart (delivering outlet (effects_of ghosts)) 0 old new
   ok_delivered {progress} {short} {old} {new} {mid} front unwritten answered run empty split wrote =
-      let settled : SessionState = record mid.state { owes = false } in
-      let part : AnsweredPart (effects_of ghosts) old.session (snapshot settled new.session.parts) =
-      part_paid {ghosts = ghosts} answered run refl in
-      part_delivered front unwritten part (ends_settled part.behind refl) empty split wrote
+      let it = paid {ghosts = ghosts} run in
+      let events = answered.events ++ it.last in
+      let items = items-paid answered.events it.last it.none in
+      record {
+        events = events;
+        left = mid.state.reading;
+        reached = new.session.parts;
+        idle = omega (arith, answered.idles, it.idles, idles-append answered.events it.last);
+        ends = at_once (short-last answered.events it.last answered.turned.memory it.one) refl;
+        gives = subst (λ xs. Gives old.session.state.reading xs mid.state.reading) (sym items) answered.turned.gives;
+        gains = gains_append answered.turned.gains it.gains;
+        counts = counts_append answered.turned.counts it.counts;
+        order = order-append old.session.state.owes mid.state.owes false answered.events it.last answered.turned.order it.order;
+        in_session = subst InSession (sym items) (in_session progress (items_of (turns_of answered.events)) mid.state.reading answered.progress_is);
+        front = front;
+        unwritten = unwritten;
+        text =
+            text-paid answered.events it.last it.none
+            ∙ sym (answered.outbox ∙ ap (λ xs. xs ++ text_of (turns_of answered.events)) empty) ∙ split;
+        output = wrote;
+        batch = one_batch answered.events it.last _ front empty answered.begin answered.at_once it.none it.one;
+      }
 
   -- some items were answered, memory ran out, and the front of the replies was written
   pub err_delivered : {short : Bool} {old new : Delivery O (Parts H L T C)} {mid : Snapshot (Parts H L T C)}
@@ -561,7 +647,35 @@ module _ {O H L T C : Type 0} {outlet : OutletGhosts O} {ghosts : PartsGhosts H 
       → Writes outlet.takes (old.writer, old.written) front (new.writer, new.written)
       → DeliveredPart (delivering outlet (effects_of ghosts)) 0 old new
   err_delivered front unwritten part run empty split wrote =
-      part_delivered front unwritten part (ends_paid {ghosts = ghosts} part.behind run) empty split wrote
+      part_delivered front unwritten part (ends_paid {ghosts = ghosts} (work-short part.events part.at_once) part.behind run) empty split wrote
+
+  -- all items were answered and all replies written, and memory ran out in the round
+  pub short_in_round : {progress : Progress} {short : Bool} {old new : Delivery O (Parts H L T C)} {mid : Snapshot (Parts H L T C)}
+      → Answered (effects_of ghosts) progress old.session mid
+      → IsRun ghosts.backend mid short new.session.parts → old.session.state.outbox ≡ []
+      → Writes outlet.takes (old.writer, old.written) mid.state.outbox (new.writer, new.written)
+      → outlet.failures new.writer ≡ outlet.failures old.writer
+      → ShortOfMemory (delivering outlet (effects_of ghosts)) old new
+  unfolding ok_delivered
+  short_in_round {mid = mid} answered run empty wrote calm = record {
+    part = ok_delivered mid.state.outbox [] answered run empty (sym (append-nil mid.state.outbox)) wrote;
+    whole = refl;
+    calm = calm;
+  }
+
+  -- some items were answered and all replies written, and memory ran out
+  pub short_in_items : {short : Bool} {old new : Delivery O (Parts H L T C)} {mid : Snapshot (Parts H L T C)}
+      → AnsweredPart (effects_of ghosts) old.session mid
+      → IsRun ghosts.backend mid short new.session.parts → old.session.state.outbox ≡ []
+      → Writes outlet.takes (old.writer, old.written) mid.state.outbox (new.writer, new.written)
+      → outlet.failures new.writer ≡ outlet.failures old.writer
+      → ShortOfMemory (delivering outlet (effects_of ghosts)) old new
+  unfolding err_delivered part_delivered
+  short_in_items {mid = mid} part run empty wrote calm = record {
+    part = err_delivered mid.state.outbox [] part run empty (sym (append-nil mid.state.outbox)) wrote;
+    whole = refl;
+    calm = calm;
+  }
 
   -- the same, whichever it was, where the writer failed at the others
   pub writer_failed : {short : Bool} {old new : Delivery O (Parts H L T C)} (mid : Snapshot (Parts H L T C))

@@ -1,5 +1,5 @@
 -- Laws of what a session answers: nothing, one item, these events and then those.
-use Rattle.std.proofs.Common.{◌≡◌, ◌≢◌, Some, ℕ, ◌+◌, ◌<◌, length, length-append, List, [], ◌∷◌, ◌++◌, refl, sym, ap, subst, ◌∙◌, append_assoc, append-nil, arith, count_by, sum_by, add-zero, cond, Bool, true, false, inl, inr}
+use Rattle.std.proofs.Common.{◌≡◌, ◌≢◌, Some, ℕ, ◌+◌, ◌<◌, ◌≤◌, length, length-append, List, [], ◌∷◌, ◌++◌, refl, sym, ap, subst, ◌∙◌, append_assoc, append-nil, arith, count_by, sum_by, add-zero, cond, Bool, true, false, inl, inr}
 use Rattle.std.specs.Prelude.{MatchBool}
 use Rattle.std.proofs.lemmas.Bool.{cases_Bool}
 use Rattle.std.proofs.lemmas.Grind.{flat_map-append}
@@ -7,6 +7,7 @@ use Rattle.std.specs.List.{list_any}
 use Rattle.std.proofs.lemmas.List.{map-append}
 use Rattle.std.proofs.lemmas.List.Sums.{sum_by-append}
 use Rattle.std.proofs.lemmas.List.Elements.{All-append, All-cons, All-nil}
+use Rattle.tko_model.specs.Records.{Gains}
 use Rattle.tko_model.proofs.RecordLemmas.{gains_none, gains_one, gains_append}
 use Rattle.tko_text.specs.declared.item.Item.{Item}
 use Rattle.tko_text.specs.declared.item.Item.TheVariants as item
@@ -24,9 +25,10 @@ use Rattle.tko_reply.specs.Interactions.{Interaction, Recorded, sends_by}
 use Rattle.tko_reply.specs.TrailEvents.{Asked}
 use Rattle.tko_reply.specs.Replies.{trails_in}
 use Rattle.tko_session.specs.Effects.{effects_of}
-use Rattle.tko_session.specs.Events.{Answer, Effects, Event, IdleRound, RoundAfter, Rounded, turns_of}
+use Rattle.tko_session.specs.Events.{Answer, Effects, Event, IdleRound, NoneAtWork, RoundAfter, Rounded, idle_rounds, met_prober, owed_after, turns_of, visits_of}
 use Rattle.tko_session.specs.AnswerEnds.{IsRun, NoneRun}
 use Rattle.tko_reply.specs.Ghosts.{PartsGhosts}
+use Rattle.tko_prober.specs.Probers.{AreQuiet}
 use Rattle.tko_prober.specs.Round.{probes_in, ran_out}
 use Rattle.tko_session.specs.Turns.{IsTurn, Turn, is_request, refused}
 use Rattle.tko_session.specs.Turns as turns
@@ -38,7 +40,7 @@ use Rattle.tko_io.proofs.WriteLemmas.{capped-more}
 use Rattle.tko_reply.specs.Replies.{reply_bound, sends_to}
 use Rattle.tko_session.specs.SessionState.{CountsRise, SessionState, Snapshot, Turned, Answered, AnsweredPart, Replied, Continues, EndsWith, GoesOn, InSession, IsBehind, ProgressIs, BeginBelowBound, progress_after, progress_of, snapshot, items_of, text_of, trails_of, requests_in, line_too_long, quit, cut_short, no_more, stop_point}
 use Rattle.tko_text.proofs.GivesLemmas.{Gives-none, Gives-one, Gives-append}
-use Rattle.tko_session.proofs.EventLemmas.{idles-append, order-append, probes-append, short-append, turns-append}
+use Rattle.tko_session.proofs.EventLemmas.{idles-append, order-append, probes-append, quiet_round, short-append, turns-append, work-append}
 use Rattle.tko_text.proofs.NeverLemmas.{ends_reading}
 
 pub items-append : (events more : List Event)
@@ -160,6 +162,12 @@ pub events_in_session : (events more : List Event) → GoesOn (items_of (turns_o
 events_in_session events more front back =
     subst InSession (sym (items-append events more)) (in_session-append (items_of (turns_of events)) (items_of (turns_of more)) front back)
 
+-- the session goes on after these events, and after those
+pub events_go_on : (events more : List Event) → GoesOn (items_of (turns_of events)) → GoesOn (items_of (turns_of more))
+    → GoesOn (items_of (turns_of (events ++ more)))
+events_go_on events more front back =
+    subst GoesOn (sym (items-append events more)) (goes_on-append (items_of (turns_of events)) (items_of (turns_of more)) front back)
+
 -- progress of events that come after others
 pub events_progress : (progress : Progress) (events more : List Event) (reading : Reading) → GoesOn (items_of (turns_of events))
     → ProgressIs progress (items_of (turns_of more)) reading → ProgressIs progress (items_of (turns_of (events ++ more))) reading
@@ -186,12 +194,12 @@ below-append outbox mid events more is front back =
     (begin-append (length outbox) (turns_of events) (turns_of more) front (subst (λ n. BeginBelowBound n (turns_of more)) len back))
 
 module _ {W : Type 0} {cut : Request → W → W → Type 0} where
-  -- what was done behind items was done behind all of them
-  behind_after : {left : Reading} {reached : W} {new : Snapshot W} (items more : List Item) → GoesOn items
-      → IsBehind cut (stop_point more left reached) new → IsBehind cut (stop_point (items ++ more) left reached) new
-  behind_after items more goes (no_more same none) = no_more same none
-  behind_after items more goes (cut_short it to going emits is owed) =
-      cut_short it to (goes_on-append items more goes going) emits is owed
+  -- what was done behind events was done behind all of them
+  behind_after : {left : Reading} {reached : W} {new : Snapshot W} (events more : List Event) → GoesOn (items_of (turns_of events))
+      → IsBehind cut (stop_point more left reached) new → IsBehind cut (stop_point (events ++ more) left reached) new
+  behind_after events more goes (no_more same none) = no_more same none
+  behind_after events more goes (cut_short it to going emits is owed) =
+      cut_short it to (events_go_on events more goes going) emits is owed
 
 module _ {W : Type 0} {does : Effects W} where
   pub counts_none : (parts : W) → CountsRise does parts [] parts
@@ -222,6 +230,8 @@ module _ {W : Type 0} {does : Effects W} where
     idles = refl;
     in_session = in_session_of [] goes_on-none;
     outbox = same ∙ sym (append-nil old.outbox);
+    begin = tt;
+    at_once = refl;
     behind = behind;
   }
 
@@ -268,6 +278,7 @@ module _ {W : Type 0} {does : Effects W} where
     idles = refl;
     outbox = sym (append-nil state.outbox);
     begin = tt;
+    at_once = refl;
     progress_is = goes_on-none;
   }
 
@@ -279,6 +290,7 @@ module _ {W : Type 0} {does : Effects W} where
     idles = refl;
     outbox = sym (append-nil old.outbox);
     begin = tt;
+    at_once = refl;
     progress_is = (goes_on-none, none);
   })
 
@@ -290,6 +302,7 @@ module _ {W : Type 0} {does : Effects W} where
     idles = omega (arith, front.idles, back.idles, idles-append front.events back.events);
     outbox = waiting-append old.state.outbox mid.state.outbox new.state.outbox front.events back.events front.outbox back.outbox;
     begin = below-append old.state.outbox mid.state.outbox front.events back.events front.outbox front.begin back.begin;
+    at_once = work-append front.events back.events front.at_once back.at_once;
     progress_is = events_progress progress front.events back.events new.state.reading front.progress_is back.progress_is;
   }
 
@@ -308,26 +321,9 @@ module _ {W : Type 0} {does : Effects W} where
     idles = omega (arith, front.idles, back.idles, idles-append front.events back.events);
     in_session = events_in_session front.events back.events front.progress_is back.in_session;
     outbox = waiting-append old.state.outbox mid.state.outbox new.state.outbox front.events back.events front.outbox back.outbox;
-    behind =
-        subst (λ items. IsBehind does.cut (stop_point items back.left back.reached) new) (sym (items-append front.events back.events))
-        (behind_after (items_of (turns_of front.events)) (items_of (turns_of back.events)) front.progress_is back.behind);
-  }
-
-  -- all events are a part of them
-  pub part_of : {progress : Progress} {old new : Snapshot W} → Answered does progress old new → new.state.owes ≡ false
-      → AnsweredPart does old new
-  part_of {progress} {old} {new} answered none = record {
-    events = answered.events;
-    left = new.state.reading;
-    reached = new.parts;
-    gives = answered.turned.gives;
-    gains = answered.turned.gains;
-    counts = answered.turned.counts;
-    order = answered.turned.order ∙ ap Some none;
-    idles = answered.idles;
-    in_session = in_session progress (items_of (turns_of answered.events)) new.state.reading answered.progress_is;
-    outbox = answered.outbox;
-    behind = no_more refl none;
+    begin = below-append old.state.outbox mid.state.outbox front.events back.events front.outbox front.begin back.begin;
+    at_once = work-append front.events back.events front.at_once back.at_once;
+    behind = behind_after front.events back.events front.progress_is back.behind;
   }
 
 -- a turn sent as often as its trails did
@@ -367,19 +363,34 @@ module _ {H L T C : Type 0} (ghosts : PartsGhosts H L T C) where
         ap (λ s. s.outbox) e ∙ ap (λ s. s.outbox ++ fault_text fault) same
         ∙ ap (λ text. old.outbox ++ text) (sym (append-nil (fault_text fault)));
     begin = (room, tt);
+    at_once = refl;
     progress_is =
         subst (λ p. ProgressIs p (item.Fault fault ∷ []) new.reading) (sym is)
         (subst (λ to. ProgressIs (progress_after fault) (item.Fault fault ∷ []) to) (sym (ap (λ s. s.reading) e))
         (fault_progress fault old.reading mid.reading told));
   }
 
--- no round was owed, and nothing was done
-unpaid : {W : Type 0} {short : Bool} {mid : Snapshot W} {state : SessionState} {after : W}
-    → mid.state.owes ≡ false → NoneRun short mid.parts after → state ≡ record mid.state { owes = false }
-    → snapshot state after ≡ mid
-unpaid {W} {short} {mid} {state} {after} none run paid =
-    let same : state ≡ mid.state = paid ∙ sym (ap (λ owes. record mid.state { owes = owes }) none) in
-    ap (λ it. snapshot it after) same ∙ ap (λ it. snapshot mid.state it) run.same
+-- the round that was owed, as an event, or none
+pub record IsPaid {H L T C : Type 0} (ghosts : PartsGhosts H L T C) (short : Bool) (mid : Snapshot (Parts H L T C))
+    (after : Parts H L T C) : Type 0 where
+  pub last : List Event
+  pub none : turns_of last ≡ []
+  pub one : length last ≤ 1
+  pub gains : Gains (effects_of ghosts).step mid.parts last after
+  pub counts : CountsRise (effects_of ghosts) mid.parts last after
+  pub order : owed_after mid.state.owes last ≡ Some false
+  pub idles : idle_rounds last ≡ 0
+  pub memory : short ≡ list_any ran_out (visits_of last)
+  pub at_once : AreQuiet mid.parts.backend.probers → NoneAtWork last
+
+-- events, and then one that answers no item
+pub items-paid : (events last : List Event) → turns_of last ≡ [] → items_of (turns_of (events ++ last)) ≡ items_of (turns_of events)
+items-paid events last none =
+    items-append events last ∙ ap (λ turns. items_of (turns_of events) ++ items_of turns) none ∙ append-nil (items_of (turns_of events))
+
+pub text-paid : (events last : List Event) → turns_of last ≡ [] → text_of (turns_of (events ++ last)) ≡ text_of (turns_of events)
+text-paid events last none =
+    text-append events last ∙ ap (λ turns. text_of (turns_of events) ++ text_of turns) none ∙ append-nil (text_of (turns_of events))
 
 module _ {H L T C : Type 0} {ghosts : PartsGhosts H L T C} where
   -- a request was replied to, and its round is owed
@@ -409,6 +420,7 @@ module _ {H L T C : Type 0} {ghosts : PartsGhosts H L T C} where
         replied.outbox ∙ ap (λ s. s.outbox ++ replied.text) same
         ∙ ap (λ text. old.outbox ++ text) (sym (append-nil replied.text));
     begin = (room, tt);
+    at_once = refl;
     progress_is =
         subst (λ p. ProgressIs p (item.Request it ∷ []) new.reading) (sym is) (request_progress it new.reading);
   }
@@ -429,93 +441,80 @@ module _ {H L T C : Type 0} {ghosts : PartsGhosts H L T C} where
   counts_idle {short} {between} {after} rounded = let counted = counts_round rounded in
       record { sends = counted.sends; probes = counted.probes }
 
-  -- the round that was owed is an event
-  turned_round : {mid : Snapshot (Parts H L T C)} {state : SessionState} {after : Parts H L T C} → mid.state.owes ≡ true
-      → (rounded : Rounded ghosts.backend false mid.parts after) → state ≡ record mid.state { owes = false }
-      → Turned (effects_of ghosts) mid (RoundAfter rounded.round.visits ∷ []) (snapshot state after)
-  turned_round {mid} {state} {after} owed rounded paid = record {
-    gives = subst (Gives mid.state.reading []) (sym (ap (λ s. s.reading) paid)) (Gives-none mid.state.reading);
-    gains = gains_one (record { short = false; round = rounded.round; visited = refl; others = rounded.others; sends = rounded.sends });
-    order =
-        let owes : state.owes ≡ false = ap (λ s. s.owes) paid in
-        rw (owed, owes) refl;
+  paid_round : {short : Bool} {mid : Snapshot (Parts H L T C)} {after : Parts H L T C} → mid.state.owes ≡ true
+      → Rounded ghosts.backend short mid.parts after → IsPaid ghosts short mid after
+  paid_round {short} {mid} {after} owed rounded = record {
+    last = RoundAfter rounded.round.visits ∷ [];
+    none = refl;
+    one = omega arith;
+    gains = gains_one (record { short = short; round = rounded.round; visited = refl; others = rounded.others; sends = rounded.sends });
     counts = counts_round rounded;
-    memory = ap (list_any ran_out) (append-nil rounded.round.visits) ∙ sym rounded.round.memory;
-    requests = ap capped (ap (λ s. s.requests) paid ∙ sym (add-zero mid.state.requests));
+    order = rw owed refl;
+    idles = refl;
+    memory = rounded.round.memory ∙ sym (ap (list_any ran_out) (append-nil rounded.round.visits));
+    at_once = λ quiet. ap (list_any met_prober) (append-nil rounded.round.visits) ∙ quiet_round rounded.round quiet;
   }
 
-  -- the round that was owed was run
-  pub answered_round : {progress : Progress} {old mid : Snapshot (Parts H L T C)} {state : SessionState} {after : Parts H L T C}
-      → Answered (effects_of ghosts) progress old mid
-      → mid.state.owes ≡ true → Rounded ghosts.backend false mid.parts after → state ≡ record mid.state { owes = false }
-      → Answered (effects_of ghosts) progress old (snapshot state after)
-  answered_round {progress} {old} {mid} {state} {after} front owed rounded paid =
-      let visits = rounded.round.visits in
-      let items = items-append front.events (RoundAfter visits ∷ []) ∙ append-nil (items_of (turns_of front.events)) in
-      let text = text-append front.events (RoundAfter visits ∷ []) ∙ append-nil (text_of (turns_of front.events)) in
-      record {
-        events = front.events ++ RoundAfter visits ∷ [];
-        turned = turned_append front.turned (turned_round owed rounded paid);
-        idles = omega (arith, front.idles, idles-append front.events (RoundAfter visits ∷ []));
-        outbox = ap (λ s. s.outbox) paid ∙ front.outbox ∙ ap (λ xs. old.state.outbox ++ xs) (sym text);
-        begin = below-append old.state.outbox mid.state.outbox front.events (RoundAfter visits ∷ []) front.outbox front.begin tt;
-        progress_is =
-            subst (λ xs. ProgressIs progress xs state.reading) (sym items)
-            (subst (λ to. ProgressIs progress (items_of (turns_of front.events)) to) (sym (ap (λ s. s.reading) paid)) front.progress_is);
-      }
+  paid_none : {short : Bool} {mid : Snapshot (Parts H L T C)} {after : Parts H L T C} → mid.state.owes ≡ false
+      → NoneRun short mid.parts after → IsPaid ghosts short mid after
+  paid_none {short} {mid} {after} none run = record {
+    last = [];
+    none = refl;
+    one = omega arith;
+    gains = subst (λ w. Gains (effects_of ghosts).step mid.parts [] w) (sym run.same) (gains_none mid.parts);
+    counts = subst (λ w. CountsRise (effects_of ghosts) mid.parts [] w) (sym run.same) (counts_none mid.parts);
+    order = ap Some none;
+    idles = refl;
+    memory = run.never_short;
+    at_once = λ quiet. refl;
+  }
 
-  -- the round that was owed, if one was
-  pub answered_paid : {progress : Progress} {old mid : Snapshot (Parts H L T C)} {state : SessionState} {after : Parts H L T C}
-      → Answered (effects_of ghosts) progress old mid
-      → IsRun ghosts.backend mid false after → state ≡ record mid.state { owes = false }
-      → Answered (effects_of ghosts) progress old (snapshot state after)
-  answered_paid {progress} {old} {mid} {state} {after} front run paid =
-      let P : Bool → Type 0 = λ owes. MatchBool owes (Rounded ghosts.backend false mid.parts after) (NoneRun false mid.parts after) in
-      elim (cases_Bool mid.state.owes) [
-        | inl owed ↦ answered_round front owed (subst P owed run.ran) paid
-        | inr none ↦
-            subst (λ it. Answered (effects_of ghosts) progress old it)
-            (sym (unpaid none (subst P none run.ran) paid)) front
-      ]
-
-  -- the round that was owed was run, and memory ran out in it or did not
-  part_round : {progress : Progress} {short : Bool} {old mid : Snapshot (Parts H L T C)} {state : SessionState} {after : Parts H L T C}
-      → Answered (effects_of ghosts) progress old mid
-      → mid.state.owes ≡ true → Rounded ghosts.backend short mid.parts after → state ≡ record mid.state { owes = false }
-      → AnsweredPart (effects_of ghosts) old (snapshot state after)
-  part_round {progress} {short} {old} {mid} {state} {after} front owed rounded paid =
-      let last : List Event = RoundAfter rounded.round.visits ∷ [] in
-      let items = items-append front.events last ∙ append-nil (items_of (turns_of front.events)) in
-      let text = text-append front.events last ∙ append-nil (text_of (turns_of front.events)) in
-      let ended : InSession (items_of (turns_of front.events)) =
-      in_session progress (items_of (turns_of front.events)) mid.state.reading front.progress_is in
-      record {
-        events = front.events ++ last;
-        left = mid.state.reading;
-        reached = after;
-        gives = subst (λ xs. Gives old.state.reading xs mid.state.reading) (sym items) front.turned.gives;
-        gains = gains_append front.turned.gains (gains_one (record { short = short; round = rounded.round; visited = refl; others = rounded.others; sends = rounded.sends }));
-        counts = counts_append front.turned.counts (counts_round rounded);
-        order = order-append old.state.owes mid.state.owes false front.events last front.turned.order (rw owed refl);
-        idles = omega (arith, front.idles, idles-append front.events last);
-        in_session = subst InSession (sym items) ended;
-        outbox = ap (λ s. s.outbox) paid ∙ front.outbox ∙ ap (λ xs. old.state.outbox ++ xs) (sym text);
-        behind = no_more refl (ap (λ s. s.owes) paid);
-      }
-
-  -- the same where a round was owed or none was
-  pub part_paid : {progress : Progress} {short : Bool} {old mid : Snapshot (Parts H L T C)} {state : SessionState} {after : Parts H L T C}
-      → Answered (effects_of ghosts) progress old mid
-      → IsRun ghosts.backend mid short after → state ≡ record mid.state { owes = false }
-      → AnsweredPart (effects_of ghosts) old (snapshot state after)
-  part_paid {progress} {short} {old} {mid} {state} {after} front run paid =
+  pub paid : {short : Bool} {mid : Snapshot (Parts H L T C)} {after : Parts H L T C} → IsRun ghosts.backend mid short after
+      → IsPaid ghosts short mid after
+  paid {short} {mid} {after} run =
       let P : Bool → Type 0 = λ owes. MatchBool owes (Rounded ghosts.backend short mid.parts after) (NoneRun short mid.parts after) in
       elim (cases_Bool mid.state.owes) [
-        | inl owed ↦ part_round front owed (subst P owed run.ran) paid
-        | inr none ↦
-            subst (λ it. AnsweredPart (effects_of ghosts) old it)
-            (sym (unpaid none (subst P none run.ran) paid)) (part_of front none)
+        | inl owed ↦ paid_round owed (subst P owed run.ran)
+        | inr none ↦ paid_none none (subst P none run.ran)
       ]
+
+  -- the round that was owed was run, and memory ran out nowhere
+  pub turned_paid : {mid : Snapshot (Parts H L T C)} {state : SessionState} {after : Parts H L T C} (outbox : List ℕ)
+      → (it : IsPaid ghosts false mid after) → state ≡ record mid.state { outbox = outbox; owes = false }
+      → Turned (effects_of ghosts) mid it.last (snapshot state after)
+  turned_paid {mid} {state} {after} outbox it is = record {
+    gives =
+        subst (λ turns. Gives mid.state.reading (items_of turns) state.reading) (sym it.none)
+        (subst (Gives mid.state.reading []) (sym (ap (λ s. s.reading) is)) (Gives-none mid.state.reading));
+    gains = it.gains;
+    order = it.order ∙ ap Some (sym (ap (λ s. s.owes) is));
+    counts = it.counts;
+    memory = sym it.memory;
+    requests =
+        ap capped (ap (λ s. s.requests) is ∙ sym (add-zero mid.state.requests))
+        ∙ ap (λ turns. capped (mid.state.requests + requests_in (items_of turns))) (sym it.none);
+  }
+
+  -- the same after items, while no prober is at work
+  pub answered_paid : {progress : Progress} {old mid : Snapshot (Parts H L T C)} {state : SessionState} {after : Parts H L T C}
+      → Answered (effects_of ghosts) progress old mid → AreQuiet mid.parts.backend.probers
+      → IsRun ghosts.backend mid false after → state ≡ record mid.state { owes = false }
+      → Answered (effects_of ghosts) progress old (snapshot state after)
+  answered_paid {progress} {old} {mid} {state} {after} front quiet run is =
+      let it = paid run in
+      record {
+        events = front.events ++ it.last;
+        turned = turned_append front.turned (turned_paid mid.state.outbox it is);
+        idles = omega (arith, front.idles, it.idles, idles-append front.events it.last);
+        outbox = ap (λ s. s.outbox) is ∙ front.outbox ∙ ap (λ xs. old.state.outbox ++ xs) (sym (text-paid front.events it.last it.none));
+        begin =
+            below-append old.state.outbox mid.state.outbox front.events it.last front.outbox front.begin
+            (subst (BeginBelowBound (length mid.state.outbox)) (sym it.none) tt);
+        at_once = work-append front.events it.last front.at_once (it.at_once quiet);
+        progress_is =
+            subst (λ xs. ProgressIs progress xs state.reading) (sym (items-paid front.events it.last it.none))
+            (subst (λ to. ProgressIs progress (items_of (turns_of front.events)) to) (sym (ap (λ s. s.reading) is)) front.progress_is);
+      }
 
   -- the round at an idle turn is an event
   pub turned_idle : {here : SessionState} {between after : Parts H L T C} → here.owes ≡ false

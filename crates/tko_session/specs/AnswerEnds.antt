@@ -1,5 +1,5 @@
 -- What items are answered from, and how answering them ends.
-use Rattle.std.specs.Prelude.{◌≡◌, Bool, true, false, List, MatchBool, Result, Ok, Err}
+use Rattle.std.specs.Prelude.{◌≡◌, Bool, true, false, List, [], MatchBool, Result, Ok, Err}
 use Rattle.tko_bytes.specs.declared.memory.NoMemory.{NoMemory}
 use Rattle.tko_prober.specs.Ghosts.{BackendGhosts}
 use Rattle.tko_prober.specs.Probers.{AreQuiet, NoneMarked}
@@ -48,6 +48,11 @@ abbrev pub DriveEnds : {H L T C : Type 0} → Effects (Parts H L T C) → Snapsh
 DriveEnds effects old (Ok progress) new = ItemEnds effects old (Ok progress) new
 DriveEnds effects old (Err attempts) new = (fault : NoMemory)
     → ItemEnds effects old (Err fault) (snapshot new.state (with_noted attempts new.parts))
+
+-- a round may be run: no reply waits for it, or no prober is at work, so that it takes no time
+pub data MayRunRound {H L T C : Type 0} (at : Snapshot (Parts H L T C)) : Type 0 where
+  none_waits : at.state.outbox ≡ [] → MayRunRound at
+  none_at_work : AreQuiet at.parts.backend.probers → MayRunRound at
 
 -- nothing was done, for which no memory is needed
 pub record NoneRun {W : Type 0} (short : Bool) (old new : W) : Type 0 where

@@ -8,7 +8,7 @@ use Rattle.tko_session.specs.declared.step.Progress.TheVariants as progress
 use Rattle.tko_session.specs.declared.step.Report.{Report}
 use Rattle.tko_session.specs.Events.{idle_rounds}
 use Rattle.tko_session.specs.SessionState.{pause_of}
-use Rattle.tko_session.specs.Served.{Context, Delivered, DeliveredPart, Delivering, Delivery, Served, Serving, StoppedByLine, StoppedByRead, StoppedByWrite, StoppedEarly}
+use Rattle.tko_session.specs.Served.{Context, Delivered, DeliveredPart, Delivering, Delivery, Served, Serving, StoppedByLine, StoppedByMemory, StoppedByRead, StoppedByWrite}
 
 module _ {O W : Type 0} (ghosts : Delivering O W) where
   -- everything was written, no round was run at an idle turn, and the writer did not fail
@@ -17,9 +17,10 @@ module _ {O W : Type 0} (ghosts : Delivering O W) where
     pub idle : idle_rounds delivered.events ≡ 0
     pub calm : ghosts.outlet.failures new.writer ≡ ghosts.outlet.failures old.writer
 
-  -- memory ran out, and the writer did not fail
+  -- memory ran out, the writer did not fail, and all replies were written
   pub record ShortOfMemory (old new : Delivery O W) : Type 0 where
     pub part : DeliveredPart ghosts 0 old new
+    pub whole : part.unwritten ≡ []
     pub calm : ghosts.outlet.failures new.writer ≡ ghosts.outlet.failures old.writer
 
   -- the writer failed, after `count` bytes of the session, and some of the replies stay unwritten
@@ -71,7 +72,7 @@ module _ {I O W : Type 0} (ghosts : Serving I O W) where
       × (ghosts.delivering.outlet.failures old.writer
       < ghosts.delivering.outlet.failures new.writer)
   SessionStops old LineTooLong new = StoppedByLine ghosts old new × IsCalm old new
-  SessionStops old Memory new = StoppedEarly ghosts old new × IsCalm old new
+  SessionStops old Memory new = StoppedByMemory ghosts old new × IsCalm old new
 
   -- how a session ends
   abbrev pub SessionEnds : Context I O W → Result Report SessionFault → Context I O W → Type 0

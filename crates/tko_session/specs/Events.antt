@@ -1,10 +1,10 @@
 -- What a session does, in order: it answers items, and runs rounds of its probers.
-use Rattle.std.specs.Prelude.{◌≡◌, ℕ, Bool, true, false, List, [], ◌∷◌, count_by, flat_map, Option, Some, None}
+use Rattle.std.specs.Prelude.{◌≡◌, ◌≤◌, ℕ, Bool, true, false, List, [], ◌∷◌, ◌++◌, count_by, flat_map, length, Option, Some, None}
 use Rattle.std.specs.List.{list_any}
 use Rattle.tko_text.specs.declared.request.Request.{Request}
 use Rattle.tko_reply.specs.declared.parts.Parts.{Parts}
 use Rattle.tko_prober.specs.Ghosts.{BackendGhosts}
-use Rattle.tko_prober.specs.Round.{IsRound, Visit, ran_out}
+use Rattle.tko_prober.specs.Round.{Absent, IsRound, Probed, Rested, Stopped, Visit, ran_out}
 use Rattle.tko_reply.specs.Ghosts.{PartsGhosts}
 use Rattle.tko_reply.specs.Interactions.{Performs}
 use Rattle.tko_session.specs.Turns.{IsTurn, Turn, is_request}
@@ -42,6 +42,25 @@ visits_of events = flat_map visits_in events
 -- memory ran out in no visit of these rounds
 abbrev pub NoneShort : List Event → Type 0
 NoneShort events = list_any ran_out (visits_of events) ≡ false
+
+-- memory ran out in no round of these but the last event
+pub record ShortAtMostLast (events : List Event) : Type 0 where
+  pub before : List Event
+  pub last : List Event
+  pub parts : events ≡ before ++ last
+  pub memory : NoneShort before
+  pub one : length last ≤ 1
+
+-- whether a prober was at work at the server of a visit
+abbrev pub met_prober : Visit → Bool
+met_prober (Absent server) = false
+met_prober (Stopped server) = true
+met_prober (Rested server) = true
+met_prober (Probed server came moment reply) = true
+
+-- no prober was at work in these rounds, so that none of them took long
+abbrev pub NoneAtWork : List Event → Type 0
+NoneAtWork events = list_any met_prober (visits_of events) ≡ false
 
 -- how many rounds were run at idle turns
 abbrev pub idle_rounds : List Event → ℕ

@@ -10,7 +10,8 @@ use Rattle.tko_io.specs.declared.io.Inlet.{Ghosts as InletGhosts}
 use Rattle.tko_io.specs.declared.io.Outlet.{Ghosts as OutletGhosts}
 use Rattle.tko_session.specs.declared.step.Progress.{Progress}
 use Rattle.tko_session.specs.declared.step.Report.{Report}
-use Rattle.tko_session.specs.Events.{Effects, NoneShort, Event, RoundAfter, idle_rounds, owed_after, turns_of}
+use Rattle.tko_session.specs.Batches.{EndInBatch}
+use Rattle.tko_session.specs.Events.{Effects, NoneShort, Event, RoundAfter, ShortAtMostLast, idle_rounds, owed_after, turns_of}
 use Rattle.tko_prober.specs.Round.{Visit}
 use Rattle.tko_session.specs.SessionState.{CountsRise, SessionState, Snapshot, StopPoint, Turned, EndsWith, GoesOn, InSession, ProgressIs, fresh, fed_state, line_too_long, quit, snapshot, items_of, text_of, requests_in, stop_point}
 
@@ -59,13 +60,15 @@ pub data Ending (is_ended : Type 0) (items : List Item) (left : Reading) (unfini
       → Ending is_ended items left unfinished
   at_quit : EndsWith quit items → unfinished ≡ 0 → Ending is_ended items left unfinished
 
--- what a session did after the last event, where it ended early: nothing; or the next item is a
--- request that was cut short because memory ran out, and its round was run
+-- what a session did after the last event, where it ended early: nothing, and memory ran out in no
+-- round but the last event; or it ran out in none of them, the next item is a request that was cut
+-- short because memory ran out, and its round was run
 pub data EndsAt {W : Type 0} (effects : Effects W) (stop : StopPoint W) (after : W)
     : Type 0 where
-  at_once : after ≡ stop.parts → EndsAt effects stop after
+  at_once : ShortAtMostLast stop.events → after ≡ stop.parts → EndsAt effects stop after
   after_cut : (it : Request) (to : Reading) (mid : W) (visits : List Visit)
-      → GoesOn stop.items → Emits stop.left (item.Request it) to → effects.cut it stop.parts mid
+      → NoneShort stop.events → GoesOn (items_of (turns_of stop.events))
+      → Emits stop.left (item.Request it) to → effects.cut it stop.parts mid
       → effects.step mid (RoundAfter visits) after → EndsAt effects stop after
 
 module _ {I O W : Type 0} (ghosts : Serving I O W) where
@@ -117,13 +120,18 @@ module _ {I O W : Type 0} (ghosts : Serving I O W) where
     pub counts : CountsRise ghosts.delivering.effects old.parts events reached
     pub order : owed_after false events ≡ Some false
     pub idles : ghosts.inlet.idles new.reader ≡ ghosts.inlet.idles old.reader + idle_rounds events
-    pub ends : EndsAt ghosts.delivering.effects
-        (stop_point (items_of (turns_of events)) left reached) new.parts
+    pub ends : EndsAt ghosts.delivering.effects (stop_point events left reached) new.parts
     pub in_session : InSession (items_of (turns_of events))
     pub front : List ℕ
     pub unwritten : List ℕ
     pub text : text_of (turns_of events) ≡ front ++ unwritten
     pub output : ghosts.delivering.outlet.takes old.writer front new.writer
+    pub batch : EndInBatch events front
+
+  -- memory ran out, and all replies were written
+  pub record StoppedByMemory (old new : Context I O W) : Type 0 where
+    pub early : StoppedEarly old new
+    pub whole : early.unwritten ≡ []
 
   -- the writer failed after `written` bytes, and some of the replies stayed unwritten
   pub record StoppedByWrite (old : Context I O W) (written : ℕ) (new : Context I O W) : Type 0 where
@@ -150,8 +158,7 @@ module _ {O W : Type 0} (ghosts : Delivering O W) where
     pub left : Reading
     pub reached : W
     pub idle : idle_rounds events ≡ idles
-    pub ends : EndsAt ghosts.effects (stop_point (items_of (turns_of events)) left reached)
-        new.session.parts
+    pub ends : EndsAt ghosts.effects (stop_point events left reached) new.session.parts
     pub gives : Gives old.session.state.reading (items_of (turns_of events)) left
     pub gains : Gains ghosts.effects.step old.session.parts events reached
     pub counts : CountsRise ghosts.effects old.session.parts events reached
@@ -162,6 +169,7 @@ module _ {O W : Type 0} (ghosts : Delivering O W) where
     pub text : text_of (turns_of events) ≡ front ++ unwritten
     pub output : Writes ghosts.outlet.takes (old.writer, old.written) front
         (new.writer, new.written)
+    pub batch : EndInBatch events front
 
 -- what serving a client works with at a moment: its reader, and its session with the writer
 pub record ServeState (I O W : Type 0) : Type 0 where

@@ -14,7 +14,7 @@ use Rattle.tko_session.specs.declared.step.Progress.{Progress}
 use Rattle.tko_session.specs.declared.step.Progress.TheVariants as progress
 use Rattle.tko_session.specs.Working.{Work}
 use Rattle.tko_session.specs.Working as work
-use Rattle.tko_session.specs.Events.{Effects, Event, NoneShort, idle_rounds, owed_after, turns_of, visits_of}
+use Rattle.tko_session.specs.Events.{Effects, Event, NoneAtWork, NoneShort, idle_rounds, owed_after, turns_of, visits_of}
 use Rattle.tko_io.specs.Io.{capped}
 use Rattle.tko_reply.specs.Replies.{RoutedKey, reply_bound, sends_to, trails_in}
 use Rattle.tko_prober.specs.Round.{probes_in}
@@ -155,21 +155,21 @@ pub record Replied {H L T C : Type 0} (ghosts : PartsGhosts H L T C)
   pub requests : capped new.state.requests ≡ capped (old.state.requests + 1)
   pub owes : new.state.owes ≡ true
 
--- where answering stops: after these items, with this left to read, and with these parts
+-- where answering stops: after these events, with this left to read, and with these parts
 pub record StopPoint (W : Type 0) : Type 0 where
-  pub items : List Item
+  pub events : List Event
   pub left : Reading
   pub parts : W
 
-abbrev pub stop_point : {W : Type 0} → List Item → Reading → W → StopPoint W
-stop_point items left parts = record { items = items; left = left; parts = parts }
+abbrev pub stop_point : {W : Type 0} → List Event → Reading → W → StopPoint W
+stop_point events left parts = record { events = events; left = left; parts = parts }
 
--- what was done after the last of these items where memory ran out: nothing; or the next item is a
+-- what was done after the last of these events where memory ran out: nothing; or the next item is a
 -- request that was cut short, and its round is owed
 pub data IsBehind {W : Type 0} (cut : Request → W → W → Type 0) (stop : StopPoint W)
     (new : Snapshot W) : Type 0 where
   no_more : new.parts ≡ stop.parts → new.state.owes ≡ false → IsBehind cut stop new
-  cut_short : (it : Request) (to : Reading) → GoesOn stop.items
+  cut_short : (it : Request) (to : Reading) → GoesOn (items_of (turns_of stop.events))
       → Emits stop.left (item.Request it) to → cut it stop.parts new.parts
       → new.state.owes ≡ true → IsBehind cut stop new
 
@@ -193,17 +193,18 @@ module _ {W : Type 0} (effects : Effects W) where
         ≡ capped (old.state.requests + requests_in (items_of (turns_of events)))
 
   -- some events did, none of them at an idle turn, and the text of the replies was added to the
-  -- outbox, each while there was room
+  -- outbox, each while there was room; no prober was at work in a round, so that no reply waits for
+  -- one that takes long
   pub record Answered (progress : Progress) (old new : Snapshot W) : Type 0 where
     pub events : List Event
     pub turned : Turned old events new
     pub idles : idle_rounds events ≡ 0
     pub outbox : new.state.outbox ≡ old.state.outbox ++ text_of (turns_of events)
     pub begin : BeginBelowBound (length old.state.outbox) (turns_of events)
+    pub at_once : NoneAtWork events
     pub progress_is : ProgressIs progress (items_of (turns_of events)) new.state.reading
 
-  -- memory ran out after these events, none of them at an idle turn, or in the round that is the
-  -- last of them
+  -- memory ran out after such events
   pub record AnsweredPart (old new : Snapshot W) : Type 0 where
     pub events : List Event
     pub left : Reading
@@ -215,4 +216,6 @@ module _ {W : Type 0} (effects : Effects W) where
     pub idles : idle_rounds events ≡ 0
     pub in_session : InSession (items_of (turns_of events))
     pub outbox : new.state.outbox ≡ old.state.outbox ++ text_of (turns_of events)
-    pub behind : IsBehind effects.cut (stop_point (items_of (turns_of events)) left reached) new
+    pub begin : BeginBelowBound (length old.state.outbox) (turns_of events)
+    pub at_once : NoneAtWork events
+    pub behind : IsBehind effects.cut (stop_point events left reached) new

@@ -9,7 +9,7 @@ ghost use Rattle.tko_reply.specs.Interactions.{with_links};
 ghost use Rattle.tko_reply.specs.Replies.{reply_bound};
 ghost use Rattle.tko_reply.specs.declared.asking.OneKey.{OneKey};
 ghost use Rattle.tko_session.specs.Effects.{effects};
-ghost use Rattle.tko_session.specs.AnswerEnds.{AnsweringEnds, DriveEnds, IsRun, IsSettled, ItemEnds, KeepsBegun, OwesWhereBusy};
+ghost use Rattle.tko_session.specs.AnswerEnds.{AnsweringEnds, DriveEnds, IsRun, IsSettled, ItemEnds, KeepsBegun, MayRunRound, OwesWhereBusy};
 ghost use Rattle.tko_session.specs.SessionState.{snapshot};
 ghost use Rattle.tko_session.specs.Working.{Between, key_in};
 
@@ -59,13 +59,15 @@ pub fn answer<R: IoRuntime, H: Health, L: Links, T: Trails, C: Clock>(
     unreachable!()
 }
 
-/// Runs the round that is owed, if one is.
+/// Runs the round that is owed, if one is. It may take long where a prober is at work, so the
+/// replies were written before, or their writer failed.
 pub fn run_owed_round<R: IoRuntime, H: Health, L: Links, T: Trails, C: Clock>(
     rt: &R,
     session: &mut Session,
     parts: &mut Parts<H, L, T, C>,
 ) -> Result<(), NoMemory>
     requires reach { Reaches H.servers L.servers parts.old }
+    requires late { MayRunRound (snapshot session.old parts.old) }
     ensures round { IsRun (backend_ghosts H.Health L.Links C.Clock)
         (snapshot session.old parts.old) (is_err result) parts.new }
     ensures none_owed { session.new ≡ record session.old { owes = false } }

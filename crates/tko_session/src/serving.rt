@@ -130,7 +130,7 @@ fn deliver<R: IoRuntime, O: Outlet, H: Health, L: Links, T: Trails, C: Clock>(
 }
 
 /// Writes the replies that wait, piece by piece. Where the writer fails, the fault has the number
-/// of bytes of the session that were written.
+/// of bytes of the session that were written, and the other replies are dropped.
 fn write_replies<R: IoRuntime, O: Outlet>(
     rt: &R,
     session: &mut Session,
@@ -139,7 +139,7 @@ fn write_replies<R: IoRuntime, O: Outlet>(
 ) -> Result<(), SessionFault>
     requires between { session.old.work ≡ Between }
     ensures others { session.new ≡ record session.old { outbox = session.new.outbox } }
-    ensures taken { OnOk result (session.new.outbox ≡ []) }
+    ensures taken { session.new.outbox ≡ [] }
     ensures all { OnOk result (Writes O.takes
         (writer.old, written.old) session.old.outbox (writer.new, written.new)) }
     ensures calm { OnOk result (O.failures writer.new ≡ O.failures writer.old) }
@@ -155,6 +155,7 @@ fn write_replies<R: IoRuntime, O: Outlet>(
         }
         let count = replies.len();
         if !write_all(rt, writer, replies, written) {
+            session.drop_replies();
             return Err(SessionFault::Write(*written));
         }
         session.sent(count);

@@ -10,7 +10,7 @@ use std::sync::Wait;
 use std::test::Fail;
 use std::time::Clock;
 use tko_links::{Links, Outcome, Script, Scripted};
-use tko_model::{OneGroup, Plain, Reply};
+use tko_model::{Mark, OneGroup, Plain, Reply};
 use tko_pools::Config;
 use tko_prober::Delays;
 use tko_route::{Attempt, Health, PlainHealth};
@@ -288,14 +288,16 @@ fn a_server_without_an_own_mark_is_not_probed(rt: HostRuntime) -> Result<(), Fai
     Ok(())
 }
 
-/// As a caller that has no session gets it.
+/// As a caller that has no session gets it. Where an allocation is refused, as by
+/// `rt try --test --fail-alloc N`, it ends with `NoMemory`, and no mark has changed.
 #[test]
 fn the_status_is_there_without_a_session(rt: HostRuntime) -> Result<(), Fail> {
     let _stream: Option<TcpStream> = None;
     let alloc = rt.alloc();
     let mut parts = one_server(alloc, "END\r\n", &[])?;
     let addresses = parts.config.addresses();
-    let text = status(&rt, alloc, &mut parts.backend.health, addresses)?;
-    assert_eq!(rt; text.as_slice(), b"STAT dry:0 up:0\r\nEND\r\n".as_slice());
+    let came = status(&rt, alloc, &mut parts.backend.health, addresses);
+    assert_eq!(rt; parts.backend.health.tracker().mark(0), Mark::Up(0));
+    assert_eq!(rt; came?.as_slice(), b"STAT dry:0 up:0\r\nEND\r\n".as_slice());
     Ok(())
 }

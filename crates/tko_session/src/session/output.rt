@@ -45,6 +45,13 @@ impl Session {
         }
     }
 
+    /// Drops all replies, which nobody can read any more.
+    pub(crate) fn drop_replies(&mut self)
+        ensures { self.new ≡ record self.old { outbox = [] } }
+    {
+        self.outbox.truncate(0);
+    }
+
     /// Whether the round after the last request is still to be run.
     pub fn owes_round(&self) -> bool
         ensures { result ≡ self.now.owes }

@@ -1,9 +1,8 @@
 use Rattle.std.proofs.Common.{ap, subst, sym, ◌∙◌}
-use Rattle.std.proofs.lemmas.Result.{err_from_is_err_and}
 use Rattle.tko_prober.specs.Probers.{NoneMarked}
 use Rattle.tko_session.proofs.FollowingLemmas.{owed_or_not}
-use Rattle.tko_session.proofs.EventLemmas.{begun_paid}
-use Rattle.tko_session.proofs.TurnLemmas.{answered_paid, part_paid}
+use Rattle.tko_session.proofs.EventLemmas.{begun_paid, never_short}
+use Rattle.tko_session.proofs.TurnLemmas.{answered_paid}
 use Rattle.tko_session.proofs.answering.answer_next.Goals as goal
 
 pub returns-in_err-progress-clause-begun : goal.returns-in_err-progress-clause-begun
@@ -14,9 +13,7 @@ returns-then-not-is_quiet-clause-begun g c = λ begun none. subst NoneMarked (sy
 
 pub returns-in_err-run_owed_round-clause-ends : goal.returns-in_err-run_owed_round-clause-ends
 returns-in_err-run_owed_round-clause-ends g c =
-    let p = err_from_is_err_and c.from_residual-in_err-run_owed_round.result c.from_residual-in_err-run_owed_round.ensures.1 in
-    let run = c.in_err-run_owed_round.ensures in
-    rw p.1 (part_paid c.in_ok-progress.ensures.ends.ends run.round run.none_owed)
+    absurd (never_short (c.is_quiet.ensures.0 c.if-not-is_quiet.false) c.in_err-run_owed_round.ensures.round)
 
 pub returns-in_err-run_owed_round-clause-begun : goal.returns-in_err-run_owed_round-clause-begun
 returns-in_err-run_owed_round-clause-begun g c = λ begun none.
@@ -28,7 +25,7 @@ returns-in_err-run_owed_round-clause-between g c = ap (λ s. s.work) c.in_err-ru
 pub returns-clause-ends : goal.returns-clause-ends
 returns-clause-ends g c =
     let run = c.in_ok-run_owed_round.ensures in
-    answered_paid c.in_ok-progress.ensures.ends.ends run.round run.none_owed
+    answered_paid c.in_ok-progress.ensures.ends.ends (c.is_quiet.ensures.0 c.if-not-is_quiet.false) run.round run.none_owed
 
 pub returns-clause-busy : goal.returns-clause-busy
 returns-clause-busy g c = λ owed. absurd (owed_or_not owed (ap (λ s. s.owes) c.in_ok-run_owed_round.ensures.none_owed))

@@ -1,15 +1,18 @@
-use Rattle.std.proofs.Common.{[], ap, drop, false, refl, sym, take, ◌∙◌, append-nil}
+use Rattle.std.proofs.Common.{ap, drop, false, sym, take, ◌∙◌}
 use Rattle.std.proofs.lemmas.List.{take-append-drop}
 use Rattle.std.proofs.lemmas.Result.{err_from_is_err_and}
 use Rattle.tko_session.proofs.EventLemmas.{begun_paid}
 use Rattle.tko_session.specs.SessionState.{SessionState, snapshot}
 use Rattle.tko_session.proofs.ReplyLemmas.{left_over}
-use Rattle.tko_session.proofs.ServedLemmas.{all_of, err_delivered, ok_delivered, writer_failed}
-use Rattle.tko_session.proofs.TurnLemmas.{answered_paid}
+use Rattle.tko_session.proofs.ServedLemmas.{all_of, short_in_items, short_in_round, writer_failed}
+use Rattle.tko_session.specs.AnswerEnds.{none_waits}
 use Rattle.tko_session.proofs.serving.deliver.Goals as goal
 
 pub write_replies-wrote-requires : goal.write_replies-wrote-requires
 write_replies-wrote-requires g c = record { between = c.answer-answered.ensures.between }
+
+pub run_owed_round-rounded-requires-clause-late : goal.run_owed_round-rounded-requires-clause-late
+run_owed_round-rounded-requires-clause-late g c = none_waits c.write_replies-wrote.ensures.taken
 
 pub returns-in_err-wrote-clause-ends : goal.returns-in_err-wrote-clause-ends
 returns-in_err-wrote-clause-ends g c =
@@ -39,11 +42,7 @@ returns-in_err-progress-clause-ends g c =
     let p = err_from_is_err_and c.from_residual-in_err-progress.result c.from_residual-in_err-progress.ensures.1 in
     let wrote = c.in_ok-wrote.ensures in
     let run = rw wrote.others at c.run_owed_round-rounded.ensures.round in
-    let text = c.answer-answered.new.session.outbox in
-    rw (p.1, p.2) (record {
-      part = err_delivered text [] c.in_err-progress.ensures.ends (record { ran = run.ran }) c.requires.outbox (sym (append-nil text)) wrote.all;
-      calm = wrote.calm;
-    })
+    rw (p.1, p.2) (short_in_items c.in_err-progress.ensures.ends (record { ran = run.ran }) c.requires.outbox wrote.all wrote.calm)
 
 pub returns-in_err-progress-clause-begun : goal.returns-in_err-progress-clause-begun
 returns-in_err-progress-clause-begun g c = λ begun.
@@ -61,11 +60,7 @@ returns-in_err-rounded-clause-ends g c =
     let p = err_from_is_err_and c.from_residual-in_err-rounded.result c.from_residual-in_err-rounded.ensures.1 in
     let wrote = c.in_ok-wrote.ensures in
     let run = rw wrote.others at c.in_err-rounded.ensures.round in
-    let text = c.answer-answered.new.session.outbox in
-    rw (p.1, p.2) (record {
-      part = ok_delivered text [] c.in_ok-progress.ensures.ends (record { ran = run.ran }) c.requires.outbox (sym (append-nil text)) wrote.all;
-      calm = wrote.calm;
-    })
+    rw (p.1, p.2) (short_in_round c.in_ok-progress.ensures.ends (record { ran = run.ran }) c.requires.outbox wrote.all wrote.calm)
 
 pub returns-in_err-rounded-clause-begun : goal.returns-in_err-rounded-clause-begun
 returns-in_err-rounded-clause-begun g c = λ begun.
@@ -82,9 +77,8 @@ pub returns-clause-ends : goal.returns-clause-ends
 returns-clause-ends g c =
     let wrote = c.in_ok-wrote.ensures in
     let run = rw wrote.others at c.in_ok-rounded.ensures.round in
-    let settled : SessionState = record c.answer-answered.new.session { owes = false } in
-    all_of (answered_paid {state = settled} c.in_ok-progress.ensures.ends (record { ran = run.ran }) refl) c.requires.outbox refl wrote.all
-    wrote.calm (c.run_owed_round-rounded.ensures.none_owed
+    all_of c.in_ok-progress.ensures.ends (record { ran = run.ran }) c.requires.outbox wrote.all wrote.calm
+    (c.run_owed_round-rounded.ensures.none_owed
     ∙ ap (λ (s : SessionState). record s { owes = false }) (wrote.others ∙ ap (λ out. record c.answer-answered.new.session { outbox = out }) wrote.taken))
 
 pub returns-clause-begun : goal.returns-clause-begun

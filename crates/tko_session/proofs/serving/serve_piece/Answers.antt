@@ -1,4 +1,4 @@
-use Rattle.std.proofs.Common.{ap, refl, Err, ◌∙◌}
+use Rattle.std.proofs.Common.{ap, Err, ◌∙◌}
 use Rattle.std.proofs.lemmas.Result.{err_from_is_err_and}
 use Rattle.tko_session.specs.SessionState.{fed_state}
 use Rattle.tko_session.proofs.ServedLemmas.{all_append, all_none, not_delivered, not_taken, piece_stopped}
@@ -8,7 +8,7 @@ pub returns-in_err-feed-clause-ends : goal.returns-in_err-feed-clause-ends
 returns-in_err-feed-clause-ends g c =
     let p = err_from_is_err_and c.from_residual.result c.from_residual.ensures.1 in
     rw (p.1, p.2) (not_taken c.in_err-feed.field-0.0 (λ is. c.requires.reads (c.in_err-feed.ensures.failed.0 (ap Err is)))
-    (not_delivered _ _ c.args.parts.now c.args.writer.now c.args.written.now (g.met.O.Outlet.nothing c.args.writer.now) c.requires.outbox c.requires.settled.unowed) refl)
+    (not_delivered _ _ c.args.parts.now c.args.writer.now c.args.written.now (g.met.O.Outlet.nothing c.args.writer.now) c.requires.outbox c.requires.settled.unowed))
 
 pub loop-init : goal.loop-init
 loop-init g c =
