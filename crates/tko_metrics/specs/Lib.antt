@@ -1,5 +1,6 @@
 pub mod Marks
 pub mod Meters
+pub mod Metrics
 pub mod Pages
 pub mod Readings
-pub mod Visits
+pub mod Samples

@@ -1,64 +1,113 @@
--- What is answered to a request for the metrics.
-use Rattle.std.specs.Prelude.{◌≡◌, ◌≢◌, ℕ, List, [], ◌∷◌, ◌||◌, not, if◌then◌else◌, codes}
-use Rattle.std.specs.Str.{bytes_eq}
-use Rattle.http.specs.declared.request.Request.{Request}
-use Rattle.http.specs.Request.{head_of}
-use Rattle.http1.specs.Fields.{Header}
-use Rattle.http_server.specs.declared.response.Response.{Response}
-use Rattle.http_server.specs.Exchange.{Call}
-use Rattle.http_server.specs.Response.{fields_of}
-use Rattle.http_uri.specs.Uri.{uri_path}
-use Rattle.tko_metrics.specs.declared.answer.Answer.{Answer}
-use Rattle.tko_metrics.specs.declared.answer.Answer.TheVariants.{Page, NotAllowed, NotFound}
+-- The page of a server's metrics.
+use Rattle.std.specs.Prelude.{◌≡◌, ℕ, ◌^◌, ◌-◌, min, List, [], ◌++◌, Option, Some, None, codes, flat_map, map, sum_by}
+use Rattle.tko_metrics.specs.declared.metrics.Metric.{Metric}
+use Rattle.tko_metrics.specs.declared.metrics.Metric.TheVariants as metric
+use Rattle.tko_metrics.specs.declared.page.Page.{Page}
+use Rattle.tko_metrics.specs.declared.reading.Shown.{Shown}
+use Rattle.tko_metrics.specs.declared.reading.Sums.{Sums}
+use Rattle.tko_metrics.specs.declared.worker_meter.Ending.TheVariants as ending
+use Rattle.tko_metrics.specs.declared.worker_meter.Marking.{Marking}
+use Rattle.tko_metrics.specs.declared.worker_meter.Marking.TheVariants.{Up, Soft, Hard}
+use Rattle.tko_metrics.specs.Samples.{head_of, kind_sample, mark_sample, moment_sample, server_sample, single}
 
--- what is answered to this method and this path
-abbrev pub answer_to : List ℕ → List ℕ → Answer
-answer_to method path =
-    if not (bytes_eq path (codes "/metrics")) then NotFound
-    else if bytes_eq method (codes "GET") || bytes_eq method (codes "HEAD") then Page
-    else NotAllowed
+-- the clients, and the sessions that have ended
+unfoldable pub clients_text : Page → List ℕ
+clients_text page =
+    single metric.Connected page.connected ++ single metric.Accepted page.accepted
+    ++ single metric.Dropped page.dropped ++ single metric.Sessions page.sums.sessions
 
--- the statuses of HTTP that answers have: done, the method may not be asked for, nothing is there
-abbrev pub done_status : ℕ
-done_status = 200
+-- the sessions that ended by each kind of fault
+unfoldable pub faults_text : Sums → List ℕ
+faults_text sums =
+    head_of metric.Faults ++ kind_sample metric.Faults ending.Read sums.read_faults
+    ++ kind_sample metric.Faults ending.Write sums.write_faults
+    ++ kind_sample metric.Faults ending.LineTooLong sums.line_faults
+    ++ kind_sample metric.Faults ending.Memory sums.memory_faults
 
-abbrev pub not_allowed_status : ℕ
-not_allowed_status = 405
+unfoldable pub requests_text : Sums → List ℕ
+requests_text sums =
+    single metric.Requests sums.requests ++ single metric.Attempts sums.attempts
+    ++ single metric.Skips sums.skips ++ single metric.Replies sums.replies
+    ++ single metric.NoServer sums.no_server
 
-abbrev pub not_found_status : ℕ
-not_found_status = 404
+-- the probes of all servers
+abbrev pub probes_in_all : List Shown → ℕ
+probes_in_all servers = min (sum_by (λ server. server.reading.probes) servers) (2 ^ 64 - 1)
 
-abbrev pub status_of : Answer → ℕ
-status_of Page = done_status
-status_of NotAllowed = not_allowed_status
-status_of NotFound = not_found_status
+unfoldable pub counts_text : Page → List ℕ
+counts_text page =
+    clients_text page ++ faults_text page.sums ++ requests_text page.sums
+    ++ single metric.Probes (probes_in_all page.servers.items)
 
-abbrev pub close_field : Header
-close_field = (codes "connection", codes "close")
+-- what was sent to a server
+abbrev pub sends_of : Shown → List ℕ
+sends_of server = server_sample metric.ServerSends server.address.now server.reading.sends
 
-abbrev pub type_field : Header
-type_field = (codes "content-type", codes "text/plain; version=0.0.4; charset=utf-8")
+unfoldable pub sends_text : List Shown → List ℕ
+sends_text servers = head_of metric.ServerSends ++ flat_map sends_of servers
 
-abbrev pub allow_field : Header
-allow_field = (codes "allow", codes "GET, HEAD")
+-- the probes of a server
+abbrev pub probes_of : Shown → List ℕ
+probes_of server = server_sample metric.ServerProbes server.address.now server.reading.probes
 
--- the header fields of an answer
-abbrev pub fields_for : Answer → List Header
-fields_for Page = close_field ∷ type_field ∷ []
-fields_for NotAllowed = close_field ∷ allow_field ∷ []
-fields_for NotFound = close_field ∷ []
+unfoldable pub probes_text : List Shown → List ℕ
+probes_text servers = head_of metric.ServerProbes ++ flat_map probes_of servers
 
--- the response is this answer; nothing but a page has a body
-pub record IsAnswer (answer : Answer) (response : Response) : Type 0 where
-  pub status : response.status ≡ status_of answer
-  pub fields : fields_of response ≡ fields_for answer
-  pub body : answer ≢ Page → response.body.items ≡ []
+abbrev pub soft_flag : Marking → ℕ
+soft_flag Up = 0
+soft_flag Soft = 1
+soft_flag Hard = 0
 
--- the response is the answer to the method and the path of the request
-abbrev pub Answers : Request (List ℕ) → Response → Type 0
-Answers request response =
-    IsAnswer (answer_to (head_of request).method (uri_path (head_of request).uri)) response
+abbrev pub hard_flag : Marking → ℕ
+hard_flag Up = 0
+hard_flag Soft = 0
+hard_flag Hard = 1
 
--- the same of a request and its response
-abbrev pub IsAnswered : Call → Type 0
-IsAnswered call = Answers call.0 call.1
+-- whether a server has each of the two marks
+unfoldable pub marks_of : Shown → List ℕ
+marks_of server =
+    mark_sample metric.ServerMarked server.address.now (codes "soft")
+    (soft_flag server.reading.mark)
+    ++ mark_sample metric.ServerMarked server.address.now (codes "hard")
+    (hard_flag server.reading.mark)
+
+unfoldable pub marks_text : List Shown → List ℕ
+marks_text servers = head_of metric.ServerMarked ++ flat_map marks_of servers
+
+-- since when a server with this address is marked, if it is
+abbrev pub moment_with : List ℕ → Marking → ℕ → List ℕ
+moment_with address Up since = []
+moment_with address Soft since = moment_sample metric.MarkedSince address since
+moment_with address Hard since = moment_sample metric.MarkedSince address since
+
+abbrev pub moment_of : Shown → List ℕ
+moment_of server = moment_with server.address.now server.reading.mark server.reading.since
+
+unfoldable pub moments_text : List Shown → List ℕ
+moments_text servers = head_of metric.MarkedSince ++ flat_map moment_of servers
+
+unfoldable pub servers_text : Page → List ℕ
+servers_text page =
+    sends_text page.servers.items ++ probes_text page.servers.items
+    ++ marks_text page.servers.items ++ moments_text page.servers.items
+
+-- a metric whose number the system may not tell
+abbrev pub known_text : Metric → Option ℕ → List ℕ
+known_text metric (Some number) = single metric number
+known_text metric None = []
+
+-- what the system says of the process
+unfoldable pub process_text : Page → List ℕ
+process_text page =
+    known_text metric.Descriptors page.descriptors
+    ++ known_text metric.DescriptorLimit page.descriptor_limit
+    ++ known_text metric.Memory page.memory
+
+abbrev pub page_text : Page → List ℕ
+page_text page = counts_text page ++ servers_text page ++ process_text page
+
+-- the text is a page of some numbers, over servers of these addresses
+pub record IsPage (addresses : List (List ℕ)) (text : List ℕ) : Type 0 where
+  pub page : Page
+  pub servers : map (λ server. server.address.now) page.servers.items ≡ addresses
+  pub text_is : text ≡ page_text page

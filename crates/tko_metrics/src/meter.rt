@@ -1,13 +1,18 @@
 //! The numbers of a server.
-ghost use Rattle.std.specs.Prelude.{IfOk};
+ghost use Rattle.std.specs.Prelude.{◌≡◌, IfOk, map, string_bytes};
 ghost use Rattle.tko_metrics.specs.Meters.{HasParts};
+ghost use Rattle.tko_metrics.specs.Pages.{IsPage};
 
 use crate::counter::Counter;
+use crate::page::Page;
+use crate::process::Process;
+use crate::reading::{Shown, Sums};
 use crate::worker_meter::{Numbers, WorkerMeter};
 use std::alloc::{AllocError, Global};
 use std::sync::atomic::{AtomicU64, Ordering};
 use std::sync::{Arc, Wait};
 use std::time::Duration;
+use tko_bytes::NoMemory;
 
 /// What all ends of a meter share.
 #[derive(Drop)]
@@ -31,15 +36,39 @@ pub struct Meter {
 }
 
 impl Shared {
-    /// Whether the server has ended.
-    pub(crate) fn has_ended(&self) -> bool {
-        self.ended.load(Ordering::SeqCst) == 1
+    /// Of these workers, which nobody has added to.
+    fn of(workers: Vec<Arc<Numbers, Global>>) -> Shared
+        ensures { result.workers ≡ workers }
+    {
+        Shared {
+            connected: Counter::new(),
+            accepted: Counter::new(),
+            dropped: Counter::new(),
+            workers,
+            ended: AtomicU64::new(0),
+        }
     }
 
-    /// Waits until the server ends, or so many milliseconds.
-    pub(crate) fn wait<R: Wait>(&self, rt: &R, milliseconds: u64) {
-        let pause = Duration::from_millis(milliseconds);
-        self.ended.park_timeout(rt, 0, pause);
+    /// What the page of servers of these addresses shows at this moment.
+    fn reading<'a>(
+        &self,
+        alloc: Global,
+        addresses: &'a [String],
+        process: &Process,
+    ) -> Result<Page<'a>, AllocError>
+        ensures { IfOk result (λ page. map (λ server. server.address.now) page.servers.items
+            ≡ map string_bytes addresses.now) }
+    {
+        Ok(Page {
+            connected: self.connected.get(),
+            accepted: self.accepted.get(),
+            dropped: self.dropped.get(),
+            sums: Sums::of(self),
+            servers: Shown::all(alloc, self, addresses)?,
+            descriptors: process.descriptors(),
+            descriptor_limit: process.limit,
+            memory: process.memory(alloc),
+        })
     }
 }
 
@@ -57,15 +86,8 @@ impl Meter {
         for _ in 0..workers {
             each.push(Arc::new(alloc, Numbers::new(alloc, servers)?)?)?;
         }
-        let shared = Shared {
-            connected: Counter::new(),
-            accepted: Counter::new(),
-            dropped: Counter::new(),
-            workers: each,
-            ended: AtomicU64::new(0),
-        };
         Ok(Meter {
-            shared: Some(Arc::new(alloc, shared)?),
+            shared: Some(Arc::new(alloc, Shared::of(each))?),
         })
     }
 
@@ -126,7 +148,39 @@ impl Meter {
         }
     }
 
-    pub(crate) fn shared(&self) -> Option<&Shared> {
+    /// Whether the server has ended; a meter that is off has no server.
+    pub fn has_ended(&self) -> bool {
+        match &self.shared {
+            Some(shared) => shared.ended.load(Ordering::SeqCst) == 1,
+            None => true,
+        }
+    }
+
+    /// Waits until the server ends, or so many milliseconds.
+    pub fn wait<R: Wait>(&self, rt: &R, milliseconds: u64) {
+        if let Some(shared) = &self.shared {
+            let pause = Duration::from_millis(milliseconds);
+            shared.ended.park_timeout(rt, 0, pause);
+        }
+    }
+
+    /// The page of the metrics at this moment, over servers of these addresses. That of a meter
+    /// that is off has counted nothing.
+    pub fn page(
+        &self,
+        alloc: Global,
+        addresses: &[String],
+        process: &Process,
+    ) -> Result<Vec<u8>, NoMemory>
+        ensures { IfOk result (λ text.
+            IsPage (map string_bytes addresses.now) text.items) }
+    {
+        let nothing = Shared::of(Vec::new(alloc));
+        let shared = self.shared().unwrap_or(&nothing);
+        shared.reading(alloc, addresses, process)?.text(alloc)
+    }
+
+    fn shared(&self) -> Option<&Shared> {
         match &self.shared {
             Some(shared) => Some(shared),
             None => None,

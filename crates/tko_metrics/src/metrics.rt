@@ -1,111 +1,128 @@
 //! The metrics: their names, and what they tell.
+ghost use Rattle.std.specs.Prelude.{◌≡◌};
+ghost use Rattle.tko_metrics.specs.Metrics.{help_of, kind_of, kind_word, name_of};
 
-use crate::sample::{Kind, Metric};
+/// What kind of number a metric is.
+#[derive(Clone, Copy, Debug, PartialEq, Eq)]
+pub(crate) enum Kind {
+    Counter,
+    Gauge,
+}
 
-pub(crate) const CONNECTED: Metric = Metric {
-    kind: Kind::Gauge,
-    name: "tkoproxy_clients_connected",
-    help: "Clients that are connected, served or waiting for a worker.",
-};
+/// A metric of the page.
+#[derive(Clone, Copy, Debug, PartialEq, Eq)]
+pub(crate) enum Metric {
+    Connected,
+    Accepted,
+    Dropped,
+    Sessions,
+    Faults,
+    Requests,
+    Attempts,
+    Skips,
+    Replies,
+    NoServer,
+    Probes,
+    ServerSends,
+    ServerProbes,
+    ServerMarked,
+    MarkedSince,
+    Descriptors,
+    DescriptorLimit,
+    Memory,
+}
 
-pub(crate) const ACCEPTED: Metric = Metric {
-    kind: Kind::Counter,
-    name: "tkoproxy_clients_total",
-    help: "Clients that were accepted and set up.",
-};
+impl Kind {
+    pub(crate) fn word(self) -> &'static str
+        ensures { result.now ≡ kind_word self }
+    {
+        match self {
+            Kind::Counter => "counter",
+            Kind::Gauge => "gauge",
+        }
+    }
+}
 
-pub(crate) const DROPPED: Metric = Metric {
-    kind: Kind::Counter,
-    name: "tkoproxy_clients_dropped_total",
-    help: "Connections that were closed as they were accepted: no memory, or a socket's fault.",
-};
+impl Metric {
+    pub(crate) fn name(self) -> &'static str
+        ensures { result.now ≡ name_of self }
+    {
+        match self {
+            Metric::Connected => "tkoproxy_clients_connected",
+            Metric::Accepted => "tkoproxy_clients_total",
+            Metric::Dropped => "tkoproxy_clients_dropped_total",
+            Metric::Sessions => "tkoproxy_sessions_total",
+            Metric::Faults => "tkoproxy_session_faults_total",
+            Metric::Requests => "tkoproxy_requests_total",
+            Metric::Attempts => "tkoproxy_attempts_total",
+            Metric::Skips => "tkoproxy_skips_total",
+            Metric::Replies => "tkoproxy_replies_total",
+            Metric::NoServer => "tkoproxy_no_server_total",
+            Metric::Probes => "tkoproxy_probes_total",
+            Metric::ServerSends => "tkoproxy_server_sends_total",
+            Metric::ServerProbes => "tkoproxy_server_probes_total",
+            Metric::ServerMarked => "tkoproxy_server_marked",
+            Metric::MarkedSince => "tkoproxy_server_marked_timestamp_seconds",
+            Metric::Descriptors => "process_open_fds",
+            Metric::DescriptorLimit => "process_max_fds",
+            Metric::Memory => "process_resident_memory_bytes",
+        }
+    }
 
-pub(crate) const SESSIONS: Metric = Metric {
-    kind: Kind::Counter,
-    name: "tkoproxy_sessions_total",
-    help: "Sessions of clients that have ended.",
-};
+    /// What it tells.
+    pub(crate) fn help(self) -> &'static str
+        ensures { result.now ≡ help_of self }
+    {
+        match self {
+            Metric::Connected => "Clients that are connected, served or waiting for a worker.",
+            Metric::Accepted => "Clients that were accepted and set up.",
+            Metric::Dropped => {
+                "Connections that were closed as they were accepted: no memory, or a socket's fault."
+            }
+            Metric::Sessions => "Sessions of clients that have ended.",
+            Metric::Faults => "Sessions that ended by a fault.",
+            Metric::Requests => "Requests that were read.",
+            Metric::Attempts => "Requests that were sent to a server, key by key.",
+            Metric::Skips => "Targets that were passed over, since they were marked.",
+            Metric::Replies => "Attempts that a server answered.",
+            Metric::NoServer => "Routed requests that no server answered.",
+            Metric::Probes => "Probes of marked servers.",
+            Metric::ServerSends => "Requests that were sent to the server.",
+            Metric::ServerProbes => "Probes of the server.",
+            Metric::ServerMarked => {
+                "1 where the server has this mark, and is out of use, and else 0."
+            }
+            Metric::MarkedSince => "When a server that is marked was marked.",
+            Metric::Descriptors => "Open file descriptors.",
+            Metric::DescriptorLimit => {
+                "How many file descriptors the process could have open at its start."
+            }
+            Metric::Memory => "Resident memory in bytes.",
+        }
+    }
 
-pub(crate) const FAULTS: Metric = Metric {
-    kind: Kind::Counter,
-    name: "tkoproxy_session_faults_total",
-    help: "Sessions that ended by a fault.",
-};
-
-pub(crate) const REQUESTS: Metric = Metric {
-    kind: Kind::Counter,
-    name: "tkoproxy_requests_total",
-    help: "Requests that were read.",
-};
-
-pub(crate) const ATTEMPTS: Metric = Metric {
-    kind: Kind::Counter,
-    name: "tkoproxy_attempts_total",
-    help: "Requests that were sent to a server, key by key.",
-};
-
-pub(crate) const SKIPS: Metric = Metric {
-    kind: Kind::Counter,
-    name: "tkoproxy_skips_total",
-    help: "Targets that were passed over, since they were marked.",
-};
-
-pub(crate) const REPLIES: Metric = Metric {
-    kind: Kind::Counter,
-    name: "tkoproxy_replies_total",
-    help: "Attempts that a server answered.",
-};
-
-pub(crate) const NO_SERVER: Metric = Metric {
-    kind: Kind::Counter,
-    name: "tkoproxy_no_server_total",
-    help: "Routed requests that no server answered.",
-};
-
-pub(crate) const PROBES: Metric = Metric {
-    kind: Kind::Counter,
-    name: "tkoproxy_probes_total",
-    help: "Probes of marked servers.",
-};
-
-pub(crate) const SERVER_SENDS: Metric = Metric {
-    kind: Kind::Counter,
-    name: "tkoproxy_server_sends_total",
-    help: "Requests that were sent to the server.",
-};
-
-pub(crate) const SERVER_PROBES: Metric = Metric {
-    kind: Kind::Counter,
-    name: "tkoproxy_server_probes_total",
-    help: "Probes of the server.",
-};
-
-pub(crate) const SERVER_MARKED: Metric = Metric {
-    kind: Kind::Gauge,
-    name: "tkoproxy_server_marked",
-    help: "1 where the server has this mark, and is out of use, and else 0.",
-};
-
-pub(crate) const MARKED_SINCE: Metric = Metric {
-    kind: Kind::Gauge,
-    name: "tkoproxy_server_marked_timestamp_seconds",
-    help: "When a server that is marked was marked.",
-};
-
-pub(crate) const DESCRIPTORS: Metric = Metric {
-    kind: Kind::Gauge,
-    name: "process_open_fds",
-    help: "Open file descriptors.",
-};
-
-pub(crate) const DESCRIPTOR_LIMIT: Metric = Metric {
-    kind: Kind::Gauge,
-    name: "process_max_fds",
-    help: "How many file descriptors the process could have open at its start.",
-};
-
-pub(crate) const MEMORY: Metric = Metric {
-    kind: Kind::Gauge,
-    name: "process_resident_memory_bytes",
-    help: "Resident memory in bytes.",
-};
+    pub(crate) fn kind(self) -> Kind
+        ensures { result ≡ kind_of self }
+    {
+        match self {
+            Metric::Connected => Kind::Gauge,
+            Metric::Accepted => Kind::Counter,
+            Metric::Dropped => Kind::Counter,
+            Metric::Sessions => Kind::Counter,
+            Metric::Faults => Kind::Counter,
+            Metric::Requests => Kind::Counter,
+            Metric::Attempts => Kind::Counter,
+            Metric::Skips => Kind::Counter,
+            Metric::Replies => Kind::Counter,
+            Metric::NoServer => Kind::Counter,
+            Metric::Probes => Kind::Counter,
+            Metric::ServerSends => Kind::Counter,
+            Metric::ServerProbes => Kind::Counter,
+            Metric::ServerMarked => Kind::Gauge,
+            Metric::MarkedSince => Kind::Gauge,
+            Metric::Descriptors => Kind::Gauge,
+            Metric::DescriptorLimit => Kind::Gauge,
+            Metric::Memory => Kind::Gauge,
+        }
+    }
+}

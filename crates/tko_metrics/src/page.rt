@@ -1,10 +1,13 @@
 //! The page of a server's metrics.
+ghost use Rattle.std.specs.Prelude.{◌≡◌, ◌++◌, IfOk, OnOk};
+ghost use Rattle.tko_metrics.specs.Pages.{clients_text, counts_text, faults_text, hard_flag, known_text, marks_of, marks_text, moment_of, moments_text, page_text, probes_in_all, probes_text, process_text, requests_text, sends_text, servers_text, soft_flag};
 
-use crate::metrics;
-use crate::reading::{ServerReading, Sums, probes_of};
-use crate::sample::{Metric, Text};
-use crate::worker_meter::Marking;
-use std::alloc::{AllocError, Global};
+use crate::metrics::Metric;
+use crate::reading::{Shown, Sums};
+use crate::sample::{add_of_kind, add_of_mark, add_of_moment, add_of_server, add_single, begin};
+use crate::worker_meter::{Ending, Marking};
+use std::alloc::Global;
+use tko_bytes::NoMemory;
 
 /// What a page shows.
 #[derive(Drop)]
@@ -13,9 +16,7 @@ pub(crate) struct Page<'a> {
     pub(crate) accepted: u64,
     pub(crate) dropped: u64,
     pub(crate) sums: Sums,
-    /// The servers' addresses, as a label has them.
-    pub(crate) names: &'a [String],
-    pub(crate) servers: Vec<ServerReading>,
+    pub(crate) servers: Vec<Shown<'a>>,
     pub(crate) descriptors: Option<u64>,
     pub(crate) descriptor_limit: Option<u64>,
     pub(crate) memory: Option<u64>,
@@ -23,88 +24,204 @@ pub(crate) struct Page<'a> {
 
 impl Page<'_> {
     /// Its text.
-    pub(crate) fn text(&self, alloc: Global) -> Result<Text, AllocError> {
-        let mut text = Text::new(alloc);
-        self.add_clients(&mut text)?;
-        self.add_faults(&mut text)?;
-        self.add_requests(&mut text)?;
-        self.add_sends(&mut text)?;
-        self.add_probes(&mut text)?;
-        self.add_marks(&mut text)?;
-        self.add_moments(&mut text)?;
-        add_known(&mut text, metrics::DESCRIPTORS, self.descriptors)?;
-        add_known(&mut text, metrics::DESCRIPTOR_LIMIT, self.descriptor_limit)?;
-        add_known(&mut text, metrics::MEMORY, self.memory)?;
-        Ok(text)
+    pub(crate) fn text(&self, alloc: Global) -> Result<Vec<u8>, NoMemory>
+        ensures { IfOk result (λ text. text.items ≡ page_text self.now) }
+    {
+        let mut out = Vec::new(alloc);
+        self.add_counts(&mut out)?;
+        self.add_servers(&mut out)?;
+        self.add_process(&mut out)?;
+        Ok(out)
     }
 
-    fn add_clients(&self, text: &mut Text) -> Result<(), AllocError> {
-        text.single(metrics::CONNECTED, self.connected)?;
-        text.single(metrics::ACCEPTED, self.accepted)?;
-        text.single(metrics::DROPPED, self.dropped)?;
-        text.single(metrics::SESSIONS, self.sums.sessions)
+    #[tactic(auto, unfolding(crate::specs::Pages::counts_text))]
+    fn add_counts(&self, out: &mut Vec<u8>) -> Result<(), NoMemory>
+        ensures { OnOk result (out.new.items ≡ out.old.items ++ counts_text self.now) }
+    {
+        self.add_clients(out)?;
+        add_faults(out, self.sums)?;
+        add_requests(out, self.sums)?;
+        add_single(out, Metric::Probes, probes_in_all(&self.servers))
     }
 
-    fn add_faults(&self, text: &mut Text) -> Result<(), AllocError> {
-        let name = metrics::FAULTS.name;
-        text.begin(metrics::FAULTS)?;
-        text.sample(name, "{kind=\"read\"}", self.sums.read_faults)?;
-        text.sample(name, "{kind=\"write\"}", self.sums.write_faults)?;
-        text.sample(name, "{kind=\"line_too_long\"}", self.sums.line_faults)?;
-        text.sample(name, "{kind=\"memory\"}", self.sums.memory_faults)
+    #[tactic(auto, unfolding(crate::specs::Pages::clients_text))]
+    fn add_clients(&self, out: &mut Vec<u8>) -> Result<(), NoMemory>
+        ensures { OnOk result (out.new.items ≡ out.old.items ++ clients_text self.now) }
+    {
+        add_single(out, Metric::Connected, self.connected)?;
+        add_single(out, Metric::Accepted, self.accepted)?;
+        add_single(out, Metric::Dropped, self.dropped)?;
+        add_single(out, Metric::Sessions, self.sums.sessions)
     }
 
-    fn add_requests(&self, text: &mut Text) -> Result<(), AllocError> {
-        text.single(metrics::REQUESTS, self.sums.requests)?;
-        text.single(metrics::ATTEMPTS, self.sums.attempts)?;
-        text.single(metrics::SKIPS, self.sums.skips)?;
-        text.single(metrics::REPLIES, self.sums.replies)?;
-        text.single(metrics::NO_SERVER, self.sums.no_server)?;
-        text.single(metrics::PROBES, probes_of(&self.servers))
+    #[tactic(auto, unfolding(crate::specs::Pages::servers_text))]
+    fn add_servers(&self, out: &mut Vec<u8>) -> Result<(), NoMemory>
+        ensures { OnOk result (out.new.items ≡ out.old.items ++ servers_text self.now) }
+    {
+        add_sends(out, &self.servers)?;
+        add_probes(out, &self.servers)?;
+        add_marks(out, &self.servers)?;
+        add_moments(out, &self.servers)
     }
 
-    fn add_sends(&self, text: &mut Text) -> Result<(), AllocError> {
-        text.begin(metrics::SERVER_SENDS)?;
-        for (name, server) in self.names.iter().zip(self.servers.iter()) {
-            text.of_server(metrics::SERVER_SENDS.name, name.as_str(), server.sends)?;
-        }
-        Ok(())
-    }
-
-    fn add_probes(&self, text: &mut Text) -> Result<(), AllocError> {
-        text.begin(metrics::SERVER_PROBES)?;
-        for (name, server) in self.names.iter().zip(self.servers.iter()) {
-            text.of_server(metrics::SERVER_PROBES.name, name.as_str(), server.probes)?;
-        }
-        Ok(())
-    }
-
-    fn add_marks(&self, text: &mut Text) -> Result<(), AllocError> {
-        text.begin(metrics::SERVER_MARKED)?;
-        for (name, server) in self.names.iter().zip(self.servers.iter()) {
-            let soft = u64::from(server.mark == Marking::Soft);
-            let hard = u64::from(server.mark == Marking::Hard);
-            text.of_mark(metrics::SERVER_MARKED.name, name.as_str(), "soft", soft)?;
-            text.of_mark(metrics::SERVER_MARKED.name, name.as_str(), "hard", hard)?;
-        }
-        Ok(())
-    }
-
-    fn add_moments(&self, text: &mut Text) -> Result<(), AllocError> {
-        text.begin(metrics::MARKED_SINCE)?;
-        for (name, server) in self.names.iter().zip(self.servers.iter()) {
-            if server.mark != Marking::Up {
-                text.of_moment(metrics::MARKED_SINCE.name, name.as_str(), server.since)?;
-            }
-        }
-        Ok(())
+    #[tactic(auto, unfolding(crate::specs::Pages::process_text))]
+    fn add_process(&self, out: &mut Vec<u8>) -> Result<(), NoMemory>
+        ensures { OnOk result (out.new.items ≡ out.old.items ++ process_text self.now) }
+    {
+        add_known(out, Metric::Descriptors, self.descriptors)?;
+        add_known(out, Metric::DescriptorLimit, self.descriptor_limit)?;
+        add_known(out, Metric::Memory, self.memory)
     }
 }
 
-/// Adds a metric whose number the system may not tell.
-fn add_known(text: &mut Text, metric: Metric, number: Option<u64>) -> Result<(), AllocError> {
+#[tactic(auto, unfolding(crate::specs::Pages::faults_text))]
+fn add_faults(out: &mut Vec<u8>, sums: Sums) -> Result<(), NoMemory>
+    ensures { OnOk result (out.new.items ≡ out.old.items ++ faults_text sums) }
+{
+    begin(out, Metric::Faults)?;
+    add_of_kind(out, Metric::Faults, Ending::Read, sums.read_faults)?;
+    add_of_kind(out, Metric::Faults, Ending::Write, sums.write_faults)?;
+    add_of_kind(out, Metric::Faults, Ending::LineTooLong, sums.line_faults)?;
+    add_of_kind(out, Metric::Faults, Ending::Memory, sums.memory_faults)
+}
+
+#[tactic(auto, unfolding(crate::specs::Pages::requests_text))]
+fn add_requests(out: &mut Vec<u8>, sums: Sums) -> Result<(), NoMemory>
+    ensures { OnOk result (out.new.items ≡ out.old.items ++ requests_text sums) }
+{
+    add_single(out, Metric::Requests, sums.requests)?;
+    add_single(out, Metric::Attempts, sums.attempts)?;
+    add_single(out, Metric::Skips, sums.skips)?;
+    add_single(out, Metric::Replies, sums.replies)?;
+    add_single(out, Metric::NoServer, sums.no_server)
+}
+
+/// The probes of all servers.
+fn probes_in_all(servers: &[Shown<'_>]) -> u64
+    ensures { result ≡ probes_in_all servers.now }
+{
+    let mut probes = 0u64;
+    for server in servers {
+        probes = probes.saturating_add(server.reading.probes);
+    }
+    probes
+}
+
+#[tactic(auto, unfolding(crate::specs::Pages::sends_text))]
+fn add_sends(out: &mut Vec<u8>, servers: &[Shown<'_>]) -> Result<(), NoMemory>
+    ensures { OnOk result (out.new.items ≡ out.old.items ++ sends_text servers.now) }
+{
+    begin(out, Metric::ServerSends)?;
+    for server in servers {
+        add_of_server(
+            out,
+            Metric::ServerSends,
+            server.address,
+            server.reading.sends,
+        )?;
+    }
+    Ok(())
+}
+
+#[tactic(auto, unfolding(crate::specs::Pages::probes_text))]
+fn add_probes(out: &mut Vec<u8>, servers: &[Shown<'_>]) -> Result<(), NoMemory>
+    ensures { OnOk result (out.new.items ≡ out.old.items ++ probes_text servers.now) }
+{
+    begin(out, Metric::ServerProbes)?;
+    for server in servers {
+        add_of_server(
+            out,
+            Metric::ServerProbes,
+            server.address,
+            server.reading.probes,
+        )?;
+    }
+    Ok(())
+}
+
+#[tactic(auto, unfolding(crate::specs::Pages::marks_text))]
+fn add_marks(out: &mut Vec<u8>, servers: &[Shown<'_>]) -> Result<(), NoMemory>
+    ensures { OnOk result (out.new.items ≡ out.old.items ++ marks_text servers.now) }
+{
+    begin(out, Metric::ServerMarked)?;
+    for server in servers {
+        add_marks_of(out, *server)?;
+    }
+    Ok(())
+}
+
+/// Appends whether a server has each of the two marks.
+#[tactic(auto, unfolding(crate::specs::Pages::marks_of))]
+fn add_marks_of(out: &mut Vec<u8>, server: Shown<'_>) -> Result<(), NoMemory>
+    ensures { OnOk result (out.new.items ≡ out.old.items ++ marks_of server.entry) }
+{
+    let Shown { address, reading } = server;
+    add_of_mark(
+        out,
+        Metric::ServerMarked,
+        address,
+        b"soft",
+        soft_flag(reading.mark),
+    )?;
+    add_of_mark(
+        out,
+        Metric::ServerMarked,
+        address,
+        b"hard",
+        hard_flag(reading.mark),
+    )
+}
+
+/// 1 where the mark is soft.
+fn soft_flag(mark: Marking) -> u64
+    ensures { result ≡ soft_flag mark }
+{
+    match mark {
+        Marking::Soft => 1,
+        Marking::Up | Marking::Hard => 0,
+    }
+}
+
+/// 1 where the mark is hard.
+fn hard_flag(mark: Marking) -> u64
+    ensures { result ≡ hard_flag mark }
+{
+    match mark {
+        Marking::Hard => 1,
+        Marking::Up | Marking::Soft => 0,
+    }
+}
+
+#[tactic(auto, unfolding(crate::specs::Pages::moments_text))]
+fn add_moments(out: &mut Vec<u8>, servers: &[Shown<'_>]) -> Result<(), NoMemory>
+    ensures { OnOk result (out.new.items ≡ out.old.items ++ moments_text servers.now) }
+{
+    begin(out, Metric::MarkedSince)?;
+    for server in servers {
+        add_moment_of(out, *server)?;
+    }
+    Ok(())
+}
+
+/// Appends since when a server is marked, if it is.
+fn add_moment_of(out: &mut Vec<u8>, server: Shown<'_>) -> Result<(), NoMemory>
+    ensures { OnOk result (out.new.items ≡ out.old.items ++ moment_of server.entry) }
+{
+    let Shown { address, reading } = server;
+    match reading.mark {
+        Marking::Up => Ok(()),
+        Marking::Soft | Marking::Hard => {
+            add_of_moment(out, Metric::MarkedSince, address, reading.since)
+        }
+    }
+}
+
+/// Appends a metric whose number the system may not tell.
+fn add_known(out: &mut Vec<u8>, metric: Metric, number: Option<u64>) -> Result<(), NoMemory>
+    ensures { OnOk result (out.new.items ≡ out.old.items ++ known_text metric number) }
+{
     match number {
-        Some(number) => text.single(metric, number),
+        Some(number) => add_single(out, metric, number),
         None => Ok(()),
     }
 }

@@ -1,5 +1,5 @@
 //! What a meter says at a moment.
-ghost use Rattle.std.specs.Prelude.{◌≡◌, ◌^◌, ◌-◌, find, min, sum_by};
+ghost use Rattle.std.specs.Prelude.{◌≡◌, ◌^◌, ◌-◌, IfOk, find, map, min, string_bytes, sum_by};
 ghost use Rattle.tko_metrics.specs.Readings.{is_marked, together};
 
 use crate::meter::Shared;
@@ -30,6 +30,34 @@ pub(crate) struct ServerReading {
     pub(crate) mark: Marking,
     /// When the mark was set, in milliseconds since 1970.
     pub(crate) since: u64,
+}
+
+/// A server of a page: its address, and what the workers counted of it.
+#[derive(Clone, Copy, Debug)]
+pub(crate) struct Shown<'a> {
+    pub(crate) address: &'a str,
+    pub(crate) reading: ServerReading,
+}
+
+impl Shown<'_> {
+    /// What the workers counted of the servers of these addresses.
+    pub(crate) fn all<'a>(
+        alloc: Global,
+        shared: &Shared,
+        addresses: &'a [String],
+    ) -> Result<Vec<Shown<'a>>, AllocError>
+        ensures { IfOk result (λ servers.
+            map (λ server. server.address.now) servers.items ≡ map string_bytes addresses.now) }
+    {
+        let mut servers = Vec::new(alloc);
+        for (place, address) in addresses.iter().enumerate() {
+            let parts = ServerReading::of_workers(alloc, shared, place)?;
+            let reading = ServerReading::together(&parts);
+            let address = address.as_str();
+            servers.push(Shown { address, reading })?;
+        }
+        Ok(servers)
+    }
 }
 
 impl Sums {
@@ -74,20 +102,6 @@ impl Sums {
 }
 
 impl ServerReading {
-    /// What the workers counted of each of so many servers.
-    pub(crate) fn of_all(
-        alloc: Global,
-        shared: &Shared,
-        servers: usize,
-    ) -> Result<Vec<ServerReading>, AllocError> {
-        let mut readings = Vec::new(alloc);
-        for server in 0..servers {
-            let parts = ServerReading::of_workers(alloc, shared, server)?;
-            readings.push(ServerReading::together(&parts))?;
-        }
-        Ok(readings)
-    }
-
     /// What each worker counted of a server.
     fn of_workers(
         alloc: Global,
@@ -145,7 +159,7 @@ fn sends_of(parts: &[ServerReading]) -> u64
 }
 
 /// The probes of all.
-pub(crate) fn probes_of(parts: &[ServerReading]) -> u64
+fn probes_of(parts: &[ServerReading]) -> u64
     ensures { result ≡ min (sum_by (λ part. part.probes) parts.now) (2 ^ 64 - 1) }
 {
     let mut probes = 0u64;

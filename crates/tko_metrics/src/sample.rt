@@ -1,121 +1,149 @@
 //! The text format of Prometheus.
+ghost use Rattle.std.specs.Prelude.{◌≡◌, ◌++◌, OnOk, decimal};
+ghost use Rattle.tko_metrics.specs.Samples.{escaped_byte, head_of, kind_sample, mark_sample, moment_sample, sample_front, seconds_text, server_sample, single};
 
-use std::alloc::{AllocError, Global};
+use crate::metrics::Metric;
+use crate::worker_meter::Ending;
+use itoa::Buffer;
+use tko_bytes::{NoMemory, append};
 
-/// What kind of number a metric is.
-#[derive(Clone, Copy, Debug, PartialEq, Eq)]
-pub(crate) enum Kind {
-    Counter,
-    Gauge,
+/// Appends the lines before a metric's samples.
+#[tactic(auto, unfolding(crate::specs::Samples::head_of))]
+pub(crate) fn begin(out: &mut Vec<u8>, metric: Metric) -> Result<(), NoMemory>
+    ensures { OnOk result (out.new.items ≡ out.old.items ++ head_of metric) }
+{
+    let (name, kind) = (metric.name().as_bytes(), metric.kind().word());
+    append(
+        out,
+        &[b"# HELP ", name, b" ", metric.help().as_bytes(), b"\n"],
+    )?;
+    append(out, &[b"# TYPE ", name, b" ", kind.as_bytes(), b"\n"])
 }
 
-/// The name of a metric, and what it tells.
-#[derive(Clone, Copy, Debug)]
-pub(crate) struct Metric {
-    pub(crate) kind: Kind,
-    pub(crate) name: &'static str,
-    pub(crate) help: &'static str,
+/// Appends a metric of one sample.
+#[tactic(auto, unfolding(crate::specs::Samples::single))]
+pub(crate) fn add_single(out: &mut Vec<u8>, metric: Metric, number: u64) -> Result<(), NoMemory>
+    ensures { OnOk result (out.new.items ≡ out.old.items ++ single metric number) }
+{
+    let mut digits = Buffer::new();
+    begin(out, metric)?;
+    append(out, &[metric.name().as_bytes(), b" "])?;
+    append(out, &[digits.format(number).as_bytes(), b"\n"])
 }
 
-/// A text of metrics, one after another.
-#[derive(Drop)]
-pub(crate) struct Text {
-    alloc: Global,
-    text: String,
+/// Appends a sample of the sessions that ended by a kind of fault.
+#[tactic(auto, unfolding(crate::specs::Samples::kind_sample))]
+pub(crate) fn add_of_kind(
+    out: &mut Vec<u8>,
+    metric: Metric,
+    ending: Ending,
+    number: u64,
+) -> Result<(), NoMemory>
+    ensures { OnOk result (out.new.items ≡ out.old.items ++ kind_sample metric ending number) }
+{
+    let mut digits = Buffer::new();
+    append(
+        out,
+        &[
+            metric.name().as_bytes(),
+            b"{kind=\"",
+            ending.word().as_bytes(),
+            b"\"} ",
+        ],
+    )?;
+    append(out, &[digits.format(number).as_bytes(), b"\n"])
 }
 
-impl Kind {
-    fn word(self) -> &'static str {
-        match self {
-            Kind::Counter => "counter",
-            Kind::Gauge => "gauge",
-        }
-    }
+/// Appends a sample of a server.
+#[tactic(auto, unfolding(crate::specs::Samples::server_sample))]
+pub(crate) fn add_of_server(
+    out: &mut Vec<u8>,
+    metric: Metric,
+    address: &str,
+    number: u64,
+) -> Result<(), NoMemory>
+    ensures { OnOk result
+        (out.new.items ≡ out.old.items ++ server_sample metric address.now number) }
+{
+    let mut digits = Buffer::new();
+    begin_sample(out, metric, address)?;
+    append(out, &[b"} ", digits.format(number).as_bytes(), b"\n"])
 }
 
-impl Text {
-    pub(crate) fn new(alloc: Global) -> Text {
-        Text {
-            alloc,
-            text: String::new(alloc),
-        }
-    }
-
-    /// The lines before a metric's samples.
-    pub(crate) fn begin(&mut self, metric: Metric) -> Result<(), AllocError> {
-        let (name, help, kind) = (metric.name, metric.help, metric.kind.word());
-        let lines = format!(in self.alloc; "# HELP {name} {help}\n# TYPE {name} {kind}\n")?;
-        self.text.push_str(lines.as_str())
-    }
-
-    /// A sample of the metric of this name. Its labels are given as they are written.
-    pub(crate) fn sample(
-        &mut self,
-        name: &str,
-        labels: &str,
-        number: u64,
-    ) -> Result<(), AllocError> {
-        let line = format!(in self.alloc; "{name}{labels} {number}\n")?;
-        self.text.push_str(line.as_str())
-    }
-
-    /// A metric of one sample.
-    pub(crate) fn single(&mut self, metric: Metric, number: u64) -> Result<(), AllocError> {
-        self.begin(metric)?;
-        self.sample(metric.name, "", number)
-    }
-
-    /// A sample of a server.
-    pub(crate) fn of_server(
-        &mut self,
-        name: &str,
-        server: &str,
-        number: u64,
-    ) -> Result<(), AllocError> {
-        let line = format!(in self.alloc; "{name}{{server=\"{server}\"}} {number}\n")?;
-        self.text.push_str(line.as_str())
-    }
-
-    /// A sample of a server and a mark.
-    pub(crate) fn of_mark(
-        &mut self,
-        name: &str,
-        server: &str,
-        mark: &str,
-        number: u64,
-    ) -> Result<(), AllocError> {
-        let line = format!(in self.alloc;
-            "{name}{{server=\"{server}\",mark=\"{mark}\"}} {number}\n"
-        )?;
-        self.text.push_str(line.as_str())
-    }
-
-    /// A sample of a server that is a moment, in milliseconds since 1970; it is written in seconds.
-    pub(crate) fn of_moment(
-        &mut self,
-        name: &str,
-        server: &str,
-        moment: u64,
-    ) -> Result<(), AllocError> {
-        let (seconds, rest) = (moment / 1000, moment % 1000);
-        let line = format!(in self.alloc; "{name}{{server=\"{server}\"}} {seconds}.{rest:03}\n")?;
-        self.text.push_str(line.as_str())
-    }
-
-    pub(crate) fn as_bytes(&self) -> &[u8] {
-        self.text.as_bytes()
-    }
+/// Appends a sample of a server and a mark.
+#[tactic(auto, unfolding(crate::specs::Samples::mark_sample))]
+pub(crate) fn add_of_mark(
+    out: &mut Vec<u8>,
+    metric: Metric,
+    address: &str,
+    mark: &[u8],
+    number: u64,
+) -> Result<(), NoMemory>
+    ensures { OnOk result
+        (out.new.items ≡ out.old.items ++ mark_sample metric address.now mark.now number) }
+{
+    let mut digits = Buffer::new();
+    begin_sample(out, metric, address)?;
+    append(out, &[b",mark=\"", mark, b"\"} "])?;
+    append(out, &[digits.format(number).as_bytes(), b"\n"])
 }
 
-/// A value between the quotes of a label: a quote and a backslash have a backslash before them. No
-/// address has an LF.
-pub(crate) fn escaped(alloc: Global, value: &str) -> Result<String, AllocError> {
-    let mut text = String::new(alloc);
-    for letter in value.chars() {
-        if letter == '"' || letter == '\\' {
-            text.push('\\')?;
-        }
-        text.push(letter)?;
+/// Appends a sample of a server that is a moment, in milliseconds since 1970; it is written in
+/// seconds.
+#[tactic(auto, unfolding(crate::specs::Samples::moment_sample))]
+pub(crate) fn add_of_moment(
+    out: &mut Vec<u8>,
+    metric: Metric,
+    address: &str,
+    moment: u64,
+) -> Result<(), NoMemory>
+    ensures { OnOk result
+        (out.new.items ≡ out.old.items ++ moment_sample metric address.now moment) }
+{
+    begin_sample(out, metric, address)?;
+    append(out, &[b"} "])?;
+    add_seconds(out, moment)?;
+    append(out, &[b"\n"])
+}
+
+/// Appends milliseconds as seconds with three digits behind the point.
+#[tactic(auto, unfolding(crate::specs::Samples::seconds_text))]
+fn add_seconds(out: &mut Vec<u8>, moment: u64) -> Result<(), NoMemory>
+    ensures { OnOk result (out.new.items ≡ out.old.items ++ seconds_text moment) }
+{
+    add_digits(out, moment / 1000)?;
+    append(out, &[b"."])?;
+    add_digits(out, moment / 100 % 10)?;
+    add_digits(out, moment / 10 % 10)?;
+    add_digits(out, moment % 10)
+}
+
+fn add_digits(out: &mut Vec<u8>, number: u64) -> Result<(), NoMemory>
+    ensures { OnOk result (out.new.items ≡ out.old.items ++ decimal number) }
+{
+    let mut digits = Buffer::new();
+    append(out, &[digits.format(number).as_bytes()])
+}
+
+/// Appends a sample of a server up to the end of its address.
+#[tactic(auto, unfolding(crate::specs::Samples::sample_front))]
+fn begin_sample(out: &mut Vec<u8>, metric: Metric, address: &str) -> Result<(), NoMemory>
+    ensures { OnOk result
+        (out.new.items ≡ out.old.items ++ sample_front metric address.now) }
+{
+    append(out, &[metric.name().as_bytes(), b"{server=\""])?;
+    for byte in address.as_bytes() {
+        add_escaped(out, *byte)?;
     }
-    Ok(text)
+    append(out, &[b"\""])
+}
+
+/// Appends a byte of a value that stands between the quotes of a label. No address has an LF.
+fn add_escaped(out: &mut Vec<u8>, byte: u8) -> Result<(), NoMemory>
+    ensures { OnOk result (out.new.items ≡ out.old.items ++ escaped_byte byte) }
+{
+    if byte == b'"' || byte == b'\\' {
+        append(out, &[b"\\"])?;
+    }
+    append(out, &[&[byte]])
 }

@@ -1,6 +1,7 @@
 //! The numbers of one worker.
 ghost use Rattle.std.specs.Prelude.{◌≡◌};
 ghost use Rattle.tko_metrics.specs.Marks.{is_mark, number_of, since_after};
+ghost use Rattle.tko_metrics.specs.Metrics.{ending_word};
 
 use crate::counter::Counter;
 use crate::reading::ServerReading;
@@ -26,6 +27,21 @@ pub enum Ending {
     Write,
     LineTooLong,
     Memory,
+}
+
+impl Ending {
+    /// The word of the fault, `none` where there is none.
+    pub(crate) fn word(self) -> &'static str
+        ensures { result.now ≡ ending_word self }
+    {
+        match self {
+            Ending::Done => "none",
+            Ending::Read => "read",
+            Ending::Write => "write",
+            Ending::LineTooLong => "line_too_long",
+            Ending::Memory => "memory",
+        }
+    }
 }
 
 /// The mark that a worker has on a server.

@@ -13,8 +13,9 @@ use std::net::TcpListener;
 use std::thread;
 use std::thread::Threads;
 use tko_io::IoRuntime;
-use tko_metrics::{Meter, Process, Scrapes};
+use tko_metrics::{Meter, Process};
 use tko_model::SettingsFault;
+use tko_scrapes::Scrapes;
 
 /// Metrics that are to be answered for: the numbers, and the thread's part.
 #[derive(Drop)]

@@ -2,14 +2,12 @@
 
 use crate::guest::Guest;
 use crate::guests::Guests;
-use crate::meter::{Meter, Shared};
 use crate::pages::Pages;
-use crate::process::Process;
-use crate::sample::escaped;
 use std::alloc::{AllocError, Global};
 use std::net::TcpListener;
 use std::sync::Wait;
 use std::time::{Clock, Instant};
+use tko_metrics::{Meter, Process};
 
 /// How many milliseconds it waits where no client came and none moved anything.
 const PAUSE: u64 = 50;
@@ -20,7 +18,7 @@ pub struct Scrapes {
     listener: TcpListener,
     meter: Meter,
     process: Process,
-    names: Vec<String>,
+    addresses: Vec<String>,
 }
 
 impl Scrapes {
@@ -32,15 +30,15 @@ impl Scrapes {
         addresses: &[String],
         process: Process,
     ) -> Result<Scrapes, AllocError> {
-        let mut names = Vec::new(alloc);
+        let mut copies = Vec::new(alloc);
         for address in addresses {
-            names.push(escaped(alloc, address.as_str())?)?;
+            copies.push(String::from_str(alloc, address.as_str())?)?;
         }
         Ok(Scrapes {
             listener,
             meter,
             process,
-            names,
+            addresses: copies,
         })
     }
 
@@ -52,40 +50,31 @@ impl Scrapes {
     /// Answers until the meter ends. A client for which there is no memory, or that takes too long,
     /// is closed.
     pub fn answer_all<R: Wait + Clock>(&self, rt: &R, alloc: Global) {
-        let Some(shared) = self.meter.shared() else {
-            return;
-        };
         if self.listener.set_nonblocking(true).is_err() {
             return;
         }
         let mut guests = Guests::new(alloc);
         for _ in rt.forever() {
-            if shared.has_ended() {
+            if self.meter.has_ended() {
                 return;
             }
-            if !self.serve_once(rt, alloc, shared, &mut guests) {
-                shared.wait(rt, PAUSE);
+            if !self.serve_once(rt, alloc, &mut guests) {
+                self.meter.wait(rt, PAUSE);
             }
         }
     }
 
     /// Takes in one client, if one waits, and gives each a turn. Returns whether there may be more
     /// to do at once.
-    fn serve_once<R: Clock>(
-        &self,
-        rt: &R,
-        alloc: Global,
-        shared: &Shared,
-        guests: &mut Guests,
-    ) -> bool {
+    fn serve_once<R: Clock>(&self, rt: &R, alloc: Global, guests: &mut Guests) -> bool {
         let Ok(now) = Instant::now(rt) else {
             return false;
         };
         let has_come = self.take_in(alloc, guests, now);
         let mut pages = Pages {
             alloc,
-            shared,
-            names: &self.names,
+            meter: &self.meter,
+            addresses: &self.addresses,
             process: &self.process,
         };
         guests.turn_all(&mut pages, now) || has_come

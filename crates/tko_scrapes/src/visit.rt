@@ -3,8 +3,8 @@ ghost use Rattle.std.specs.Prelude.{◌≡◌, ◌↔◌, ℕ, List, ◌++◌, A
 ghost use Rattle.std.specs.Io.KnownBytes.{Appends, Consumes};
 ghost use Rattle.http_server.specs.Connection.{config_of, history};
 ghost use Rattle.http_server.specs.History.{IsDone, Rests, new_history};
-ghost use Rattle.tko_metrics.specs.Pages.{IsAnswered};
-ghost use Rattle.tko_metrics.specs.Visits.{limits};
+ghost use Rattle.tko_scrapes.specs.Pages.{IsAnswered};
+ghost use Rattle.tko_scrapes.specs.Visits.{limits};
 
 use crate::pages::Pages;
 use http_server::{Config, Connection};
@@ -18,6 +18,9 @@ use std::random::RandomSource;
 /// How many bytes the head of a request has at most. A longer one is refused.
 const HEAD: usize = 8192;
 
+/// How many bytes of an answer wait for a client at most.
+const PENDING: usize = 65536;
+
 /// What a client may send, and how much of an answer waits for it.
 const LIMITS: Config = Config {
     limits: Limits {
@@ -26,7 +29,7 @@ const LIMITS: Config = Config {
         max_trailers_len: HEAD,
     },
     max_body_len: 0,
-    max_pending: 65536,
+    max_pending: PENDING,
     read_size: HEAD,
 };
 

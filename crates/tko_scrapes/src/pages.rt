@@ -1,32 +1,30 @@
 //! What the metrics' own server answers.
-ghost use Rattle.std.specs.Prelude.{◌≡◌, ◌++◌, ◌∷◌, [], OnOk};
+ghost use Rattle.std.specs.Prelude.{◌≡◌, ◌++◌, ◌∷◌, [], OnOk, map, string_bytes};
 ghost use Rattle.http_server.specs.Response.{fields_of};
-ghost use Rattle.tko_metrics.specs.Pages.{allow_field, close_field, type_field};
+ghost use Rattle.tko_scrapes.specs.Pages.{HasPage, allow_field, close_field, type_field};
 
 use crate::answer::Answer;
-use crate::meter::Shared;
-use crate::page::Page;
-use crate::process::Process;
-use crate::reading::{ServerReading, Sums};
 use bytes::{BufMut, Bytes};
 use http::{HeaderValue, Request, header};
 use http_server::{Response, Service};
 use std::alloc::{AllocError, Global};
+use tko_metrics::{Meter, Process};
 
 /// Answers each request, and closes its connection.
 #[derive(Drop)]
 pub(crate) struct Pages<'a> {
     pub(crate) alloc: Global,
-    pub(crate) shared: &'a Shared,
-    /// The servers' addresses, as a label has them.
-    pub(crate) names: &'a [String],
+    pub(crate) meter: &'a Meter,
+    pub(crate) addresses: &'a [String],
     pub(crate) process: &'a Process,
 }
 
 impl Service for Pages<'_> {
-    ghost use Rattle.tko_metrics.specs.Pages.{Answers};
+    ghost use Rattle.std.specs.Prelude.{map, string_bytes};
+    ghost use Rattle.tko_scrapes.specs.Pages.{Shows};
 
-    ghost answers = { λ old request response new. Answers request response };
+    ghost answers = { λ old request response new.
+        Shows (map string_bytes old.addresses.now) request response };
 
     fn call(
         &mut self,
@@ -50,26 +48,14 @@ impl Pages<'_> {
         ensures fields { OnOk result (fields_of response.new
             ≡ fields_of response.old ++ type_field ∷ []) }
         ensures status { response.new.status ≡ response.old.status }
+        ensures body { OnOk result (HasPage (map string_bytes self.now.addresses.now)
+            response.old.body.items response.new.body.items) }
     {
         add_type(response)?;
-        let text = self.page()?.text(self.alloc)?;
-        response.body.put_slice(text.as_bytes())
-    }
-
-    /// What the metrics are at this moment.
-    fn page(&self) -> Result<Page<'_>, AllocError> {
-        let (alloc, shared) = (self.alloc, self.shared);
-        Ok(Page {
-            connected: shared.connected.get(),
-            accepted: shared.accepted.get(),
-            dropped: shared.dropped.get(),
-            sums: Sums::of(shared),
-            names: self.names,
-            servers: ServerReading::of_all(alloc, shared, self.names.len())?,
-            descriptors: self.process.descriptors(),
-            descriptor_limit: self.process.limit,
-            memory: self.process.memory(alloc),
-        })
+        let Ok(text) = self.meter.page(self.alloc, self.addresses, self.process) else {
+            return Err(AllocError);
+        };
+        response.body.put_slice(&text)
     }
 }
 

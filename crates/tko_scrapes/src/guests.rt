@@ -1,6 +1,6 @@
 //! The clients of the metrics that are connected.
 ghost use Rattle.std.specs.Prelude.{◌≡◌, ◌<◌, ◌≤◌, length};
-ghost use Rattle.tko_metrics.specs.declared.guests.TheConstants.{MOST};
+ghost use Rattle.tko_scrapes.specs.declared.guests.TheConstants.{MOST};
 
 use crate::guest::Guest;
 use crate::pages::Pages;

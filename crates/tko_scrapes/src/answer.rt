@@ -1,6 +1,6 @@
 //! Which answer a request gets.
 ghost use Rattle.std.specs.Prelude.{◌≡◌};
-ghost use Rattle.tko_metrics.specs.Pages.{answer_to, status_of};
+ghost use Rattle.tko_scrapes.specs.Pages.{answer_to, status_of};
 
 use http::{Method, StatusCode};
 

@@ -1,0 +1,83 @@
+-- The metrics: their names, what they tell, and what kind of number each is.
+use Rattle.std.specs.Prelude.{ℕ, List, codes}
+use Rattle.tko_metrics.specs.declared.metrics.Kind.{Kind}
+use Rattle.tko_metrics.specs.declared.metrics.Kind.TheVariants.{Counter, Gauge}
+use Rattle.tko_metrics.specs.declared.metrics.Metric.{Metric}
+use Rattle.tko_metrics.specs.declared.metrics.Metric.TheVariants as metric
+use Rattle.tko_metrics.specs.declared.worker_meter.Ending.{Ending}
+use Rattle.tko_metrics.specs.declared.worker_meter.Ending.TheVariants as ending
+
+abbrev pub kind_word : Kind → List ℕ
+kind_word Counter = codes "counter"
+kind_word Gauge = codes "gauge"
+
+-- the word of a kind of fault, by which a session ended
+abbrev pub ending_word : Ending → List ℕ
+ending_word ending.Done = codes "none"
+ending_word ending.Read = codes "read"
+ending_word ending.Write = codes "write"
+ending_word ending.LineTooLong = codes "line_too_long"
+ending_word ending.Memory = codes "memory"
+
+abbrev pub name_of : Metric → List ℕ
+name_of metric.Connected = codes "tkoproxy_clients_connected"
+name_of metric.Accepted = codes "tkoproxy_clients_total"
+name_of metric.Dropped = codes "tkoproxy_clients_dropped_total"
+name_of metric.Sessions = codes "tkoproxy_sessions_total"
+name_of metric.Faults = codes "tkoproxy_session_faults_total"
+name_of metric.Requests = codes "tkoproxy_requests_total"
+name_of metric.Attempts = codes "tkoproxy_attempts_total"
+name_of metric.Skips = codes "tkoproxy_skips_total"
+name_of metric.Replies = codes "tkoproxy_replies_total"
+name_of metric.NoServer = codes "tkoproxy_no_server_total"
+name_of metric.Probes = codes "tkoproxy_probes_total"
+name_of metric.ServerSends = codes "tkoproxy_server_sends_total"
+name_of metric.ServerProbes = codes "tkoproxy_server_probes_total"
+name_of metric.ServerMarked = codes "tkoproxy_server_marked"
+name_of metric.MarkedSince = codes "tkoproxy_server_marked_timestamp_seconds"
+name_of metric.Descriptors = codes "process_open_fds"
+name_of metric.DescriptorLimit = codes "process_max_fds"
+name_of metric.Memory = codes "process_resident_memory_bytes"
+
+abbrev pub help_of : Metric → List ℕ
+help_of metric.Connected = codes "Clients that are connected, served or waiting for a worker."
+help_of metric.Accepted = codes "Clients that were accepted and set up."
+help_of metric.Dropped =
+    codes "Connections that were closed as they were accepted: no memory, or a socket's fault."
+help_of metric.Sessions = codes "Sessions of clients that have ended."
+help_of metric.Faults = codes "Sessions that ended by a fault."
+help_of metric.Requests = codes "Requests that were read."
+help_of metric.Attempts = codes "Requests that were sent to a server, key by key."
+help_of metric.Skips = codes "Targets that were passed over, since they were marked."
+help_of metric.Replies = codes "Attempts that a server answered."
+help_of metric.NoServer = codes "Routed requests that no server answered."
+help_of metric.Probes = codes "Probes of marked servers."
+help_of metric.ServerSends = codes "Requests that were sent to the server."
+help_of metric.ServerProbes = codes "Probes of the server."
+help_of metric.ServerMarked =
+    codes "1 where the server has this mark, and is out of use, and else 0."
+help_of metric.MarkedSince = codes "When a server that is marked was marked."
+help_of metric.Descriptors = codes "Open file descriptors."
+help_of metric.DescriptorLimit =
+    codes "How many file descriptors the process could have open at its start."
+help_of metric.Memory = codes "Resident memory in bytes."
+
+abbrev pub kind_of : Metric → Kind
+kind_of metric.Connected = Gauge
+kind_of metric.Accepted = Counter
+kind_of metric.Dropped = Counter
+kind_of metric.Sessions = Counter
+kind_of metric.Faults = Counter
+kind_of metric.Requests = Counter
+kind_of metric.Attempts = Counter
+kind_of metric.Skips = Counter
+kind_of metric.Replies = Counter
+kind_of metric.NoServer = Counter
+kind_of metric.Probes = Counter
+kind_of metric.ServerSends = Counter
+kind_of metric.ServerProbes = Counter
+kind_of metric.ServerMarked = Gauge
+kind_of metric.MarkedSince = Gauge
+kind_of metric.Descriptors = Gauge
+kind_of metric.DescriptorLimit = Gauge
+kind_of metric.Memory = Gauge

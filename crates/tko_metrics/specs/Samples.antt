@@ -1,0 +1,54 @@
+-- The text format of Prometheus.
+use Rattle.std.specs.Prelude.{ℕ, ◌==◌, ◌||◌, ◌/◌, ◌%◌, if◌then◌else◌, List, [], ◌∷◌, ◌++◌, codes, decimal, flat_map}
+use Rattle.tko_metrics.specs.declared.metrics.Metric.{Metric}
+use Rattle.tko_metrics.specs.declared.worker_meter.Ending.{Ending}
+use Rattle.tko_metrics.specs.Metrics.{ending_word, help_of, kind_of, kind_word, name_of}
+
+-- the two lines before the samples of a metric
+unfoldable pub head_of : Metric → List ℕ
+head_of metric =
+    (codes "# HELP " ++ name_of metric ++ codes " " ++ help_of metric ++ codes "\n")
+    ++ (codes "# TYPE " ++ name_of metric ++ codes " " ++ kind_word (kind_of metric) ++ codes "\n")
+
+-- a metric of one sample
+unfoldable pub single : Metric → ℕ → List ℕ
+single metric number =
+    head_of metric ++ (name_of metric ++ codes " " ++ decimal number ++ codes "\n")
+
+-- a sample of the sessions that ended by a kind of fault
+unfoldable pub kind_sample : Metric → Ending → ℕ → List ℕ
+kind_sample metric ending number =
+    (name_of metric ++ codes "{kind=\"" ++ ending_word ending ++ codes "\"} ")
+    ++ (decimal number ++ codes "\n")
+
+-- a byte between the quotes of a label: a quote (34) and a backslash (92) have a backslash before
+-- them
+abbrev pub escaped_byte : ℕ → List ℕ
+escaped_byte byte = if byte == 34 || byte == 92 then 92 ∷ byte ∷ [] else byte ∷ []
+
+-- a sample of the server of this address, up to the end of the address
+unfoldable pub sample_front : Metric → List ℕ → List ℕ
+sample_front metric address =
+    (name_of metric ++ codes "{server=\"") ++ flat_map escaped_byte address ++ codes "\""
+
+-- a sample of a server
+unfoldable pub server_sample : Metric → List ℕ → ℕ → List ℕ
+server_sample metric address number =
+    sample_front metric address ++ codes "} " ++ decimal number ++ codes "\n"
+
+-- a sample of a server and a mark
+unfoldable pub mark_sample : Metric → List ℕ → List ℕ → ℕ → List ℕ
+mark_sample metric address mark number =
+    sample_front metric address ++ (codes ",mark=\"" ++ mark ++ codes "\"} ")
+    ++ (decimal number ++ codes "\n")
+
+-- milliseconds as seconds, with three digits behind the point
+unfoldable pub seconds_text : ℕ → List ℕ
+seconds_text moment =
+    decimal (moment / 1000) ++ codes "." ++ decimal (moment / 100 % 10)
+    ++ decimal (moment / 10 % 10) ++ decimal (moment % 10)
+
+-- a sample of a server that is a moment, in milliseconds
+unfoldable pub moment_sample : Metric → List ℕ → ℕ → List ℕ
+moment_sample metric address moment =
+    sample_front metric address ++ codes "} " ++ seconds_text moment ++ codes "\n"
