@@ -1,9 +1,10 @@
 -- The words and the numbers of a server's line.
-use Rattle.std.specs.Prelude.{ℕ, ◌+◌, ◌-◌, ◌^◌, min, List, Option, Some, None, codes, option_map, slice_get, slice_index_or, String, string_bytes, unwrap_or}
+use Rattle.std.specs.Prelude.{◌≡◌, ℕ, ◌+◌, ◌-◌, ◌^◌, min, List, Option, Some, None, codes, length, map, option_map, replicate, slice_get, slice_index_or, String, string_bytes, unwrap_or}
 use Rattle.tko_events.specs.declared.event.Cause.{Cause}
 use Rattle.tko_events.specs.declared.event.Cause.TheVariants as cause
 use Rattle.tko_events.specs.declared.event.Change.{Change}
 use Rattle.tko_events.specs.declared.event.Change.TheVariants as change
+use Rattle.tko_events.specs.declared.journal.Journal.{Journal}
 use Rattle.tko_events.specs.declared.journal.Known.{Known}
 use Rattle.tko_events.specs.declared.journal.Marked.{Marked}
 use Rattle.tko_events.specs.declared.journal.Marked.TheVariants as marked
@@ -35,9 +36,13 @@ mark_word marked.Hard = codes "hard"
 abbrev pub address_at : {A : Type 0} → List (String A) → ℕ → List ℕ
 address_at names server = unwrap_or (option_map string_bytes (slice_get names server)) (codes "?")
 
+-- a server of which no event has told
+abbrev pub never_marked : Known
+never_marked = record { mark = marked.Up; probes = 0 }
+
 -- what is known of a server; of one that there is not, that it is up
 abbrev pub known_at : List Known → ℕ → Known
-known_at servers server = slice_index_or servers server (record { mark = marked.Up; probes = 0 })
+known_at servers server = slice_index_or servers server never_marked
 
 -- what is known of a server after an event: its mark, and its probes since it was marked
 abbrev pub noted : Change → Known → Known
@@ -56,3 +61,13 @@ count_in failures change.Hardened known = known.probes
 count_in failures change.Unmarked known = known.probes
 count_in failures change.Released known = known.probes
 count_in failures change.Probed known = (noted change.Probed known).probes
+
+-- the journal of a program that listens here, over servers of these addresses, of which so many
+-- soft failures in a row mark one; no event has come yet
+pub record IsBegun (listen : List ℕ) (failures : ℕ) (addresses : List (List ℕ))
+    (journal : Journal) : Type 0
+  where
+    pub at : string_bytes journal.listen ≡ listen
+    pub marked_after : journal.failures ≡ failures
+    pub over : map string_bytes journal.names.items ≡ addresses
+    pub up : journal.servers.items ≡ replicate (length journal.names.items) never_marked

@@ -1,6 +1,6 @@
 //! The lines of the log.
-ghost use Rattle.std.specs.Prelude.{◌≡◌, ◌<◌, ◌+◌, ◌-◌, ◌^◌, length, min, slice_set};
-ghost use Rattle.tko_events.specs.Lines.{address_at, count_in, known_at, mark_word, noted};
+ghost use Rattle.std.specs.Prelude.{◌≡◌, ◌<◌, ◌+◌, ◌-◌, ◌^◌, IfOk, length, map, min, slice_set, string_bytes};
+ghost use Rattle.tko_events.specs.Lines.{IsBegun, address_at, count_in, known_at, mark_word, noted};
 
 use crate::event::{Cause, Change, Event, What};
 use crate::moment::Utc;
@@ -39,7 +39,10 @@ impl Journal {
         listen: String,
         failures: u32,
         names: Vec<String>,
-    ) -> Result<Journal, AllocError> {
+    ) -> Result<Journal, AllocError>
+        ensures { IfOk result
+            (IsBegun (string_bytes listen) failures (map string_bytes names.items)) }
+    {
         let up = Known {
             mark: Marked::Up,
             probes: 0,
