@@ -47,7 +47,7 @@ module _ {H L C : Type 0} {steps : H → HealthItem → H → Type 0} where
       (reply : Option Reply) (asked : AfterProbe) (slot : ProbeSlot) (health : H) (put : ProbersState)
       → own ≡ prober → asked ≡ asked_after probed → slot ≡ slot_after own moment probed
       → put ≡ with_slot old.probers server slot
-      → IsRecorded steps old.health (record { server = server; op = op_asked asked; reply = reply }) health
+      → IsRecorded steps old.health server (op_asked asked) reply health
       → IsResult steps moment old server prober probed reply (record old { health = health; probers = put })
   result_taken moment old server own prober probed reply asked slot health put is_own is_asked is_slot is_put recorded =
       let slots : slot ≡ slot_after prober moment probed =

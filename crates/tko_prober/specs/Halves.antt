@@ -33,7 +33,7 @@ module _ {H L C : Type 0} (steps : H → HealthItem → H → Type 0) where
   pub record IsResult (moment : ℕ) (old : Backend H L C) (server : ℕ) (prober : Prober)
       (probed : Probed) (reply : Option Reply) (new : Backend H L C) : Type 0 where
     pub recorded : IsRecorded steps old.health
-        (record { server = server; op = op_asked (asked_after probed); reply = reply }) new.health
+        server (op_asked (asked_after probed)) reply new.health
     pub others : new ≡ record old {
       health = new.health;
       probers = with_slot old.probers server (slot_after prober moment probed);

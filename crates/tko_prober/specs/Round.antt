@@ -74,7 +74,7 @@ module _ {H L C : Type 0} (ghosts : BackendGhosts H L C) where
         ≡ ghosts.probed old.links at + part_of (is_counted came) server at
     pub read : ghosts.reads old.clock later new.clock
     pub recorded : IsRecorded ghosts.steps old.health
-        (record { server = server; op = op_asked (asked_after (probed_of came)); reply = reply })
+        server (op_asked (asked_after (probed_of came))) reply
         new.health
     pub others : new ≡ record old {
       health = new.health;

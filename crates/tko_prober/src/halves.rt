@@ -98,7 +98,7 @@ fn record_asked<R: Wait, H: Health>(
 ) -> Option<Reply>
     requires { server < H.servers health.old }
     ensures recorded { IsRecorded H.steps health.old
-        (record { server = server; op = op_asked asked; reply = result }) health.new }
+        server (op_asked asked) result health.new }
     ensures servers { H.servers health.new ≡ H.servers health.old }
 {
     match asked {

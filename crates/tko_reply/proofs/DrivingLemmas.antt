@@ -6,14 +6,14 @@ use Rattle.tko_text.specs.declared.request.Request.{Request}
 use Rattle.tko_pools.specs.Configs.{Configuration, targets_of}
 use Rattle.tko_route.specs.Calls.{Call}
 use Rattle.tko_route.specs.Routing.{Reached, last_place}
-use Rattle.tko_route.specs.Trail.{IsTrail, Makes}
+use Rattle.tko_route.specs.Trail.{IsTrail, Makes, answer_of}
 use Rattle.tko_route.specs.declared.attempt.Attempt.{Attempt}
 use Rattle.tko_route.specs.declared.routing.Stage.{Stage}
 use Rattle.tko_route.specs.declared.routing.Stage.TheVariants as stage
 use Rattle.tko_reply.specs.Answers.{form_in}
-use Rattle.tko_reply.specs.Asking.{Ended, Goes, Settles}
+use Rattle.tko_reply.specs.Asking.{Goes, Replies, Settles}
 use Rattle.tko_reply.specs.Interactions.{Interaction, Made, Recorded}
-use Rattle.tko_reply.specs.Standing.{Asking, Standing, answer_state, asking}
+use Rattle.tko_reply.specs.Standing.{Asking}
 use Rattle.tko_reply.specs.TrailEvents as event
 use Rattle.tko_reply.specs.declared.asking.OneKey.{OneKey}
 use Rattle.tko_reply.proofs.JoiningLemmas.{past_ended}
@@ -30,16 +30,16 @@ rearranged was before calls more last are =
 
 module _ {config : Configuration} where
   -- the attempts at a key ended
-  ended : {request : Request} {outbox outbox' : List ℕ} {was : List Interaction} {key : List ℕ} {first : OneKey} (at : Standing) (outbox'' : List ℕ)
+  ended : {request : Request} {outbox outbox' : List ℕ} {was : List Interaction} {key : List ℕ} {first one : OneKey} (outbox'' : List ℕ)
       (targets : List ℕ) (trail : List Attempt) (calls : List Call) (place : ℕ)
       → IsAt config request outbox key first was outbox' → targets ≡ targets_of config key
       → IsTrail targets trail → Makes (form_in config first.request) calls trail
-      → Ended trail (record { request = form_in config first.request place; share = first.share }) outbox' (answer_state at outbox'')
-      → Stands config request outbox at targets (was ++ map Made calls) outbox''
-  ended {request} {outbox} {outbox'} {was} {key} {first} at outbox'' targets trail calls place it aims tried make ends =
-      let one : OneKey = record { request = form_in config first.request place; share = ends.share } in
+      → one.request ≡ form_in config first.request place → Replies first.share (answer_of trail) outbox' one.share outbox''
+      → IsTried config request outbox trail one (was ++ map Made calls) outbox''
+  ended {request} {outbox} {outbox'} {was} {key} {first} {one} outbox'' targets trail calls place it aims tried make same replies =
+      let one' : OneKey = record { request = form_in config first.request place; share = one.share } in
       let tried' = subst (λ ts. IsTrail ts trail) aims tried in
-      let is : IsTried config request outbox trail one (was ++ map Made calls) outbox'' = record {
+      let is : IsTried config request outbox trail one' (was ++ map Made calls) outbox'' = record {
         key = key;
         first = first;
         before = was;
@@ -50,53 +50,50 @@ module _ {config : Configuration} where
         make = make;
         are = refl;
         past =
-            subst (λ ds. IsPast config request outbox one ds outbox'') (sym (append_assoc was (map Made calls) (Recorded (event.Tried trail) ∷ [])))
-            (past_ended trail calls place it tried' make ends.replies);
+            subst (λ ds. IsPast config request outbox one' ds outbox'') (sym (append_assoc was (map Made calls) (Recorded (event.Tried trail) ∷ [])))
+            (past_ended trail calls place it tried' make replies);
       } in
-      subst (λ a. Stands config request outbox a targets (was ++ map Made calls) outbox'') (sym ends.at) is
+      subst (λ r. IsTried config request outbox trail (record { request = r; share = one.share }) (was ++ map Made calls) outbox'') (sym same) is
 
   -- where a routing came to a stage
   settled : {request : Request} {outbox outbox' : List ℕ} {was : List Interaction} {key : List ℕ} {first : OneKey} {targets : List ℕ}
-      (calls : List Call) (to : Stage) (at : Standing) (outbox'' : List ℕ)
+      (calls : List Call) (to : Stage) (one : OneKey) (outbox'' : List ℕ)
       → IsAt config request outbox key first was outbox' → targets ≡ targets_of config key
       → Reached targets (form_in config first.request) calls to
-      → Settles to (record { request = form_in config first.request (last_place to); share = first.share }) outbox' (answer_state at outbox'')
-      → Stands config request outbox at targets (was ++ map Made calls) outbox''
-  settled {request} {outbox} {outbox'} {was} {key} {first} {targets} calls (stage.Away clear waiting) at outbox'' it aims reached (is, same) =
-      let one : OneKey = record { request = form_in config first.request (length waiting.attempts); share = first.share } in
-      let sending : IsSending config request outbox clear (asking waiting one) targets (was ++ map Made calls) outbox'' = record {
-        key = key;
-        first = first;
-        before = was;
-        calls = calls;
-        at = subst (λ xs. IsAt config request outbox key first was xs) (sym same) it;
-        aims = aims;
-        reached = reached;
-        keeps = refl;
-        are = refl;
-      } in
-      subst (λ a. Stands config request outbox a targets (was ++ map Made calls) outbox'') (sym is) sending
-  settled {targets = targets} calls (stage.Done routed) at outbox'' it aims reached ends =
-      ended at outbox'' targets routed.trail calls (length routed.trail - 1) it aims reached.0 reached.1 ends
+      → Settles to (record { request = form_in config first.request (last_place to); share = first.share }) outbox' one outbox''
+      → Stands config request outbox to one targets (was ++ map Made calls) outbox''
+  settled {request} {outbox} {outbox'} {was} {key} {first} {targets} calls (stage.Away clear waiting) one outbox'' it aims reached (is, same) = record {
+    key = key;
+    first = first;
+    before = was;
+    calls = calls;
+    at = subst (λ xs. IsAt config request outbox key first was xs) (sym same) it;
+    aims = aims;
+    reached = reached;
+    keeps = is;
+    are = refl;
+  }
+  settled {targets = targets} calls (stage.Done trail) one outbox'' it aims reached (is, replies) =
+      ended outbox'' targets trail calls (length trail - 1) it aims reached.0 reached.1 is replies
 
   -- a key was begun
-  pub key_begun : {request : Request} {outbox outbox' : List ℕ} {was : List Interaction} {key : List ℕ} {one : OneKey} {targets : List ℕ} {at : Standing} {outbox'' : List ℕ} {calls : List Call}
-      → IsAt config request outbox key one was outbox' → targets ≡ targets_of config key
-      → Goes (record { targets = targets; form = form_in config one.request; share = one.share }) calls outbox' (answer_state at outbox'')
-      → Stands config request outbox at targets (was ++ map Made calls) outbox''
-  key_begun {at = at} {outbox'' = outbox''} {calls = calls} it aims goes = settled calls goes.stage at outbox'' it aims goes.reached goes.settles
+  pub key_begun : {request : Request} {outbox outbox' : List ℕ} {was : List Interaction} {key : List ℕ} {first : OneKey} {targets : List ℕ} {to : Stage} {one : OneKey} {outbox'' : List ℕ} {calls : List Call}
+      → IsAt config request outbox key first was outbox' → targets ≡ targets_of config key
+      → Goes (record { targets = targets; form = form_in config first.request; share = first.share }) calls outbox' to one outbox''
+      → Stands config request outbox to one targets (was ++ map Made calls) outbox''
+  key_begun {to = to} {one = one} {outbox'' = outbox''} {calls = calls} it aims goes = settled calls to one outbox'' it aims goes.reached goes.settles
 
   -- what came of a send was recorded
-  pub key_gone : {request : Request} {outbox outbox' : List ℕ} {was : List Interaction} {clear : ℕ} {it : Asking} {targets : List ℕ} {at : Standing} {outbox'' : List ℕ} (more : List Call)
+  pub key_gone : {request : Request} {outbox outbox' : List ℕ} {was : List Interaction} {clear : ℕ} {it : Asking} {targets : List ℕ} {to : Stage} {one : OneKey} {outbox'' : List ℕ} (more : List Call)
       → (sending : IsSending config request outbox clear it targets was outbox')
-      → Goes (record { targets = targets; form = form_in config sending.first.request; share = it.key.share }) (sending.calls ++ more) outbox' (answer_state at outbox'')
-      → Stands config request outbox at targets (was ++ map Made more) outbox''
-  key_gone {request} {outbox} {outbox'} {was} {it = it} {targets = targets} {at = at} {outbox'' = outbox''} more sending goes =
+      → Goes (record { targets = targets; form = form_in config sending.first.request; share = it.key.share }) (sending.calls ++ more) outbox' to one outbox''
+      → Stands config request outbox to one targets (was ++ map Made more) outbox''
+  key_gone {request} {outbox} {outbox'} {was} {it = it} {targets = targets} {to = to} {one = one} {outbox'' = outbox''} more sending goes =
       let first = sending.first.request in
-      let settles = subst (λ s. Settles goes.stage (record { request = form_in config first (last_place goes.stage); share = s }) outbox' (answer_state at outbox''))
+      let settles = subst (λ s. Settles to (record { request = form_in config first (last_place to); share = s }) outbox' one outbox'')
       (ap (λ (o : OneKey). o.share) sending.keeps) goes.settles in
       let are : was ++ map Made more ≡ sending.before ++ map Made (sending.calls ++ more) =
       ap (λ xs. was ++ xs) (sym (append-nil (map Made more))) ∙ rearranged was sending.before sending.calls more [] sending.are
       ∙ ap (λ xs. sending.before ++ xs) (append-nil (map Made (sending.calls ++ more))) in
-      subst (λ all. Stands config request outbox at targets all outbox'') (sym are)
-      (settled (sending.calls ++ more) goes.stage at outbox'' sending.at sending.aims goes.reached settles)
+      subst (λ all. Stands config request outbox to one targets all outbox'') (sym are)
+      (settled (sending.calls ++ more) to one outbox'' sending.at sending.aims goes.reached settles)

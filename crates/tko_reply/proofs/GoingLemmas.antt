@@ -13,10 +13,10 @@ use Rattle.tko_route.specs.declared.attempt.Attempt.{Attempt}
 use Rattle.tko_route.specs.declared.routing.Stage.{Stage}
 use Rattle.tko_route.specs.declared.routing.Stage.TheVariants as stage
 use Rattle.tko_reply.specs.Answering.{Extends}
-use Rattle.tko_reply.specs.Asking.{Continues, Ended, Goes, GoesTo, Replies, Settles, begun, course_of, front_of}
+use Rattle.tko_reply.specs.Asking.{Continues, Goes, GoesTo, Replies, Settles, course_of, front_of}
 use Rattle.tko_reply.specs.Cuts.{EndsBy, IsEndOf, KeyLost, tried, untried}
 use Rattle.tko_reply.specs.Sends.{AfterSend}
-use Rattle.tko_reply.specs.Standing.{Asking, Standing, Tried, answer_state}
+use Rattle.tko_reply.specs.Standing.{Asking}
 use Rattle.tko_reply.specs.declared.asking.OneKey.{OneKey}
 use Rattle.tko_reply.specs.declared.asking.Share.{Share}
 use Rattle.tko_reply.specs.declared.asking.Share.TheVariants as share
@@ -28,20 +28,17 @@ front_same (share.Whole silent) outbox = extends_same outbox
 front_same (share.Joined begin left) outbox = extends_front begin outbox
 
 -- the response to a key went into the reply
-pub ended_at : {one one' : OneKey} {found : Option Response} {outbox outbox' : List ℕ} (trail : List Attempt) → one'.request ≡ one.request
-    → found ≡ answer_of trail → Replies one.share found outbox one'.share outbox' → Ended trail one outbox (answer_state (Tried trail one') outbox')
-ended_at {one} {one'} {found} {outbox} {outbox'} trail request same replies = record {
-  share = one'.share;
-  at = ap (λ (r : Request). Tried trail (record { request = r; share = one'.share })) request;
-  replies = subst (λ f. Replies one.share f outbox one'.share outbox') same replies;
-}
+pub ended_at : (to : Stage) (one one' : OneKey) (outbox outbox' : List ℕ) {found : Option Response} (trail : List Attempt) → to ≡ stage.Done trail
+    → one'.request ≡ one.request → found ≡ answer_of trail → Replies one.share found outbox one'.share outbox' → Settles to one outbox one' outbox'
+ended_at to one one' outbox outbox' {found} trail is request same replies =
+    subst (λ s. Settles s one outbox one' outbox') (sym is) (request, subst (λ f. Replies one.share f outbox one'.share outbox') same replies)
 
 -- one of several keys, with the share that it has
 pub continues_at : {request request' : Request} {kind : Share} {begin : ℕ} {left left' : List (List ℕ)} {outbox outbox' : List ℕ} {keyed : Bool} → kind ≡ share.Joined begin left
-    → ((n : ℕ) → Continues (record { request = request; share = share.Joined n left }) outbox (begun keyed (record { request = request'; share = share.Joined n left' }) outbox'))
-    → Continues (record { request = request; share = kind }) outbox (begun keyed (record { request = request'; share = share.Joined begin left' }) outbox')
+    → ((n : ℕ) → Continues (record { request = request; share = share.Joined n left }) outbox keyed (record { request = request'; share = share.Joined n left' }) outbox')
+    → Continues (record { request = request; share = kind }) outbox keyed (record { request = request'; share = share.Joined begin left' }) outbox'
 continues_at {request} {request'} {kind} {begin} {left} {left'} {outbox} {outbox'} {keyed} is on =
-    subst (λ k. Continues (record { request = request; share = k }) outbox (begun keyed (record { request = request'; share = share.Joined begin left' }) outbox')) (sym is) (on begin)
+    subst (λ k. Continues (record { request = request; share = k }) outbox keyed (record { request = request'; share = share.Joined begin left' }) outbox') (sym is) (on begin)
 
 -- the form of a request after an outcome was recorded
 form_then : (to : Stage) (original request request' : Request) (place exptime exptime' : ℕ) → exptime' ≡ exptime
@@ -55,25 +52,25 @@ form_then to original request request' place exptime exptime' same is then =
 ends_by : {targets : List ℕ} {form : ℕ → Request} {calls : List Call} (to : Stage) (trail : List Attempt)
     → Reached targets form calls to → IsEndOf to trail → EndsBy targets form calls trail
 ends_by (stage.Away clear waiting) trail reached is = absurd is
-ends_by {targets} {form} {calls} (stage.Done routed) trail reached is =
+ends_by {targets} {form} {calls} (stage.Done all) trail reached is =
     subst (EndsBy targets form calls) (sym is) (record { tried = reached.0; make = reached.1 })
 
 module _ {H : Type 0} {steps : H → HealthItem → H → Type 0} {old new : H} where
   -- a key was begun
-  pub begin_goes : {outbox outbox' : List ℕ} {at : Standing} (to : Stage) (targets : List ℕ) (kind : Share)
+  pub begin_goes : {outbox outbox' : List ℕ} {at : Stage} {one : OneKey} (to : Stage) (targets : List ℕ) (kind : Share)
       (request : Request) (form : ℕ → Request) → request ≡ form (last_place to)
       → GoesOn steps old (λ calls. (f : ℕ → Request) → Reached targets f calls to) new
-      → Settles to (record { request = request; share = kind }) outbox (answer_state at outbox')
-      → GoesOn steps old (λ calls. Goes (record { targets = targets; form = form; share = kind }) calls outbox (answer_state at outbox')) new
-  begin_goes {outbox} {outbox'} {at} to targets kind request form is on settles = record {
-    items = on.items;
-    gains = on.gains;
-    is = record {
-      stage = to;
-      reached = on.is form;
-      settles = subst (λ r. Settles to (record { request = r; share = kind }) outbox (answer_state at outbox')) is settles;
-    };
-  }
+      → at ≡ to → Settles to (record { request = request; share = kind }) outbox one outbox'
+      → GoesOn steps old (λ calls. Goes (record { targets = targets; form = form; share = kind }) calls outbox at one outbox') new
+  begin_goes {outbox} {outbox'} {at} {one} to targets kind request form is on same settles =
+      subst (λ s. GoesOn steps old (λ calls. Goes (record { targets = targets; form = form; share = kind }) calls outbox s one outbox') new) (sym same) (record {
+        items = on.items;
+        gains = on.gains;
+        is = record {
+          reached = on.is form;
+          settles = subst (λ r. Settles to (record { request = r; share = kind }) outbox one outbox') is settles;
+        };
+      })
 
   -- memory ran out there
   pub begin_lost : {config : Configuration} {request : Request} (to : Stage) (targets : List ℕ) (trail : List Attempt)
@@ -87,26 +84,26 @@ module _ {H : Type 0} {steps : H → HealthItem → H → Type 0} {old new : H} 
       }
 
   -- what came of a send was recorded
-  pub answered_goes : {outbox outbox' : List ℕ} {at : Standing} (config : Configuration) (to : Stage) (it : Asking) (targets : List ℕ)
+  pub answered_goes : {outbox outbox' : List ℕ} {at : Stage} {one : OneKey} (config : Configuration) (to : Stage) (it : Asking) (targets : List ℕ)
       (got : Outcome) (exptime' : ℕ) (request' : Request) → exptime' ≡ config.failover_exptime
       → ((r : Request) → it.key.request ≡ form_at exptime' r (length it.waiting.attempts) → request' ≡ form_at exptime' r (last_place to))
       → GoesOn steps old (λ more. (form : ℕ → Request) (calls : List Call) → FindsUp form calls it.waiting.attempts it.waiting.server
       → Reached targets form (calls ++ came_of form it.waiting got ∷ more) to) new
-      → Settles to (record { request = request'; share = it.key.share }) outbox (answer_state at outbox')
-      → GoesOn steps old (λ more. AfterSend config it got (λ original calls. Goes (course_of config targets it.key original) (calls more) outbox (answer_state at outbox'))) new
-  answered_goes {outbox} {outbox'} {at} config to it targets got exptime' request' same then on settles = record {
-    items = on.items;
-    gains = on.gains;
-    is = λ original calls is up. record {
-      stage = to;
-      reached =
-          subst (λ r. Reached targets (form_at config.failover_exptime original) (calls ++ came it.waiting.server r (Ok got) ∷ map Told on.items) to) (sym is)
-          (on.is (form_at config.failover_exptime original) calls up);
-      settles =
-          subst (λ r. Settles to (record { request = r; share = it.key.share }) outbox (answer_state at outbox'))
-          (form_then to original it.key.request request' (length it.waiting.attempts) config.failover_exptime exptime' same is then) settles;
-    };
-  }
+      → at ≡ to → Settles to (record { request = request'; share = it.key.share }) outbox one outbox'
+      → GoesOn steps old (λ more. AfterSend config it got (λ original calls. Goes (course_of config targets it.key original) (calls more) outbox at one outbox')) new
+  answered_goes {outbox} {outbox'} {at} {one} config to it targets got exptime' request' alike then on same settles =
+      subst (λ s. GoesOn steps old (λ more. AfterSend config it got (λ original calls. Goes (course_of config targets it.key original) (calls more) outbox s one outbox')) new) (sym same) (record {
+        items = on.items;
+        gains = on.gains;
+        is = λ original calls is up. record {
+          reached =
+              subst (λ r. Reached targets (form_at config.failover_exptime original) (calls ++ came it.waiting.server r (Ok got) ∷ map Told on.items) to) (sym is)
+              (on.is (form_at config.failover_exptime original) calls up);
+          settles =
+              subst (λ r. Settles to (record { request = r; share = it.key.share }) outbox one outbox')
+              (form_then to original it.key.request request' (length it.waiting.attempts) config.failover_exptime exptime' alike is then) settles;
+        };
+      })
 
   -- memory ran out there
   pub answered_lost : (config : Configuration) (to : Stage) (it : Asking) (targets : List ℕ) (got : Outcome) (trail : List Attempt)

@@ -11,11 +11,11 @@ use Rattle.tko_route.specs.Trail.{form_at}
 use Rattle.tko_route.specs.declared.routing.Stage.{Stage}
 use Rattle.tko_route.specs.declared.routing.Stage.TheVariants as stage
 use Rattle.tko_reply.specs.Answering.{Extends}
-use Rattle.tko_reply.specs.Asking.{BeginsAt, Continues, Goes, HasFront, IsFirst, Replies, Settles, begun, course_of, front_of}
+use Rattle.tko_reply.specs.Asking.{BeginsAt, Continues, Goes, HasFront, IsFirst, Replies, Settles, course_of, front_of}
 use Rattle.tko_reply.specs.Asking as asked
 use Rattle.tko_reply.specs.Replies.{text_of_answer}
 use Rattle.tko_reply.specs.Sends.{IsSent}
-use Rattle.tko_reply.specs.Standing.{Asks, Standing, Tried, answer_state}
+use Rattle.tko_reply.specs.Standing.{asking}
 use Rattle.tko_reply.specs.declared.asking.OneKey.{OneKey}
 use Rattle.tko_reply.specs.declared.asking.Share.{Share}
 use Rattle.tko_reply.specs.declared.asking.Share.TheVariants as share
@@ -33,15 +33,10 @@ pub has_front : (begin : ℕ) (kind : Share) (outbox : List ℕ) → BeginsAt be
 has_front begin (share.Whole silent) outbox held = tt
 has_front begin (share.Joined first left) outbox (same, within) = subst (λ n. n ≤ length outbox) (sym same) within
 
--- what is held of the reply where the answer came so far
-abbrev pub HoldsAt : ℕ → Standing → List ℕ → Type 0
-HoldsAt begin (Asks clear it) outbox = BeginsAt begin it.key.share outbox
-HoldsAt begin (Tried trail one) outbox = BeginsAt begin one.share outbox
-
--- where a send is out, it is to one of the targets
-abbrev pub AwaitsAt : Configuration → List ℕ → Standing → Type 0
-AwaitsAt config targets (Asks clear it) = IsSent config targets it
-AwaitsAt config targets (Tried trail one) = Unit {0}
+-- where a send is out for a key, it is to one of the targets
+abbrev pub AwaitsAt : Configuration → List ℕ → Stage → OneKey → Type 0
+AwaitsAt config targets (stage.Away clear waiting) one = IsSent config targets (asking waiting one)
+AwaitsAt config targets (stage.Done trail) one = Unit {0}
 
 held_more : {begin : ℕ} (outbox outbox' more : List ℕ) → outbox' ≡ outbox ++ more → begin ≤ length outbox → begin ≤ length outbox'
 held_more outbox outbox' more is within = omega (arith, within, length-append outbox more, ap length is)
@@ -62,36 +57,34 @@ replies_held found outbox outbox' begin (share.Joined first left) kind' (same, w
     let held : BeginsAt begin (share.Joined first left) outbox' = (same, held_more outbox outbox' _ text within) in
     subst (λ k. BeginsAt begin k outbox') (sym kind) held
 
-settled_held : (at : Standing) (outbox outbox' : List ℕ) (begin : ℕ) (to : Stage) (one : OneKey) → BeginsAt begin one.share outbox
-    → Settles to one outbox (answer_state at outbox') → HoldsAt begin at outbox'
-settled_held at outbox outbox' begin (stage.Away clear waiting) one held (is, same) =
+settled_held : (outbox outbox' : List ℕ) (begin : ℕ) (to : Stage) (one one' : OneKey) → BeginsAt begin one.share outbox
+    → Settles to one outbox one' outbox' → BeginsAt begin one'.share outbox'
+settled_held outbox outbox' begin (stage.Away clear waiting) one one' held (is, same) =
     let held' : BeginsAt begin one.share outbox' = subst (BeginsAt begin one.share) (sym same) held in
-    subst (λ a. HoldsAt begin a outbox') (sym is) held'
-settled_held at outbox outbox' begin (stage.Done routed) one held ends =
-    let held' : BeginsAt begin ends.share outbox' = replies_held _ outbox outbox' begin one.share ends.share held ends.replies in
-    subst (λ a. HoldsAt begin a outbox') (sym ends.at) held'
+    subst (λ (o : OneKey). BeginsAt begin o.share outbox') (sym is) held'
+settled_held outbox outbox' begin (stage.Done trail) one one' held (is, replies) =
+    replies_held _ outbox outbox' begin one.share one'.share held replies
 
-settled_awaits : (at : Standing) (outbox outbox' : List ℕ) (targets : List ℕ) (original : Request) (calls : List Call) (config : Configuration) (to : Stage) (one : OneKey)
+settled_awaits : (outbox outbox' : List ℕ) (targets : List ℕ) (original : Request) (calls : List Call) (config : Configuration) (to : Stage) (one one' : OneKey)
     → AreServers config targets → one.request ≡ form_at config.failover_exptime original (last_place to)
-    → Reached targets (form_at config.failover_exptime original) calls to → Settles to one outbox (answer_state at outbox') → AwaitsAt config targets at
-settled_awaits at outbox outbox' targets original calls config (stage.Away clear waiting) one are form reached (is, same) =
-    let sent : IsSent config targets (record { waiting = waiting; key = one }) =
+    → Reached targets (form_at config.failover_exptime original) calls to → Settles to one outbox one' outbox' → AwaitsAt config targets to one'
+settled_awaits outbox outbox' targets original calls config (stage.Away clear waiting) one one' are form reached (is, same) =
+    let sent : IsSent config targets (asking waiting one) =
     record { out = record { within = are; awaited = reached.0 }; original = original; calls = calls; form = form; found = reached.2 } in
-    subst (AwaitsAt config targets) (sym is) sent
-settled_awaits at outbox outbox' targets original calls config (stage.Done routed) one are form reached ends =
-    subst (AwaitsAt config targets) (sym ends.at) tt
+    subst (λ o. IsSent config targets (asking waiting o)) (sym is) sent
+settled_awaits outbox outbox' targets original calls config (stage.Done trail) one one' are form reached settles = tt
 
 -- where the answer to a request goes on, its reply begins where it did, and a send that is out is to
 -- one of the targets
-pub goes_held : (config : Configuration) {targets : List ℕ} (one : OneKey) (original : Request) {calls : List Call} {outbox outbox' : List ℕ} {at : Standing} (begin : ℕ)
-    → BeginsAt begin one.share outbox → Goes (course_of config targets one original) calls outbox (answer_state at outbox') → HoldsAt begin at outbox'
-goes_held config one original {outbox = outbox} {outbox' = outbox'} {at = at} begin held goes = settled_held at outbox outbox' begin goes.stage _ held goes.settles
+pub goes_held : (config : Configuration) {targets : List ℕ} (one : OneKey) (original : Request) {calls : List Call} {outbox outbox' : List ℕ} {to : Stage} {one' : OneKey} (begin : ℕ)
+    → BeginsAt begin one.share outbox → Goes (course_of config targets one original) calls outbox to one' outbox' → BeginsAt begin one'.share outbox'
+goes_held config one original {outbox = outbox} {outbox' = outbox'} {to = to} {one' = one'} begin held goes = settled_held outbox outbox' begin to _ one' held goes.settles
 
-pub goes_awaits : {targets : List ℕ} (one : OneKey) {calls : List Call} {outbox outbox' : List ℕ} {at : Standing}
+pub goes_awaits : {targets : List ℕ} (one : OneKey) {calls : List Call} {outbox outbox' : List ℕ} {to : Stage} {one' : OneKey}
     (config : Configuration) (original : Request) → AreServers config targets
-    → Goes (course_of config targets one original) calls outbox (answer_state at outbox') → AwaitsAt config targets at
-goes_awaits {targets} one {calls} {outbox} {outbox'} {at} config original are goes =
-    settled_awaits at outbox outbox' targets original calls config goes.stage _ are refl goes.reached goes.settles
+    → Goes (course_of config targets one original) calls outbox to one' outbox' → AwaitsAt config targets to one'
+goes_awaits {targets} one {calls} {outbox} {outbox'} {to} {one'} config original are goes =
+    settled_awaits outbox outbox' targets original calls config to _ one' are refl goes.reached goes.settles
 
 -- the first key of a request
 pub first_held : (begin : ℕ) (request : Request) (outbox : List ℕ) (one : OneKey) → begin ≡ length outbox → IsFirst request (length outbox) one → BeginsAt begin one.share outbox
@@ -105,7 +98,7 @@ true_or_false : true ≡ false → ⊥
 true_or_false e = cc
 
 -- the next of several keys
-pub next_held : (begin : ℕ) (one other : OneKey) (outbox outbox' : List ℕ) → BeginsAt begin one.share outbox → Continues one outbox (begun true other outbox')
+pub next_held : (begin : ℕ) (one other : OneKey) (outbox outbox' : List ℕ) → BeginsAt begin one.share outbox → Continues one outbox true other outbox'
     → BeginsAt begin other.share outbox'
 next_held begin one other outbox outbox' held (asked.complete silent kind over same) = absurd (true_or_false over)
 next_held begin one other outbox outbox' held (asked.last first kind over same) = absurd (true_or_false over)

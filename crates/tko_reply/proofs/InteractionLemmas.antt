@@ -10,7 +10,7 @@ use Rattle.tko_route.specs.Calls.{Call, Came, Told, sends_of}
 use Rattle.tko_route.specs.Trail.{sends_in}
 use Rattle.tko_route.specs.declared.attempt.Attempt.{Attempt}
 use Rattle.tko_route.proofs.TrailLemmas.{sends_by_trail}
-use Rattle.tko_reply.specs.Answers.{Answers, AreKeysRouted, request_answer}
+use Rattle.tko_reply.specs.Answers.{Answers, AreKeysRouted}
 use Rattle.tko_reply.specs.Answers as answers
 use Rattle.tko_reply.specs.Ghosts.{PartsGhosts}
 use Rattle.tko_reply.specs.Interactions.{Interaction, Interacts, Made, Noted, Performs, Recorded, health_calls, sends_by, with_health, with_noted}
@@ -109,7 +109,7 @@ keys_sends server config request (one ∷ routed) done (first, rest, is, more, a
 
 -- a request sent as often as its trails did
 pub answers_sends : (server : ℕ) (config : Configuration) (request : Request) (routed : List RoutedKey) (text : List ℕ) (done : List Interaction)
-    → Answers config request (request_answer routed text) done → sum_by (sends_by server) done ≡ sends_to server (trails_in routed)
+    → Answers config request routed text done → sum_by (sends_by server) done ≡ sends_to server (trails_in routed)
 answers_sends server config request routed text done (answers.itself looks none it are) =
     ap (sum_by (sends_by server)) are ∙ told_sends server looks ∙ sym (ap (λ r. sends_to server (trails_in r)) none)
 answers_sends server config request routed text done (answers.by_keys it) = keys_sends server config request routed done it.each

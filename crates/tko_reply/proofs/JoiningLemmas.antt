@@ -12,7 +12,7 @@ use Rattle.tko_route.specs.declared.attempt.Attempt.{Attempt}
 use Rattle.tko_reply.specs.Answering.{retrieval}
 use Rattle.tko_reply.specs.Answers.{IsKeyRouted, form_in, request_keys}
 use Rattle.tko_reply.specs.Answers as answers
-use Rattle.tko_reply.specs.Asking.{Continues, Joins, Replies, begun}
+use Rattle.tko_reply.specs.Asking.{Continues, Joins, Replies}
 use Rattle.tko_reply.specs.Asking as asked
 use Rattle.tko_reply.specs.Interactions.{Interaction, Made, Recorded}
 use Rattle.tko_reply.specs.Replies.{HasValues, IsReply, RoutedKey, all_values, end_line, first_other, joined, keys_in, reply_text, routed_key, values_in, written}
@@ -162,7 +162,7 @@ module _ {config : Configuration} where
 
   -- the reply is complete once no key is left
   pub past_over : {request : Request} {outbox outbox' outbox'' : List ℕ} {was : List Interaction} {one other : OneKey} → IsPast config request outbox one was outbox'
-      → Continues one outbox' (begun false other outbox'') → IsAnswered config request outbox was outbox''
+      → Continues one outbox' false other outbox'' → IsAnswered config request outbox was outbox''
   past_over {request} {outbox} {was = was} (complete silent kind done) (asked.complete silent' kind' over same) =
       subst (λ xs. IsAnswered config request outbox was xs) (sym same) done
   past_over (complete silent kind done) (asked.last begin kind' over same) = absurd (whole_or_joined (sym kind ∙ kind'))
@@ -177,7 +177,7 @@ module _ {config : Configuration} where
 
   -- the next of several keys is to be asked for
   pub past_next : {request : Request} {outbox outbox' outbox'' : List ℕ} {was : List Interaction} {one other : OneKey} → IsPast config request outbox one was outbox'
-      → Continues one outbox' (begun true other outbox'') → (key : List ℕ) × IsAt config request outbox key other was outbox''
+      → Continues one outbox' true other outbox'' → (key : List ℕ) × IsAt config request outbox key other was outbox''
   past_next past (asked.complete silent kind over same) = absurd (false_or_true (sym over))
   past_next past (asked.last begin kind over same) = absurd (false_or_true (sym over))
   past_next (complete silent kind done) (asked.next begin key left kind' on alike then same) = absurd (whole_or_joined (sym kind ∙ kind'))

@@ -7,13 +7,14 @@ use Rattle.tko_route.specs.Calls.{Call}
 use Rattle.tko_route.specs.Routing.{Reached}
 use Rattle.tko_route.specs.Trail.{IsTrail, Makes}
 use Rattle.tko_route.specs.declared.attempt.Attempt.{Attempt}
+use Rattle.tko_route.specs.declared.routing.Stage.{Stage}
 use Rattle.tko_route.specs.declared.routing.Stage.TheVariants as stage
 use Rattle.tko_reply.specs.Answering.{Extends, retrieval}
-use Rattle.tko_reply.specs.Answers.{Answers, AreKeysRouted, form_in, request_answer, request_keys}
+use Rattle.tko_reply.specs.Answers.{Answers, AreKeysRouted, form_in, request_keys}
 use Rattle.tko_reply.specs.Asking as asked
 use Rattle.tko_reply.specs.Interactions.{Interaction, Made, Recorded}
 use Rattle.tko_reply.specs.Replies.{HasValues, RoutedKey, joined, keys_in}
-use Rattle.tko_reply.specs.Standing.{Asking, Asks, Standing, Tried, whole_of}
+use Rattle.tko_reply.specs.Standing.{Asking, asking, whole_of}
 use Rattle.tko_reply.specs.TrailEvents as event
 use Rattle.tko_reply.specs.declared.asking.OneKey.{OneKey}
 use Rattle.tko_reply.specs.declared.asking.Share.TheVariants as share
@@ -68,7 +69,7 @@ pub record IsAnswered (config : Configuration) (request : Request) (outbox : Lis
     (was : List Interaction) (outbox' : List ℕ) : Type 0 where
   pub routed : List RoutedKey
   pub text : List ℕ
-  pub answers : Answers config request (request_answer routed text) was
+  pub answers : Answers config request routed text was
   pub appended : outbox' ≡ outbox ++ text
 
 -- a key was routed and its trail recorded: the reply is complete; or it is one of several, and its
@@ -98,11 +99,12 @@ pub record IsTried (config : Configuration) (request : Request) (outbox : List �
   pub are : was ≡ before ++ map Made calls
   pub past : IsPast config request outbox one (was ++ Recorded (event.Tried trail) ∷ []) outbox'
 
-abbrev pub Stands : Configuration → Request → List ℕ → Standing → List ℕ → List Interaction
-    → List ℕ → Type 0
-Stands config request outbox (Asks clear it) targets was outbox' =
-    IsSending config request outbox clear it targets was outbox'
-Stands config request outbox (Tried trail one) targets was outbox' =
+-- how far a key of it came
+abbrev pub Stands : Configuration → Request → List ℕ → Stage → OneKey → List ℕ
+    → List Interaction → List ℕ → Type 0
+Stands config request outbox (stage.Away clear waiting) one targets was outbox' =
+    IsSending config request outbox clear (asking waiting one) targets was outbox'
+Stands config request outbox (stage.Done trail) one targets was outbox' =
     IsTried config request outbox trail one was outbox'
 
 module _ {config : Configuration} {request : Request} {outbox outbox' : List ℕ} {was : List Interaction} where

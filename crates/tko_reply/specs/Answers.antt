@@ -51,14 +51,6 @@ request_for request key = request
 abbrev pub form_in : Configuration → Request → ℕ → Request
 form_in config request = form_at config.failover_exptime (without_noreply request)
 
--- what answered a request: the keys that were routed for it, and the text of its reply
-pub record RequestAnswer : Type 0 where
-  pub routed : List RoutedKey
-  pub text : List ℕ
-
-abbrev pub request_answer : List RoutedKey → List ℕ → RequestAnswer
-request_answer routed text = record { routed = routed; text = text }
-
 -- a request without a key is answered by the proxy itself: the text, and what health was asked
 abbrev pub AnswersItself : List (List ℕ) → Request → List ℕ → List HealthItem → Type 0
 AnswersItself addresses Version text looks = (text ≡ version_text) × (looks ≡ [])
@@ -82,19 +74,21 @@ AreKeysRouted config request (one ∷ routed) done = (first rest : List Interact
     × IsKeyRouted config request one first × AreKeysRouted config request routed rest
     × (done ≡ first ++ rest)
 
--- the keys of a request were routed, and gave this text
-pub record AnswersByKeys (config : Configuration) (request : Request) (answer : RequestAnswer)
-    (done : List Interaction) : Type 0 where
+-- these keys of a request were routed, and gave this text
+pub record AnswersByKeys (config : Configuration) (request : Request) (routed : List RoutedKey)
+    (text : List ℕ) (done : List Interaction) : Type 0 where
   pub some : 0 < length (request_keys request)
-  pub each : AreKeysRouted config request answer.routed done
+  pub each : AreKeysRouted config request routed done
   pub reply : List ℕ
-  pub is_reply : IsReply (request_keys request) answer.routed reply
-  pub is_written : answer.text ≡ written request reply
+  pub is_reply : IsReply (request_keys request) routed reply
+  pub is_written : text ≡ written request reply
 
--- what is done for a request once it was recorded
-pub data Answers (config : Configuration) (request : Request) (answer : RequestAnswer)
-    (done : List Interaction) : Type 0 where
-  itself : (looks : List HealthItem) → answer.routed ≡ []
-      → AnswersItself config.addresses request answer.text looks → done ≡ health_calls looks
-      → Answers config request answer done
-  by_keys : AnswersByKeys config request answer done → Answers config request answer done
+-- what is done for a request once it was recorded: the keys that are routed for it, and the text
+-- that answers it
+pub data Answers (config : Configuration) (request : Request) (routed : List RoutedKey)
+    (text : List ℕ) (done : List Interaction) : Type 0 where
+  itself : (looks : List HealthItem) → routed ≡ []
+      → AnswersItself config.addresses request text looks → done ≡ health_calls looks
+      → Answers config request routed text done
+  by_keys : AnswersByKeys config request routed text done
+      → Answers config request routed text done

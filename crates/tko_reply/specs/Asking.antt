@@ -9,13 +9,12 @@ use Rattle.tko_pools.specs.Configs.{Configuration, targets_of}
 use Rattle.tko_route.specs.Calls.{Call, Told}
 use Rattle.tko_route.specs.Routing.{Reached, last_place}
 use Rattle.tko_route.specs.Trail.{answer_of, form_at}
-use Rattle.tko_route.specs.declared.attempt.Attempt.{Attempt}
 use Rattle.tko_route.specs.declared.routing.Stage.{Stage}
 use Rattle.tko_route.specs.declared.routing.Stage.TheVariants as stage
 use Rattle.tko_reply.specs.Answering.{retrieval}
 use Rattle.tko_reply.specs.Answers.{AnswersItself, request_keys}
 use Rattle.tko_reply.specs.Replies.{end_line, text_of_answer, values_in}
-use Rattle.tko_reply.specs.Standing.{AnswerState, Asks, Tried, asking, whole_of}
+use Rattle.tko_reply.specs.Standing.{whole_of}
 use Rattle.tko_reply.specs.declared.asking.OneKey.{OneKey}
 use Rattle.tko_reply.specs.declared.asking.Share.{Share}
 use Rattle.tko_reply.specs.declared.asking.Share.TheVariants as share
@@ -56,24 +55,15 @@ pub data IsFirst (request : Request) (waiting : ℕ) (one : OneKey) : Type 0 whe
       → one ≡ record { request = retrieval (key ∷ []) unique; share = share.Joined waiting left }
       → IsFirst request waiting one
 
--- whether there is a key to ask for, the key, and the outbox then
-pub record Begun : Type 0 where
-  pub keyed : Bool
-  pub key : OneKey
-  pub outbox : List ℕ
-
-abbrev pub begun : Bool → OneKey → List ℕ → Begun
-begun keyed one outbox = record { keyed = keyed; key = one; outbox = outbox }
-
 -- how the answer to a request begins by these calls: the proxy answers it itself; or its first key
--- is to be asked for
+-- is to be asked for. Whether there is a key to ask for, the key, and the outbox then.
 pub data Begins (config : Configuration) (request : Request) (outbox : List ℕ)
-    (calls : List Call) (to : Begun) : Type 0 where
-  itself : (text : List ℕ) (looks : List HealthItem) → to.keyed ≡ false
+    (calls : List Call) (keyed : Bool) (one : OneKey) (outbox' : List ℕ) : Type 0 where
+  itself : (text : List ℕ) (looks : List HealthItem) → keyed ≡ false
       → AnswersItself config.addresses request text looks → calls ≡ map Told looks
-      → to.outbox ≡ outbox ++ text → Begins config request outbox calls to
-  by_key : to.keyed ≡ true → IsFirst request (length outbox) to.key → calls ≡ []
-      → to.outbox ≡ outbox → Begins config request outbox calls to
+      → outbox' ≡ outbox ++ text → Begins config request outbox calls keyed one outbox'
+  by_key : keyed ≡ true → IsFirst request (length outbox) one → calls ≡ []
+      → outbox' ≡ outbox → Begins config request outbox calls keyed one outbox'
 
 -- the response to one of several keys: its values follow those before; or, if it is no list of
 -- values, it takes their place and is all of the reply
@@ -94,18 +84,12 @@ Replies (share.Whole silent) found outbox share' outbox' = (share' ≡ share.Who
 Replies (share.Joined begin left) found outbox share' outbox' =
     Joins begin left found outbox share' outbox'
 
--- these were the attempts at a key, and its response went into the reply
-pub record Ended (trail : List Attempt) (one : OneKey) (outbox : List ℕ) (to : AnswerState)
-    : Type 0 where
-  pub share : Share
-  pub at : to.at ≡ Tried trail (record one { share = share })
-  pub replies : Replies one.share (answer_of trail) outbox share to.outbox
-
--- where a routing came to a stage: its request may be sent, or its key has ended
-abbrev pub Settles : Stage → OneKey → List ℕ → AnswerState → Type 0
-Settles (stage.Away clear waiting) one outbox to =
-    (to.at ≡ Asks clear (asking waiting one)) × (to.outbox ≡ outbox)
-Settles (stage.Done routed) one outbox to = Ended routed.trail one outbox to
+-- where a routing came to a stage: nothing else changed; or the attempts at its key have ended, and
+-- the response went into the reply
+abbrev pub Settles : Stage → OneKey → List ℕ → OneKey → List ℕ → Type 0
+Settles (stage.Away clear waiting) one outbox one' outbox' = (one' ≡ one) × (outbox' ≡ outbox)
+Settles (stage.Done trail) one outbox one' outbox' = (one'.request ≡ one.request)
+    × Replies one.share (answer_of trail) outbox one'.share outbox'
 
 -- the request of a key that is routed to these targets, in the form of each place
 pub record Course : Type 0 where
@@ -126,22 +110,24 @@ course_of config targets one original = record {
   share = one.share;
 }
 
--- by these calls the routing of a key came to a stage, and was settled
-pub record Goes (course : Course) (calls : List Call) (outbox : List ℕ) (to : AnswerState)
-    : Type 0 where
-  pub stage : Stage
+-- by these calls the routing of a key came to a stage, and was settled: the key and the outbox then
+pub record Goes (course : Course) (calls : List Call) (outbox : List ℕ) (stage : Stage)
+    (one : OneKey) (outbox' : List ℕ) : Type 0 where
   pub reached : Reached course.targets course.form calls stage
-  pub settles : Settles stage (key_at_stage course stage) outbox to
+  pub settles : Settles stage (key_at_stage course stage) outbox one outbox'
 
 -- after a key its reply is complete; or it is one of several, and `END` follows the values of the
--- last, or the next is asked for as this one was, and then come those that are left
-pub data Continues (one : OneKey) (outbox : List ℕ) (to : Begun) : Type 0 where
-  complete : (silent : Bool) → one.share ≡ share.Whole silent → to.keyed ≡ false
-      → to.outbox ≡ outbox → Continues one outbox to
-  last : (begin : ℕ) → one.share ≡ share.Joined begin [] → to.keyed ≡ false
-      → to.outbox ≡ outbox ++ end_line → Continues one outbox to
+-- last, or the next is asked for as this one was, and then come those that are left. Whether there
+-- is a key to ask for, the key, and the outbox then.
+pub data Continues (one : OneKey) (outbox : List ℕ) (keyed : Bool) (one' : OneKey)
+    (outbox' : List ℕ) : Type 0 where
+  complete : (silent : Bool) → one.share ≡ share.Whole silent → keyed ≡ false
+      → outbox' ≡ outbox → Continues one outbox keyed one' outbox'
+  last : (begin : ℕ) → one.share ≡ share.Joined begin [] → keyed ≡ false
+      → outbox' ≡ outbox ++ end_line → Continues one outbox keyed one' outbox'
   next : (begin : ℕ) (key : List ℕ) (left : List (List ℕ))
-      → one.share ≡ share.Joined begin (key ∷ left) → to.keyed ≡ true
+      → one.share ≡ share.Joined begin (key ∷ left) → keyed ≡ true
       → ((keys : List (List ℕ)) (unique : Bool) → one.request ≡ retrieval keys unique
-      → to.key.request ≡ retrieval (key ∷ []) unique)
-      → to.key.share ≡ share.Joined begin left → to.outbox ≡ outbox → Continues one outbox to
+      → one'.request ≡ retrieval (key ∷ []) unique)
+      → one'.share ≡ share.Joined begin left → outbox' ≡ outbox
+      → Continues one outbox keyed one' outbox'

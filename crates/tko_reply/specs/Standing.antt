@@ -1,12 +1,9 @@
--- How far the answer to a request came, and with which key: what a call of the answer says, and the
--- key as the call left it.
-use Rattle.std.specs.Prelude.{ℕ, ◌-◌, List}
+-- A key of a request: as it was read, once replies before its own were written, and while it is
+-- sent.
+use Rattle.std.specs.Prelude.{ℕ, ◌-◌}
 use Rattle.tko_text.specs.declared.request.Request.{Request}
 use Rattle.tko_text.specs.SentRequests.{is_silent}
 use Rattle.tko_route.specs.Underway.{Awaited}
-use Rattle.tko_route.specs.declared.attempt.Attempt.{Attempt}
-use Rattle.tko_reply.specs.declared.asking.Answer.{Answer}
-use Rattle.tko_reply.specs.declared.asking.Answer.TheVariants as answer
 use Rattle.tko_reply.specs.declared.asking.OneKey.{OneKey}
 use Rattle.tko_reply.specs.declared.asking.Share.{Share}
 use Rattle.tko_reply.specs.declared.asking.Share.TheVariants as share
@@ -31,21 +28,3 @@ pub record Asking : Type 0 where
 
 abbrev pub asking : Awaited → OneKey → Asking
 asking waiting one = record { waiting = waiting; key = one }
-
--- a send is out to this server; or these were the attempts at a key, which stands so
-pub data Standing : Type 0 where
-  Asks : ℕ → Asking → Standing
-  Tried : List Attempt → OneKey → Standing
-
--- what a call said, of the key as it left it
-abbrev pub standing_of : Answer → OneKey → Standing
-standing_of (answer.Asks clear waiting) one = Asks clear (asking waiting one)
-standing_of (answer.Tried trail) one = Tried trail one
-
--- how far an answer came, and the outbox then
-pub record AnswerState : Type 0 where
-  pub at : Standing
-  pub outbox : List ℕ
-
-abbrev pub answer_state : Standing → List ℕ → AnswerState
-answer_state at outbox = record { at = at; outbox = outbox }

@@ -2,10 +2,10 @@
 //! request, values that are joined, a silent request and the status are its states.
 ghost use Rattle.std.specs.Prelude.{◌≡◌, IfErr, IfOk, OnErr, OnOk, length};
 ghost use Rattle.tko_reply.specs.Answering.{Extends};
-ghost use Rattle.tko_reply.specs.Asking.{Begins, Continues, Ended, Goes, GoesTo, HasFront, IsJoined, Settles, begun, course_of, front_of};
+ghost use Rattle.tko_reply.specs.Asking.{Begins, Continues, Goes, GoesTo, HasFront, IsJoined, Settles, course_of, front_of};
 ghost use Rattle.tko_reply.specs.Cuts.{EndsBy, IsBeginCut, IsEndOf, KeyLost};
 ghost use Rattle.tko_reply.specs.Sends.{AfterSend, IsOutTo};
-ghost use Rattle.tko_reply.specs.Standing.{answer_state, asking, standing_of, whole_of};
+ghost use Rattle.tko_reply.specs.Standing.{asking, whole_of};
 ghost use Rattle.tko_pools.specs.Configs.{AreServers};
 ghost use Rattle.tko_route.specs.Routing.{GoesOn};
 ghost use Rattle.tko_route.specs.Trail.{form_at};
@@ -15,14 +15,13 @@ use crate::asking::joining::join_next;
 use crate::dropped::Dropped;
 use crate::keys_left::KeysLeft;
 use crate::outbox::Outbox;
-use crate::routes::begin_route;
+use crate::targets::find_targets;
 use std::alloc::Global;
 use std::sync::Wait;
 use tko_bytes::NoMemory;
 use tko_links::Outcome;
-use tko_model::Clear;
 use tko_pools::Config;
-use tko_route::{Health, Routed, Stage, Trail, Waiting};
+use tko_route::{Health, Stage, Waiting};
 use tko_text::Request;
 
 mod joining;
@@ -30,19 +29,12 @@ mod joining;
 /// The reply to `version`.
 const VERSION: &[u8] = b"VERSION tkoproxy 1\r\n";
 
-/// How far the answer to a key came. Nothing is borrowed, so that other requests may be answered
-/// between two calls; but nothing else is put into its outbox until the reply is complete.
-#[derive(Drop)]
-pub enum Answer {
-    /// The request of the key, as it is now, may be sent once to the server that the permission
-    /// names. What came of it is passed to `answered`.
-    Asks(Clear, Waiting),
-    /// These are the attempts at the key, and its response is in the outbox. `go_on` is next.
-    Tried(Trail),
-}
-
 /// One key of a request, in a request of its own. It is changed in place from one key to the next,
-/// since to move a request costs more than all that is decided about it.
+/// since to move a request costs more than all that is decided about it. How far it is, is the
+/// `Stage` of its routing: its request, as it is now, may be sent once, and what came of that is
+/// passed to `answered`; or the attempts at it have ended, its response is in the outbox, and
+/// `go_on` is next. Nothing is borrowed, so that other requests may be answered between two calls;
+/// but nothing else is put into its outbox until the reply is complete.
 #[derive(Drop)]
 pub struct OneKey {
     request: Request,
@@ -90,7 +82,7 @@ impl OneKey {
         requires whole { self.old ≡ whole_of self.old.request }
         ensures ok { IfOk result (λ keyed. GoesOn H.steps health.old
             (λ calls. Begins config.now self.old.request outbox.old calls
-            (begun keyed self.new outbox.new)) health.new) }
+            keyed self.new outbox.new) health.new) }
         ensures err { OnErr result (Extends outbox.old outbox.new) }
         ensures cut { OnErr result (GoesOn H.steps health.old
             (λ calls. IsBeginCut config.now self.old.request calls) health.new) }
@@ -123,12 +115,12 @@ impl OneKey {
         config: &Config,
         targets: &mut Vec<usize>,
         outbox: &mut Outbox,
-    ) -> Result<Answer, Dropped>
+    ) -> Result<Stage, Dropped>
         requires servers { H.servers health.old ≡ length config.now.addresses }
         requires front { HasFront self.old.share outbox.old }
-        ensures ok { IfOk result (λ answer. GoesOn H.steps health.old (λ calls. Goes
+        ensures ok { IfOk result (λ stage. GoesOn H.steps health.old (λ calls. Goes
             (course_of config.now targets.new.items self.old (without_noreply self.old.request))
-            calls outbox.old (answer_state (standing_of answer self.new) outbox.new)) health.new) }
+            calls outbox.old stage self.new outbox.new) health.new) }
         ensures targets { OnOk result (GoesTo config.now self.old.request targets.new.items) }
         ensures within { AreServers config.now targets.new.items }
         ensures err { OnErr result (Extends (front_of self.old.share outbox.old) outbox.new) }
@@ -136,7 +128,9 @@ impl OneKey {
             (λ calls. KeyLost config.now self.old.request calls trail) health.new) }
         ensures servers { H.servers health.new ≡ H.servers health.old }
     {
-        let stage = begin_route(rt, alloc, health, config, targets, &mut self.request)?;
+        find_targets(config, &self.request, targets)?;
+        let exptime = config.failover_exptime();
+        let stage = Stage::begin(rt, alloc, health, targets, &mut self.request, exptime)?;
         self.settle(outbox, stage)
     }
 
@@ -150,14 +144,14 @@ impl OneKey {
         outbox: &mut Outbox,
         waiting: Waiting,
         outcome: Outcome,
-    ) -> Result<Answer, Dropped>
+    ) -> Result<Stage, Dropped>
         requires servers { H.servers health.old ≡ length config.now.addresses }
         requires front { HasFront self.old.share outbox.old }
         requires out { IsOutTo config.now targets.now waiting }
-        ensures ok { IfOk result (λ answer. GoesOn H.steps health.old
+        ensures ok { IfOk result (λ stage. GoesOn H.steps health.old
             (λ more. AfterSend config.now (asking waiting self.old) outcome (λ original calls.
             Goes (course_of config.now targets.now self.old original) (calls more) outbox.old
-            (answer_state (standing_of answer self.new) outbox.new))) health.new) }
+            stage self.new outbox.new)) health.new) }
         ensures err { OnErr result (Extends (front_of self.old.share outbox.old) outbox.new) }
         ensures lost { IfErr result (λ trail. GoesOn H.steps health.old
             (λ more. AfterSend config.now (asking waiting self.old) outcome (λ original calls.
@@ -171,31 +165,20 @@ impl OneKey {
         self.settle(outbox, stage)
     }
 
-    /// Sends the request, or ends the key.
-    fn settle(&mut self, outbox: &mut Outbox, stage: Stage) -> Result<Answer, Dropped>
+    /// Puts the response to the key into the reply where the attempts at it have ended.
+    fn settle(&mut self, outbox: &mut Outbox, stage: Stage) -> Result<Stage, Dropped>
         requires front { HasFront self.old.share outbox.old }
-        ensures ok { IfOk result (λ answer. Settles stage self.old outbox.old
-            (answer_state (standing_of answer self.new) outbox.new)) }
+        ensures same { IfOk result (λ at. at ≡ stage) }
+        ensures ok { OnOk result (Settles stage self.old outbox.old self.new outbox.new) }
         ensures err { OnErr result (Extends (front_of self.old.share outbox.old) outbox.new) }
         ensures lost { IfErr result (λ trail. IsEndOf stage trail) }
     {
         match stage {
-            Stage::Away(clear, waiting) => Ok(Answer::Asks(clear, waiting)),
-            Stage::Done(routed) => self.end(outbox, routed),
-        }
-    }
-
-    /// Puts the response to the key into the reply.
-    fn end(&mut self, outbox: &mut Outbox, routed: Routed) -> Result<Answer, Dropped>
-        requires front { HasFront self.old.share outbox.old }
-        ensures ok { IfOk result (λ answer. Ended routed.trail self.old outbox.old
-            (answer_state (standing_of answer self.new) outbox.new)) }
-        ensures err { OnErr result (Extends (front_of self.old.share outbox.old) outbox.new) }
-        ensures lost { IfErr result (λ trail. trail ≡ routed.trail) }
-    {
-        match self.put(outbox, routed.response()) {
-            Ok(()) => Ok(Answer::Tried(routed.trail)),
-            Err(_) => Err(Dropped::after(routed.trail)),
+            Stage::Away(clear, waiting) => Ok(Stage::Away(clear, waiting)),
+            Stage::Done(trail) => match self.put(outbox, trail.response()) {
+                Ok(()) => Ok(Stage::Done(trail)),
+                Err(_) => Err(Dropped::after(trail)),
+            },
         }
     }
 
@@ -203,7 +186,7 @@ impl OneKey {
     /// reply ends. Returns whether there is a key to ask for.
     pub fn go_on(&mut self, outbox: &mut Outbox) -> Result<bool, NoMemory>
         ensures ok { IfOk result (λ keyed. Continues self.old outbox.old
-            (begun keyed self.new outbox.new)) }
+            keyed self.new outbox.new) }
         ensures joined { OnErr result (IsJoined self.old.share) }
         ensures err { OnErr result (outbox.new ≡ outbox.old) }
     {

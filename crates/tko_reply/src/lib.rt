@@ -1,10 +1,10 @@
 //! One request of a client, answered by the proxy itself or key by key.
 //!
 //! - `OneKey`: a key of a request as a value that sends nothing itself, changed in place to the
-//!   next one. Its calls are lent the servers' health and the configuration, and return an
-//!   `Answer`: how far the key came. Where memory runs out they return the `Dropped` attempts;
-//!   `stop` does where it runs out at a send. The reply is put at the end of an `Outbox`, the
-//!   replies that wait to be written.
+//!   next one. Its calls are lent the servers' health and the configuration, and return how far
+//!   the key came, the `Stage` of its routing. Where memory runs out they return the `Dropped`
+//!   attempts; `stop` does where it runs out at a send. The reply is put at the end of an `Outbox`,
+//!   the replies that wait to be written.
 //! - `Parts`: what a session is served over: the `Backend` of the worker, the configuration, and
 //!   `Trails`, which records each request and each trail. `Kept` keeps the trails, and `Counts`
 //!   of tko_model counts what is in them.
@@ -18,11 +18,11 @@ mod keys_left;
 mod outbox;
 mod parts;
 mod requests;
-mod routes;
 mod status_text;
+mod targets;
 mod trails;
 
-pub use asking::{Answer, OneKey};
+pub use asking::OneKey;
 pub use dropped::{Dropped, stop};
 pub use outbox::Outbox;
 pub use parts::Parts;

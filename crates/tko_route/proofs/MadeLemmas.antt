@@ -1,5 +1,5 @@
 -- Laws of a whole route: what each call of a routing, and each send between two calls, adds to it.
-use Rattle.std.proofs.Common.{◌≡◌, ℕ, ◌+◌, List, [], ◌∷◌, ◌++◌, length, Ok, Err, refl, ap, subst, arith, ◌∙◌, map, append_assoc, inr}
+use Rattle.std.proofs.Common.{◌≡◌, ℕ, ◌+◌, List, [], ◌∷◌, ◌++◌, length, Ok, Err, refl, ap, subst, arith, ◌∙◌, map, append_assoc, inr, Bool}
 use Rattle.std.specs.Prelude.{sum_by}
 use Rattle.std.proofs.lemmas.List.Sums.{sum_by-append}
 use Rattle.tko_model.specs.declared.mark.Reply.TheVariants as reply
@@ -11,7 +11,8 @@ use Rattle.tko_links.specs.declared.links.Outcome.{Outcome}
 use Rattle.tko_links.specs.Links.{part_of}
 use Rattle.tko_route.specs.Calls.{Upstream, Call, Came, Does, IsExchange, Told, came, look_up, sends_of}
 use Rattle.tko_route.specs.Routing.{FindsUp}
-use Rattle.tko_route.specs.Trail.{Cut, IsCut, IsCutTrail, IsRouted, IsTrail, Makes, Way, next_target, sends_in}
+use Rattle.tko_route.specs.Trail.{IsCut, IsCutTrail, IsRouted, IsTrail, Makes, next_target, sends_in}
+use Rattle.tko_route.specs.declared.attempt.Attempt.{Attempt}
 use Rattle.tko_route.proofs.TrailLemmas.{sends_by_trail}
 
 module _ {H L : Type 0} (upstream : Upstream H L) where
@@ -44,10 +45,10 @@ module _ {H L : Type 0} (upstream : Upstream H L) where
       omega (arith, split, sends_by_step s old call mid step, sends_by_calls s mid calls new rest)
 
   -- a request was routed
-  pub is_routed : {old new : H × L} {calls : List Call} {way : Way} → Gains (Does upstream) old calls new
-      → IsTrail way.targets way.trail → Makes way.form calls way.trail → IsRouted upstream old way new
-  is_routed {old} {new} {calls} {way} gains whole make = record {
-    trail = whole;
+  pub is_routed : {old new : H × L} {targets : List ℕ} {form : ℕ → Request} {calls : List Call} {trail : List Attempt} → Gains (Does upstream) old calls new
+      → IsTrail targets trail → Makes form calls trail → IsRouted upstream targets form old trail new
+  is_routed {old} {new} {targets} {form} {calls} {trail} gains whole make = record {
+    tried = whole;
     attempts = record { calls = calls; make = make; gains = gains };
     sends = λ s. omega (arith, sends_by_calls s old calls new gains.leads, sends_by_trail s make);
   }
@@ -70,20 +71,18 @@ module _ {H L : Type 0} (upstream : Upstream H L) where
       subst P (append_assoc calls (item ∷ []) (map Told items)) (gains_told sent more)
 
   -- memory ran out at the exchange
-  pub is_cut : {old : H × L} {health : H} {links after : L} {calls : List Call} {cut : Cut} {server clear : ℕ}
-      {request : Request}
+  pub is_cut : {old : H × L} {health : H} {links after : L} {targets : List ℕ} {form : ℕ → Request} {calls : List Call} {trail : List Attempt} {was_sent : Bool}
+      {server clear : ℕ} {request : Request}
       → Gains (Does upstream) old calls (health, links)
-      → FindsUp cut.way.form calls cut.way.trail server
-      → IsCutTrail cut.way.targets cut.way.trail
-      → server ≡ next_target cut.way.targets cut.way.trail
+      → FindsUp form calls trail server
+      → IsCutTrail targets trail
+      → server ≡ next_target targets trail
       → clear ≡ server
-      → IsExchange upstream links (record { server = clear; request = request; result = Err (record { sent = cut.sent }) }) after
-      → request ≡ cut.way.form (length cut.way.trail)
-      → IsCut upstream old cut (health, after)
-  is_cut {old} {health} {links} {after} {calls} {cut} {server} {clear} {request} front up tried at names exchange form_is =
-      let form = cut.way.form in
-      let trail = cut.way.trail in
-      let fault : NoMemory = record { sent = cut.sent } in
+      → IsExchange upstream links (record { server = clear; request = request; result = Err (record { sent = was_sent }) }) after
+      → request ≡ form (length trail)
+      → IsCut upstream targets form old trail was_sent (health, after)
+  is_cut {old} {health} {links} {after} {targets} {form} {calls} {trail} {was_sent} {server} {clear} {request} front up tried at names exchange form_is =
+      let fault : NoMemory = record { sent = was_sent } in
       let item = came server (form (length trail)) (Err fault) in
       let look = look_up server (reply.Up up.count) in
       let Q : ℕ → Request → Type 0 = λ n r. IsExchange upstream links (record { server = n; request = r; result = Err fault }) after in
@@ -94,11 +93,11 @@ module _ {H L : Type 0} (upstream : Upstream H L) where
       ap (λ list. list ++ item ∷ []) up.is ∙ append_assoc up.before (look ∷ []) (item ∷ []) in
       let gains = subst P grown sent in
       let count : (s : ℕ) → sum_by (sends_of s) (up.before ++ look ∷ item ∷ [])
-      ≡ sum_by (sends_of s) up.before + (0 + 0 + part_of cut.sent server s) =
+      ≡ sum_by (sends_of s) up.before + (0 + 0 + part_of was_sent server s) =
       λ s. sum_by-append (sends_of s) up.before (look ∷ item ∷ []) in
-      let N : ℕ → Type 0 = λ n. (s : ℕ) → upstream.sent after s ≡ upstream.sent old.1 s + sends_in s trail + part_of cut.sent n s in
+      let N : ℕ → Type 0 = λ n. (s : ℕ) → upstream.sent after s ≡ upstream.sent old.1 s + sends_in s trail + part_of was_sent n s in
       record {
-        trail = tried;
+        tried = tried;
         attempts = inr (record {
           calls = up.before;
           make = up.make;

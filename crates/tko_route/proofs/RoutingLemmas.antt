@@ -1,5 +1,5 @@
 -- Laws of a routing: what look-ups and outcomes add to its attempts, and to those of a whole route.
-use Rattle.std.proofs.Common.{◌≡◌, ℕ, ◌-◌, ◌<◌, List, [], ◌∷◌, ◌++◌, length, Option, Some, None, Ok, refl, sym, ap, subst, arith, ◌∙◌, ◌⊎◌, inl, inr, IsSome, get_or, slice_get, append-nil, map, take}
+use Rattle.std.proofs.Common.{◌≡◌, ℕ, ◌-◌, ◌<◌, List, [], ◌∷◌, ◌++◌, length, Option, Some, None, Ok, refl, sym, ap, subst, arith, ◌∙◌, ◌⊎◌, inl, inr, IsSome, get_or, slice_get, map, take}
 use Rattle.std.proofs.lemmas.List.{append_assoc, map-append}
 use Rattle.std.proofs.Math.Seq.{get_or-append_seam}
 use Rattle.std.proofs.lemmas.Bool.{false≢true}
@@ -10,7 +10,7 @@ use Rattle.std.specs.Option.{option_and_then}
 use Rattle.tko_model.specs.declared.mark.Mark.{Mark}
 use Rattle.tko_model.specs.declared.mark.Op.TheVariants.{LookUp}
 use Rattle.tko_model.specs.declared.mark.Reply.TheVariants as reply
-use Rattle.tko_model.specs.Records.{Gains, HealthItem, Called}
+use Rattle.tko_model.specs.Records.{HealthItem, Called}
 use Rattle.tko_model.proofs.RecordLemmas.{gains_append, gains_none, gains_one, gains_push}
 use Rattle.tko_text.specs.declared.request.Request.{Request}
 use Rattle.tko_links.specs.declared.links.Outcome.{Outcome}
@@ -18,11 +18,12 @@ use Rattle.tko_links.specs.declared.links.Outcome.TheVariants as outcome
 use Rattle.tko_route.specs.declared.attempt.Attempt.{Attempt}
 use Rattle.tko_route.specs.declared.attempt.Attempt.TheVariants as attempt
 use Rattle.tko_route.specs.Calls.{Call, Told, came, look_up}
-use Rattle.tko_route.specs.Routing.{FindsUp, GoesOn, IsAwaited, IsTried, IsUnderway, Reached, came_of}
+use Rattle.tko_route.specs.Routing.{FindsUp, GoesOn, IsAwaited, IsConcluded, IsTried, Reached, came_of}
 use Rattle.tko_route.specs.Trail.{Ends, IsAnswer, IsAttempt, IsTrail, LastAnswered, Makes, NoneAnswered, answer_of, next_target, outcome_of, response_of, server_of}
 use Rattle.tko_route.proofs.TrailLemmas.{makes_pushed}
 use Rattle.tko_route.specs.declared.routing.Stage.{Stage}
-use Rattle.tko_route.specs.Underway.{Awaited, Underway}
+use Rattle.tko_route.specs.declared.routing.Stage.TheVariants as stage
+use Rattle.tko_route.specs.Underway.{Awaited}
 
 -- an answer is the last attempt's
 last_answered : (trail : List Attempt) → NoneAnswered trail ⊎ LastAnswered trail
@@ -80,35 +81,40 @@ servers_pushed : (targets : List ℕ) (trail : List Attempt) (last : Attempt)
     → map server_of (trail ++ last ∷ []) ≡ take (length (trail ++ last ∷ [])) targets
 servers_pushed targets trail last before shorter at = grind (arith, common_steps)
 
--- a routing goes on after an attempt at the server that it waited for
-pub underway_again : {targets : List ℕ} {waiting : Awaited} {routing : Underway} (last : Attempt)
+-- one attempt more, at the server that was waited for
+pub concluded_again : {targets : List ℕ} {waiting : Awaited} {trail : List Attempt} (last : Attempt)
     → IsAwaited targets waiting → server_of last ≡ waiting.server
-    → routing.attempts ≡ waiting.attempts ++ last ∷ [] → routing.room ≡ waiting.room
-    → IsUnderway targets routing
-underway_again {targets} {waiting} {routing} last awaited at parts room =
+    → trail ≡ waiting.attempts ++ last ∷ [] → IsConcluded targets trail
+concluded_again {targets} {waiting} {trail} last awaited at parts =
     let P : List Attempt → Type 0 = λ list. map server_of list ≡ take (length list) targets in
     let Q : List Attempt → Type 0 = λ list. NoneAnswered list ⊎ LastAnswered list in
     record {
       servers = subst P (sym parts) (servers_pushed targets waiting.attempts last awaited.tried.servers awaited.tried.shorter (at ∙ awaited.server));
-      room = rw room awaited.room;
       answers = subst Q (sym parts) (answers_pushed waiting.attempts last awaited.tried.unanswered);
     }
 
--- a routing whose last attempt was answered is done
-pub is_done : {targets : List ℕ} {routing : Underway} {trail : List Attempt} → IsUnderway targets routing
-    → IsSome (answer_of routing.attempts) → trail ≡ routing.attempts → IsTrail targets trail
-is_done {targets} {routing} underway answered e =
-    let P : List Attempt → Type 0 = λ list. IsTrail targets list in
-    subst P (sym e) (record {
-      servers = underway.servers;
-      ends = inr (last_answered routing.attempts underway.answers answered);
+-- attempts of which the last was answered are a trail
+pub is_done : {targets : List ℕ} {attempts trail : List Attempt} → IsConcluded targets attempts
+    → IsSome (answer_of attempts) → trail ≡ attempts → IsTrail targets trail
+is_done {targets} {attempts} concluded answered e =
+    subst (IsTrail targets) (sym e) (record {
+      servers = concluded.servers;
+      ends = inr (last_answered attempts concluded.answers answered);
     })
 
--- a routing whose last attempt was not answered goes on
-pub is_tried : {targets : List ℕ} {routing : Underway} → IsUnderway targets routing
-    → ¬ IsSome (answer_of routing.attempts) → IsTried targets routing.attempts
-is_tried {targets} {routing} underway none =
-    record { servers = underway.servers; unanswered = none_answered routing.attempts underway.answers none }
+-- where the last was not answered, the next target is tried
+pub is_tried : {targets : List ℕ} {attempts : List Attempt} → IsConcluded targets attempts
+    → ¬ IsSome (answer_of attempts) → IsTried targets attempts
+is_tried {targets} {attempts} concluded none =
+    record { servers = concluded.servers; unanswered = none_answered attempts concluded.answers none }
+
+-- all targets were tried, and none answered
+pub all_tried : {targets : List ℕ} {attempts trail : List Attempt} → IsTried targets attempts
+    → ¬ (length attempts < length targets) → trail ≡ attempts → IsTrail targets trail
+all_tried {targets} {attempts} tried none e =
+    let fits : length attempts ≡ length (take (length attempts) targets) = grind (arith, common_steps) in
+    let all : length attempts ≡ length targets = grind (arith, common_steps) in
+    subst (IsTrail targets) (sym e) (record { servers = tried.servers; ends = inl (all, tried.unanswered) })
 
 -- one call more
 one_told : (calls : List Call) (items : List HealthItem) (item : HealthItem)
@@ -132,18 +138,32 @@ module _ {H : Type 0} {steps : H → HealthItem → H → Type 0} where
       }
 
   -- then a server was found up
-  pub found_up : {old mid new : H} {was trail : List Attempt} {clear : ℕ} (server count : ℕ)
-      → clear ≡ server → GoesOn steps old (λ more. (form : ℕ → Request) (calls : List Call) → Makes form calls was → Makes form (calls ++ more) trail) mid
-      → steps mid (Called LookUp server (reply.Up count)) new
-      → GoesOn steps old (λ more. (form : ℕ → Request) (calls : List Call) → Makes form calls was → FindsUp form (calls ++ more) trail clear) new
-  found_up {old} {mid} {new} {was} {trail} {clear} server count names on step =
-      let item = Called LookUp server (reply.Up count) in
-      let P : ℕ → Type 0 = λ n. GoesOn steps old (λ more. (form : ℕ → Request) (calls : List Call) → Makes form calls was → FindsUp form (calls ++ more) trail n) new in
-      subst P (sym names) (record {
+  pub found_up : {old mid new : H} {was : List Attempt} {targets : List ℕ} {clear : ℕ} (waiting : Awaited) (count : ℕ)
+      → IsAwaited targets waiting → clear ≡ waiting.server
+      → GoesOn steps old (λ more. (form : ℕ → Request) (calls : List Call) → Makes form calls was → Makes form (calls ++ more) waiting.attempts) mid
+      → steps mid (Called LookUp waiting.server (reply.Up count)) new
+      → GoesOn steps old (λ more. (form : ℕ → Request) (calls : List Call) → Makes form calls was → Reached targets form (calls ++ more) (stage.Away clear waiting)) new
+  found_up waiting count awaited names on step =
+      let item = Called LookUp waiting.server (reply.Up count) in
+      record {
         items = on.items ++ item ∷ [];
         gains = gains_push on.gains step;
-        is = λ form calls make. record { before = calls ++ map Told on.items; make = on.is form calls make; count = count; is = one_told calls on.items item };
-      })
+        is = λ form calls make. (
+          awaited,
+          names,
+          record { before = calls ++ map Told on.items; make = on.is form calls make; count = count; is = one_told calls on.items item },
+        );
+      }
+
+  -- or no target was left
+  pub none_left : {old new : H} {was attempts trail : List Attempt} (targets : List ℕ) → IsTrail targets trail → trail ≡ attempts
+      → GoesOn steps old (λ more. (form : ℕ → Request) (calls : List Call) → Makes form calls was → Makes form (calls ++ more) attempts) new
+      → GoesOn steps old (λ more. (form : ℕ → Request) (calls : List Call) → Makes form calls was → Reached targets form (calls ++ more) (stage.Done trail)) new
+  none_left targets whole e on = record {
+    items = on.items;
+    gains = on.gains;
+    is = λ form calls make. (whole, subst (Makes form (calls ++ map Told on.items)) (sym e) (on.is form calls make));
+  }
 
   -- the calls of an attempt whose outcome is not recorded
   unrecorded : (old new : H) (it : Attempt) (at server : ℕ) (none got : Outcome)
@@ -199,14 +219,17 @@ module _ {H : Type 0} {steps : H → HealthItem → H → Type 0} where
             (ap (λ list. list ++ item ∷ map Told on.items) up.is ∙ append_assoc up.before (look ∷ []) (item ∷ map Told on.items)) e;
       }
 
-  -- an answered routing is done without a call
-  pub done_at_once : (targets : List ℕ) (at : H) {trail all : List Attempt}
-      → IsTrail targets all → all ≡ trail
-      → GoesOn steps at (λ more. (form : ℕ → Request) (calls : List Call) → Makes form calls trail → IsTrail targets all × Makes form (calls ++ more) all) at
-  done_at_once targets at {trail} {all} whole e = record {
-    items = [];
-    gains = gains_none at;
-    is = λ form calls make. (whole, subst (λ cs. Makes form cs all) (sym (append-nil calls)) (subst (λ list. Makes form calls list) (sym e) make));
+  -- what came of a send was an answer
+  pub done_then : {old new : H} {attempts trail : List Attempt} (targets : List ℕ) (waiting : Awaited) (got : Outcome)
+      → IsTrail targets trail → trail ≡ attempts
+      → GoesOn steps old (λ more. (form : ℕ → Request) (calls : List Call) → FindsUp form calls waiting.attempts waiting.server
+      → Makes form (calls ++ came_of form waiting got ∷ more) attempts) new
+      → GoesOn steps old (λ more. (form : ℕ → Request) (calls : List Call) → FindsUp form calls waiting.attempts waiting.server
+      → Reached targets form (calls ++ came_of form waiting got ∷ more) (stage.Done trail)) new
+  done_then targets waiting got whole e on = record {
+    items = on.items;
+    gains = on.gains;
+    is = λ form calls up. (whole, subst (Makes form (calls ++ came_of form waiting got ∷ map Told on.items)) (sym e) (on.is form calls up));
   }
 
   -- what came of a send was recorded, and then health was asked more

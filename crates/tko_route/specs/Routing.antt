@@ -2,7 +2,7 @@
 -- attempt at a server that is up has two halves: its look-up, and what came of the send with the
 -- call that records it. The other calls of the servers' health may stand between the halves, so
 -- each half is told over whatever calls of the request stood before.
-use Rattle.std.specs.Prelude.{◌≡◌, ℕ, ◌≤◌, ◌-◌, ◌⊎◌, List, [], ◌∷◌, ◌++◌, length, map, take, Option, Some, None, Ok}
+use Rattle.std.specs.Prelude.{◌≡◌, ℕ, ◌≤◌, ◌-◌, ◌⊎◌, List, [], ◌∷◌, ◌++◌, length, map, take, Ok}
 use Rattle.tko_model.specs.declared.mark.Reply.TheVariants as reply
 use Rattle.tko_model.specs.Records.{Gains, HealthItem}
 use Rattle.tko_text.specs.declared.request.Request.{Request}
@@ -12,14 +12,12 @@ use Rattle.tko_route.specs.declared.attempt.Attempt.{Attempt}
 use Rattle.tko_route.specs.declared.routing.Stage.{Stage}
 use Rattle.tko_route.specs.declared.routing.Stage.TheVariants as stage
 use Rattle.tko_route.specs.Trail.{IsCutTrail, IsTrail, LastAnswered, Makes, NoneAnswered, form_at, next_target, server_of}
-use Rattle.tko_route.specs.Underway.{Underway, Awaited}
+use Rattle.tko_route.specs.Underway.{Awaited}
 
--- nothing is sent: the attempts are at the targets in order, with room for one at each target, and
--- none but the last was answered
-pub record IsUnderway (targets : List ℕ) (routing : Underway) : Type 0 where
-  pub servers : map server_of routing.attempts ≡ take (length routing.attempts) targets
-  pub room : length targets ≤ routing.room
-  pub answers : NoneAnswered routing.attempts ⊎ LastAnswered routing.attempts
+-- the attempts are at targets in order, and none but the last was answered
+pub record IsConcluded (targets : List ℕ) (trail : List Attempt) : Type 0 where
+  pub servers : map server_of trail ≡ take (length trail) targets
+  pub answers : NoneAnswered trail ⊎ LastAnswered trail
 
 -- the request was sent to the target after those of the attempts, of which none was answered
 pub record IsAwaited (targets : List ℕ) (waiting : Awaited) : Type 0 where
@@ -32,11 +30,6 @@ pub record IsTried (targets : List ℕ) (trail : List Attempt) : Type 0 where
   pub servers : map server_of trail ≡ take (length trail) targets
   pub unanswered : NoneAnswered trail
 
--- the next target after these attempts, of which none was answered
-pub record IsNext (targets : List ℕ) (trail : List Attempt) (server : ℕ) : Type 0 where
-  pub tried : IsCutTrail targets trail
-  pub is : server ≡ next_target targets trail
-
 -- these calls made a trail, and then found this server up
 pub record FindsUp (form : ℕ → Request) (calls : List Call) (trail : List Attempt) (server : ℕ)
     : Type 0 where
@@ -44,11 +37,6 @@ pub record FindsUp (form : ℕ → Request) (calls : List Call) (trail : List At
   pub make : Makes form before trail
   pub count : ℕ
   pub is : calls ≡ before ++ look_up server (reply.Up count) ∷ []
-
--- these calls made a trail, and then found a server up, if there is one
-abbrev pub Finds : (ℕ → Request) → List Call → List Attempt → Option ℕ → Type 0
-Finds form calls trail (Some server) = FindsUp form calls trail server
-Finds form calls trail None = Makes form calls trail
 
 -- health was asked or told more, and with that this is reached
 pub record GoesOn {H : Type 0} (steps : H → HealthItem → H → Type 0) (old : H)
@@ -73,21 +61,14 @@ abbrev pub Reached : List ℕ → (ℕ → Request) → List Call → Stage → 
 Reached targets form calls (stage.Away clear waiting) =
     IsAwaited targets waiting × (clear ≡ waiting.server)
     × FindsUp form calls waiting.attempts waiting.server
-Reached targets form calls (stage.Done routed) =
-    IsTrail targets routed.trail × Makes form calls routed.trail
+Reached targets form calls (stage.Done trail) = IsTrail targets trail × Makes form calls trail
 
 -- how many attempts there are
 abbrev pub tries : Stage → ℕ
 tries (stage.Away clear waiting) = length waiting.attempts
-tries (stage.Done routed) = length routed.trail
+tries (stage.Done trail) = length trail
 
--- the place of the target that was looked at last, where look-ups made this many attempts and then
--- found a server up, or found none
-abbrev pub place_of : Option ℕ → ℕ → ℕ
-place_of (Some server) count = count
-place_of None count = count - 1
-
--- the same, of a stage
+-- the place of the target that was looked at last
 abbrev pub last_place : Stage → ℕ
 last_place (stage.Away clear waiting) = length waiting.attempts
-last_place (stage.Done routed) = length routed.trail - 1
+last_place (stage.Done trail) = length trail - 1

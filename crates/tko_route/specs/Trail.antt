@@ -8,7 +8,7 @@ use Rattle.tko_model.specs.declared.mark.Reply.TheVariants as reply
 use Rattle.tko_model.specs.Records.{Gains, HealthItem, Called}
 use Rattle.tko_text.specs.declared.request.Request.{Request}
 use Rattle.tko_text.specs.declared.response.Response.{Response}
-use Rattle.tko_text.specs.SentRequests.{with_replaced_expiry, without_noreply}
+use Rattle.tko_text.specs.SentRequests.{with_replaced_expiry}
 use Rattle.tko_links.specs.declared.links.Outcome.{Outcome}
 use Rattle.tko_links.specs.declared.links.Outcome.TheVariants as outcome
 use Rattle.tko_route.specs.declared.attempt.Attempt.{Attempt}
@@ -101,18 +101,14 @@ pub record IsCutTrail (targets : List ℕ) (trail : List Attempt) : Type 0 where
 abbrev pub next_target : List ℕ → List Attempt → ℕ
 next_target targets trail = slice_index targets (length trail)
 
--- what was recorded of a server: an operation, if there is one, and its reply
-pub record Report : Type 0 where
-  pub server : ℕ
-  pub op : Option Op
-  pub reply : Option Reply
-
--- this operation was called and got that reply; without an operation nothing changed
-abbrev pub IsRecorded : {H : Type 0} → (H → HealthItem → H → Type 0) → H → Report → H → Type 0
-IsRecorded steps old report new =
-    MatchOption report.op ((report.reply ≡ None) × (new ≡ old))
-    (λ op. (reply : Reply) × (report.reply ≡ Some reply)
-    × steps old (Called op report.server reply) new)
+-- this operation, if there is one, was called of a server, and got this reply; without an operation
+-- nothing changed
+abbrev pub IsRecorded : {H : Type 0} → (H → HealthItem → H → Type 0) → H → ℕ → Option Op
+    → Option Reply → H → Type 0
+IsRecorded steps old server op reply new =
+    MatchOption op ((reply ≡ None) × (new ≡ old))
+    (λ called. (answer : Reply) × (reply ≡ Some answer)
+    × steps old (Called called server answer) new)
 
 -- an attempt ended so: what came of its exchange was recorded, by the table of outcomes, which
 -- records nothing of an aborted exchange and of one that sent nothing
@@ -166,73 +162,49 @@ Adds form before it after =
 pub record Makes (form : ℕ → Request) (calls : List Call) (trail : List Attempt) : Type 0 where
   pub adds : Gains (Adds form) [] (placed_from 0 trail) calls
 
--- a request that goes to these targets, in the form of each place, and its trail
-pub record Way : Type 0 where
-  pub targets : List ℕ
-  pub form : ℕ → Request
-  pub trail : List Attempt
-
--- the way of a request over these targets, with this replaced expiry
-abbrev pub way : List ℕ → ℕ → Request → List Attempt → Way
-way targets exptime request trail = record {
-  targets = targets;
-  form = form_at exptime (without_noreply request);
-  trail = trail;
-}
-
--- the attempts of a trail were made at the servers
-pub record Attempts {H L : Type 0} (upstream : Upstream H L) (old : H × L) (way : Way) (new : H × L)
-    : Type 0 where
-  pub calls : List Call
-  pub make : Makes way.form calls way.trail
-  pub gains : Gains (Does upstream) old calls new
-
--- a request was routed, and each server's count of sends rose by the attempts that sent to it
-pub record IsRouted {H L : Type 0} (upstream : Upstream H L) (old : H × L) (way : Way) (new : H × L)
-    : Type 0 where
-  pub trail : IsTrail way.targets way.trail
-  pub attempts : Attempts upstream old way new
-  pub sends : (server : ℕ)
-      → upstream.sent new.1 server ≡ upstream.sent old.1 server + sends_in server way.trail
-
--- the trail of a request until memory ran out, and whether one more request was sent
-pub record Cut : Type 0 where
-  pub way : Way
-  pub sent : Bool
-
-abbrev pub cut : Way → Bool → Cut
-cut way sent = record { way = way; sent = sent }
+module _ {H L : Type 0} (upstream : Upstream H L) (form : ℕ → Request) where
+  -- the attempts of a trail were made at the servers, with the request in the form of each place
+  pub record Attempts (old : H × L) (trail : List Attempt) (new : H × L) : Type 0 where
+    pub calls : List Call
+    pub make : Makes form calls trail
+    pub gains : Gains (Does upstream) old calls new
 
 -- memory ran out before the first attempt
-pub record NothingDone {S : Type 0} (old : S) (cut : Cut) (new : S) : Type 0 where
-  pub untried : cut.way.trail ≡ []
-  pub unsent : cut.sent ≡ false
+pub record NothingDone {S : Type 0} (old : S) (trail : List Attempt) (sent : Bool) (new : S)
+    : Type 0 where
+  pub untried : trail ≡ []
+  pub unsent : sent ≡ false
   pub same : new ≡ old
 
--- these attempts were made, a look-up found the next target up, and memory ran out at the exchange
--- with it
-pub record RanShort {H L : Type 0} (upstream : Upstream H L) (old : H × L) (cut : Cut) (new : H × L)
-    : Type 0 where
-  pub calls : List Call
-  pub make : Makes cut.way.form calls cut.way.trail
-  pub server : ℕ
-  pub is_next : server ≡ next_target cut.way.targets cut.way.trail
-  pub count : ℕ
-  pub gains : Gains (Does upstream) old
-      (calls ++ look_up server (reply.Up count)
-      ∷ came server (cut.way.form (length cut.way.trail)) (Err (record { sent = cut.sent })) ∷ [])
-      new
+module _ {H L : Type 0} (upstream : Upstream H L) (targets : List ℕ) (form : ℕ → Request) where
+  -- a request was routed over these targets, in the form of each place, and each server's count of
+  -- sends rose by the attempts that sent to it
+  pub record IsRouted (old : H × L) (trail : List Attempt) (new : H × L) : Type 0 where
+    pub tried : IsTrail targets trail
+    pub attempts : Attempts upstream form old trail new
+    pub sends : (server : ℕ)
+        → upstream.sent new.1 server ≡ upstream.sent old.1 server + sends_in server trail
 
--- memory ran out: before the first attempt, or at the target after those of the trail
-abbrev pub CutShort : {H L : Type 0} → Upstream H L → H × L → Cut → H × L → Type 0
-CutShort upstream old cut new = NothingDone old cut new ⊎ RanShort upstream old cut new
+  -- these attempts were made, a look-up found the next target up, and memory ran out at the
+  -- exchange with it, which sent the request or did not
+  pub record RanShort (old : H × L) (trail : List Attempt) (sent : Bool) (new : H × L)
+      : Type 0 where
+    pub calls : List Call
+    pub make : Makes form calls trail
+    pub server : ℕ
+    pub is_next : server ≡ next_target targets trail
+    pub count : ℕ
+    pub gains : Gains (Does upstream) old
+        (calls ++ look_up server (reply.Up count)
+        ∷ came server (form (length trail)) (Err (record { sent = sent })) ∷ [])
+        new
 
--- memory ran out in a routed request: each server's count of sends rose by the attempts that sent
--- to it, and that of the next target by one more if a request was sent to it
-pub record IsCut {H L : Type 0} (upstream : Upstream H L) (old : H × L) (cut : Cut) (new : H × L)
-    : Type 0 where
-  pub trail : IsCutTrail cut.way.targets cut.way.trail
-  pub attempts : CutShort upstream old cut new
-  pub sends : (server : ℕ) → upstream.sent new.1 server
-      ≡ upstream.sent old.1 server + sends_in server cut.way.trail
-      + part_of cut.sent (next_target cut.way.targets cut.way.trail) server
+  -- memory ran out in a routed request, before the first attempt or at the target after those of
+  -- the trail: each server's count of sends rose by the attempts that sent to it, and that of the
+  -- next target by one more if a request was sent to it
+  pub record IsCut (old : H × L) (trail : List Attempt) (sent : Bool) (new : H × L) : Type 0 where
+    pub tried : IsCutTrail targets trail
+    pub attempts : NothingDone old trail sent new ⊎ RanShort old trail sent new
+    pub sends : (server : ℕ) → upstream.sent new.1 server
+        ≡ upstream.sent old.1 server + sends_in server trail
+        + part_of sent (next_target targets trail) server

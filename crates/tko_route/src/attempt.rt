@@ -4,6 +4,7 @@ ghost use Rattle.std.specs.Prelude.{◌≡◌};
 use std::marker::Model;
 use tko_links::Outcome;
 use tko_model::{Mark, Reply};
+use tko_text::Response;
 
 /// One attempt at a target.
 #[derive(Debug, Drop)]
@@ -47,6 +48,9 @@ impl Model for Trail {
 }
 
 impl Trail {
+    ghost use Rattle.std.specs.Option.{option_copied};
+    ghost use Rattle.tko_route.specs.Trail.{answer_of};
+
     pub(crate) fn of(attempts: Vec<Attempt>) -> Trail
         ensures { result ≡ attempts.items }
     {
@@ -57,5 +61,15 @@ impl Trail {
         ensures { result.now ≡ self.now }
     {
         self.attempts.as_slice()
+    }
+
+    /// The response of the last attempt, if it got one.
+    pub fn response(&self) -> Option<&Response>
+        ensures { option_copied result ≡ answer_of self.now }
+    {
+        match self.attempts.last() {
+            Some(Attempt::Sent(_, Outcome::Reply(response), _)) => Some(response),
+            _ => None,
+        }
     }
 }

@@ -1,7 +1,7 @@
 //! Failover: a request is sent to one target after another until one answers.
 ghost use Rattle.std.specs.Prelude.{◌≡◌, ◌-◌, ◌<◌, ℕ, All, IfErr, IfOk, length};
 ghost use Rattle.tko_route.specs.Calls.{upstream};
-ghost use Rattle.tko_route.specs.Trail.{IsCut, IsRouted, cut, form_at, way};
+ghost use Rattle.tko_route.specs.Trail.{IsCut, IsRouted, form_at};
 ghost use Rattle.tko_text.specs.SentRequests.{without_noreply};
 
 use crate::routed::{RouteFault, Routed};
@@ -29,11 +29,11 @@ pub fn route<R: IoRuntime, H: Health, L: Links>(
     requires health { All (λ target. target < H.servers health.old) targets.now }
     requires links { All (λ target. target < L.servers links.old) targets.now }
     ensures ok { IfOk result (λ routed. IsRouted (upstream H.Health L.Links)
-        (health.old, links.old) (way targets.now exptime request.old routed.trail)
-        (health.new, links.new)) }
+        targets.now (form_at exptime (without_noreply request.old))
+        (health.old, links.old) routed.trail (health.new, links.new)) }
     ensures err { IfErr result (λ fault. IsCut (upstream H.Health L.Links)
-        (health.old, links.old) (cut (way targets.now exptime request.old fault.trail) fault.sent)
-        (health.new, links.new)) }
+        targets.now (form_at exptime (without_noreply request.old))
+        (health.old, links.old) fault.trail fault.sent (health.new, links.new)) }
     ensures ok_request { IfOk result (λ routed. request.new
         ≡ form_at exptime (without_noreply request.old) (length routed.trail - 1)) }
     ensures err_request { IfErr result (λ fault. request.new
@@ -47,7 +47,7 @@ pub fn route<R: IoRuntime, H: Health, L: Links>(
     };
     loop {
         match stage {
-            Stage::Done(routed) => return Ok(routed),
+            Stage::Done(trail) => return Ok(Routed { trail }),
             Stage::Away(clear, waiting) => match links.exchange(rt, clear, request) {
                 Ok(outcome) => {
                     stage = waiting.answered(rt, health, targets, request, exptime, outcome);

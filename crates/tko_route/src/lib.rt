@@ -3,14 +3,14 @@
 //! - `Health` of tko_health: what is known of the servers, and what a router reports of them;
 //!   `PlainHealth` keeps it for one thread, and `LockedHealth` for several, in a lock.
 //! - `Attempt` and `Trail`: what was done at one target, and at all of them in order.
-//! - `Stage`: how far a routed request came, and what it sends next; `Waiting`, the same while that
-//!   send is out.
+//! - `Stage`: how far a routed request came: what it sends next, or its trail; `Waiting`, the same
+//!   while that send is out.
 //! - `route`: makes the trail of a request, as a `Routed` or, out of memory, a `RouteFault`.
 #![tactic(auto)]
 
 mod attempt;
 mod failover;
-mod looking;
+mod recording;
 mod routed;
 mod routing;
 

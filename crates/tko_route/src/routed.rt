@@ -3,9 +3,8 @@ ghost use Rattle.std.specs.Option.{option_copied};
 ghost use Rattle.std.specs.Prelude.{◌≡◌, [], false};
 ghost use Rattle.tko_route.specs.Trail.{answer_of};
 
-use crate::attempt::{Attempt, Trail};
+use crate::attempt::Trail;
 use std::alloc::Global;
-use tko_links::Outcome;
 use tko_text::Response;
 
 /// A routed request.
@@ -15,21 +14,11 @@ pub struct Routed {
 }
 
 impl Routed {
-    pub(crate) fn of(attempts: Vec<Attempt>) -> Routed
-        ensures { result.trail ≡ attempts.items }
-    {
-        let trail = Trail::of(attempts);
-        Routed { trail }
-    }
-
     /// The response of the last attempt, if it got one.
     pub fn response(&self) -> Option<&Response>
         ensures { option_copied result ≡ answer_of self.now.trail }
     {
-        match self.trail.attempts().last() {
-            Some(Attempt::Sent(_, Outcome::Reply(response), _)) => Some(response),
-            _ => None,
-        }
+        self.trail.response()
     }
 }
 

@@ -3,31 +3,24 @@
 //!
 //! - `Stage`: how far a routing came. `begin` looks for the first server that is up.
 //! - `Waiting`: a request was sent. `answered` takes what came of it, and goes on.
-ghost use Rattle.std.specs.Prelude.{◌≡◌, ◌+◌, ◌-◌, ◌<◌, ◌≤◌, ◌∷◌, ◌++◌, ℕ, [], All, IfOk, List, OnErr, length};
+ghost use Rattle.std.specs.Prelude.{◌≡◌, ◌+◌, ◌-◌, ◌<◌, ◌≤◌, ◌∷◌, ◌++◌, ℕ, All, IfOk, List, OnErr, length, vec_capacity};
 ghost use Rattle.tko_route.specs.Calls.{Call};
-ghost use Rattle.tko_route.specs.Routing.{FindsUp, GoesOn, IsAwaited, IsBrought, IsUnderway, Reached, came_of, last_place, tries};
+ghost use Rattle.tko_route.specs.Routing.{FindsUp, GoesOn, IsAwaited, IsBrought, IsConcluded, IsTried, Reached, came_of, last_place, tries};
 ghost use Rattle.tko_route.specs.Trail.{Makes, form_at};
 ghost use Rattle.tko_text.specs.SentRequests.{without_noreply};
 ghost use Rattle.tko_text.specs.declared.request.Request.{Request};
 
 use crate::attempt::{Attempt, Trail};
-use crate::looking::{conclude, is_answered, look_on};
-use crate::routed::{RouteFault, Routed};
+use crate::recording::{conclude, is_answered};
+use crate::routed::RouteFault;
 use std::alloc::Global;
 use std::marker::Model;
 use std::sync::Wait;
 use tko_bytes::NoMemory;
 use tko_health::Health;
 use tko_links::Outcome;
-use tko_model::Clear;
+use tko_model::{Clear, Look};
 use tko_text::Request;
-
-/// A request that is routed, while none of its sends is out. It has room for an attempt at each
-/// target. Its calls are passed the same targets, the request and its replaced expiry.
-#[derive(Debug, Drop)]
-pub(crate) struct Routing {
-    attempts: Vec<Attempt>,
-}
 
 /// A routed request that was sent to a server, until its outcome is recorded.
 #[derive(Debug, Drop)]
@@ -41,17 +34,8 @@ pub struct Waiting {
 pub enum Stage {
     /// The request, as it is now, may be sent once to the server that the permission names.
     Away(Clear, Waiting),
-    /// A target answered, or none is left.
-    Done(Routed),
-}
-
-impl Model for Routing {
-    ghost use Rattle.std.specs.Prelude.{vec_capacity};
-    ghost use Rattle.tko_route.specs.Underway.{Underway};
-
-    ghost Value = { Underway };
-
-    ghost view = { λ r. record { attempts = r.attempts.items; room = vec_capacity r.attempts } };
+    /// A target answered, or none is left: these are all attempts.
+    Done(Trail),
 }
 
 impl Model for Waiting {
@@ -67,54 +51,6 @@ impl Model for Waiting {
     } };
 
     ghost invariant = { λ w. length w.attempts.items < vec_capacity w.attempts };
-}
-
-impl Routing {
-    /// A request to be routed to these targets. It is sent without `noreply`.
-    fn new(alloc: Global, request: &mut Request, targets: &[usize]) -> Result<Routing, NoMemory>
-        ensures ok { IfOk result (λ routing. IsUnderway targets.now routing) }
-        ensures empty { IfOk result (λ routing. routing.attempts ≡ []) }
-        ensures err { OnErr result (0 < length targets.now) }
-        ensures request { request.new ≡ without_noreply request.old }
-    {
-        request.drop_noreply();
-        let attempts = Vec::with_capacity(alloc, targets.len())?;
-        Ok(Routing { attempts })
-    }
-
-    /// Looks for the next server to send to. Brings the request into the form in which that server
-    /// gets it: from the second target of the list on, its expiry is replaced.
-    #[inline(always)]
-    fn next<R: Wait, H: Health>(
-        self,
-        rt: &R,
-        health: &mut H,
-        targets: &[usize],
-        request: &mut Request,
-        exptime: u32,
-    ) -> Stage
-        requires health { All (λ target. target < H.servers health.old) targets.now }
-        requires underway { IsUnderway targets.now self }
-        ensures calls { GoesOn H.steps health.old
-            (λ more. (form : ℕ → Request) (calls : List Call) → Makes form calls self.attempts
-            → Reached targets.now form (calls ++ more) result) health.new }
-        ensures request { IsBrought exptime (request.old, length self.attempts - 1)
-            (request.new, last_place result) }
-        ensures grown { length self.attempts ≤ tries result }
-        ensures servers { H.servers health.new ≡ H.servers health.old }
-    {
-        let mut attempts = self.attempts;
-        if is_answered(&attempts) {
-            return Stage::Done(Routed::of(attempts));
-        }
-        match look_on(rt, health, targets, request, exptime, &mut attempts) {
-            Some(clear) => {
-                let server = clear.server();
-                Stage::Away(clear, Waiting { attempts, server })
-            }
-            None => Stage::Done(Routed::of(attempts)),
-        }
-    }
 }
 
 impl Stage {
@@ -137,8 +73,9 @@ impl Stage {
         ensures err_request { OnErr result (request.new ≡ without_noreply request.old) }
         ensures servers { H.servers health.new ≡ H.servers health.old }
     {
-        let routing = Routing::new(alloc, request, targets)?;
-        Ok(routing.next(rt, health, targets, request, exptime))
+        request.drop_noreply();
+        let attempts = Vec::with_capacity(alloc, targets.len())?;
+        Ok(look_on(rt, health, targets, request, exptime, attempts))
     }
 }
 
@@ -157,19 +94,21 @@ impl Waiting {
         self.attempts.as_slice()
     }
 
-    /// Records what came of the send.
-    fn record<R: Wait, H: Health>(self, rt: &R, health: &mut H, outcome: Outcome) -> Routing
+    /// Records what came of the send, which makes one attempt more.
+    fn record<R: Wait, H: Health>(self, rt: &R, health: &mut H, outcome: Outcome) -> Vec<Attempt>
         requires { self.server < H.servers health.old }
         ensures calls { GoesOn H.steps health.old (λ more. (form : ℕ → Request) (calls : List Call)
             → FindsUp form calls self.attempts self.server
-            → Makes form (calls ++ came_of form self outcome ∷ more) result.attempts) health.new }
-        ensures one { length result.attempts ≡ length self.attempts + 1 }
-        ensures underway { (targets : List ℕ) → IsAwaited targets self → IsUnderway targets result }
+            → Makes form (calls ++ came_of form self outcome ∷ more) result.items) health.new }
+        ensures one { length result.items ≡ length self.attempts + 1 }
+        ensures room { vec_capacity result ≡ self.room }
+        ensures concluded { (targets : List ℕ) → IsAwaited targets self
+            → IsConcluded targets result.items }
         ensures servers { H.servers health.new ≡ H.servers health.old }
     {
         let mut attempts = self.attempts;
         attempts.push_reserved(conclude(rt, health, self.server, outcome));
-        Routing { attempts }
+        attempts
     }
 
     /// Records what came of the send, and goes on to the next target unless it was answered.
@@ -193,8 +132,11 @@ impl Waiting {
         ensures grown { length self.attempts < tries result }
         ensures servers { H.servers health.new ≡ H.servers health.old }
     {
-        let routing = self.record(rt, health, outcome);
-        routing.next(rt, health, targets, request, exptime)
+        let attempts = self.record(rt, health, outcome);
+        if is_answered(&attempts) {
+            return Stage::Done(Trail::of(attempts));
+        }
+        look_on(rt, health, targets, request, exptime, attempts)
     }
 
     /// Ends the routing where memory ran out at the send.
@@ -206,4 +148,47 @@ impl Waiting {
         let sent = fault.sent;
         RouteFault { trail, sent }
     }
+}
+
+/// Brings a request from the form of the place before into the form of this place.
+fn prepare(request: &mut Request, place: usize, exptime: u32)
+    ensures { IsBrought exptime (request.old, place - 1) (request.new, place) }
+{
+    if place == 1 {
+        request.replace_expiry(exptime);
+    }
+}
+
+/// Looks up the targets after those tried, in order, until one is up, and skips marked ones. Brings
+/// the request into the form in which that server gets it: from the second target of the list on,
+/// its expiry is replaced.
+#[inline(always)]
+fn look_on<R: Wait, H: Health>(
+    rt: &R,
+    health: &mut H,
+    targets: &[usize],
+    request: &mut Request,
+    exptime: u32,
+    mut attempts: Vec<Attempt>,
+) -> Stage
+    requires health { All (λ target. target < H.servers health.old) targets.now }
+    requires room { length targets.now ≤ vec_capacity attempts }
+    requires tried { IsTried targets.now attempts.items }
+    ensures calls { GoesOn H.steps health.old
+        (λ more. (form : ℕ → Request) (calls : List Call) → Makes form calls attempts.items
+        → Reached targets.now form (calls ++ more) result) health.new }
+    ensures request { IsBrought exptime (request.old, length attempts.items - 1)
+        (request.new, last_place result) }
+    ensures grown { length attempts.items ≤ tries result }
+    ensures servers { H.servers health.new ≡ H.servers health.old }
+{
+    while attempts.len() < targets.len() {
+        let server = targets[attempts.len()];
+        prepare(request, attempts.len(), exptime);
+        match health.look_up(rt, server) {
+            Look::Up(_, clear) => return Stage::Away(clear, Waiting { attempts, server }),
+            Look::Marked(mark) => attempts.push_reserved(Attempt::Skipped(server, mark)),
+        }
+    }
+    Stage::Done(Trail::of(attempts))
 }

@@ -12,10 +12,11 @@ use Rattle.tko_route.specs.Calls.{Call, Told}
 use Rattle.tko_route.specs.Routing.{GoesOn}
 use Rattle.tko_route.specs.Trail.{form_at}
 use Rattle.tko_route.specs.declared.attempt.Attempt.{Attempt}
+use Rattle.tko_route.specs.declared.routing.Stage.{Stage}
 use Rattle.tko_reply.specs.Asking.{Goes, GoesTo, course_of}
 use Rattle.tko_reply.specs.Cuts.{EndsBy, KeyLost}
 use Rattle.tko_reply.specs.Sends.{AfterSend}
-use Rattle.tko_reply.specs.Standing.{Asking, Standing, answer_state}
+use Rattle.tko_reply.specs.Standing.{Asking}
 use Rattle.tko_reply.specs.declared.asking.OneKey.{OneKey}
 use Rattle.tko_session.specs.Driven.{KeyBegun, KeyDropped, OutcomeDropped, OutcomeTaken, dropped, step_of, work_of}
 use Rattle.tko_session.specs.SessionState.{SessionState}
@@ -44,20 +45,11 @@ module _ {H : Type 0} {steps : H → HealthItem → H → Type 0} {P : List Call
   pub going_none : (health : H) → P [] → GoesOn steps health P health
   going_none health is = record { items = []; gains = gains_none health; is = is }
 
-some_same : (one other : OneKey) → Some one ≡ Some other → one ≡ other
-some_same one other same = cc
-
 -- the key that is at work
 pub key_of_work : (key : OneKey) (at : KeyStage) → key_in (key_work key at) ≡ Some key
 key_of_work key stage.Read = refl
 key_of_work key (stage.Sent waiting) = refl
 key_of_work key stage.Tried = refl
-
-pub key_is : (key one : OneKey) (at : KeyStage) → key_in (key_work key at) ≡ Some one → key ≡ one
-key_is key one at same = some_same key one (sym (key_of_work key at) ∙ same)
-
-pub key_some : (key : OneKey) (at : KeyStage) → IsSome (key_in (key_work key at))
-key_some key at = subst IsSome (sym (key_of_work key at)) refl
 
 -- one send is out
 pub awaits_same : (it other : Asking) → work.Awaits it ≡ work.Awaits other → it ≡ other
@@ -74,33 +66,34 @@ ended_work key (stage.Sent waiting) some = absurd (cc some)
 ended_work key stage.Tried some = refl
 
 -- the session after a call, field by field
-abbrev is_went : Standing → Reading → List ℕ → ℕ → Bool → ℕ → List ℕ → SessionState
-is_went at reading outbox requests owes begin targets = record {
+abbrev is_went : Stage → OneKey → Reading → List ℕ → ℕ → Bool → ℕ → List ℕ → SessionState
+is_went at key reading outbox requests owes begin targets = record {
   reading = reading;
   outbox = outbox;
   requests = requests;
   owes = owes;
-  work = work_of at;
+  work = work_of at key;
   begin = begin;
   targets = targets;
 }
 
 module _ {config : Configuration} where
   -- a key was asked for
-  pub key_begun : {old new : SessionState} {said : Step} (one : OneKey) (at : Standing) (calls : List Call)
+  pub key_begun : {old new : SessionState} {said : Step} (one : OneKey) (at : Stage) (key : OneKey) (calls : List Call)
       (front : List ℕ) (reading : Reading) (outbox : List ℕ) (requests : ℕ) (owes : Bool) (begin : ℕ) (targets : List ℕ)
-      → Goes (course_of config targets one (without_noreply one.request)) calls front (answer_state at outbox)
+      → Goes (course_of config targets one (without_noreply one.request)) calls front at key outbox
       → GoesTo config one.request targets → AreServers config targets
-      → said ≡ step_of at → new ≡ is_went at reading outbox requests owes begin targets
+      → said ≡ step_of at → new ≡ is_went at key reading outbox requests owes begin targets
       → front ≡ old.outbox → reading ≡ old.reading → requests ≡ old.requests → owes ≡ old.owes → begin ≡ old.begin
       → KeyBegun config one old calls said new
-  key_begun {old} {new} one at calls front reading outbox requests owes begin targets goes aims within says is waits reads counts owed begins =
+  key_begun {old} {new} one at key calls front reading outbox requests owes begin targets goes aims within says is waits reads counts owed begins =
       let o : new.outbox ≡ outbox = ap (λ (s : SessionState). s.outbox) is in
       let t : new.targets ≡ targets = ap (λ (s : SessionState). s.targets) is in
       let P : List ℕ → List ℕ → List ℕ → Type 0 = λ xs ts ys.
-      Goes (course_of config ts one (without_noreply one.request)) calls xs (answer_state at ys) in
+      Goes (course_of config ts one (without_noreply one.request)) calls xs at key ys in
       record {
         at = at;
+        key = key;
         goes = subst (λ xs. P xs new.targets new.outbox) waits (subst (λ ts. P front ts new.outbox) (sym t) (subst (λ ys. P front targets ys) (sym o) goes));
         targets = subst (GoesTo config one.request) (sym t) aims;
         within = subst (AreServers config) (sym t) within;
@@ -118,18 +111,19 @@ module _ {config : Configuration} where
   }
 
   -- what came of a send was recorded
-  pub outcome_taken : {old new : SessionState} {said : Step} (outcome : Outcome) (it : Asking) (at : Standing) (calls : List Call)
+  pub outcome_taken : {old new : SessionState} {said : Step} (outcome : Outcome) (it : Asking) (at : Stage) (key : OneKey) (calls : List Call)
       (aimed front : List ℕ) (reading : Reading) (outbox : List ℕ) (requests : ℕ) (owes : Bool) (begin : ℕ) (targets : List ℕ)
-      → AfterSend config it outcome (λ original before. Goes (course_of config aimed it.key original) (before calls) front (answer_state at outbox))
-      → said ≡ step_of at → new ≡ is_went at reading outbox requests owes begin targets
+      → AfterSend config it outcome (λ original before. Goes (course_of config aimed it.key original) (before calls) front at key outbox)
+      → said ≡ step_of at → new ≡ is_went at key reading outbox requests owes begin targets
       → aimed ≡ old.targets → front ≡ old.outbox → reading ≡ old.reading → requests ≡ old.requests → owes ≡ old.owes → begin ≡ old.begin
       → targets ≡ old.targets → OutcomeTaken config it outcome old calls said new
-  outcome_taken {old} {new} outcome it at calls aimed front reading outbox requests owes begin targets goes says is aims waits reads counts owed begins same =
+  outcome_taken {old} {new} outcome it at key calls aimed front reading outbox requests owes begin targets goes says is aims waits reads counts owed begins same =
       let o : new.outbox ≡ outbox = ap (λ (s : SessionState). s.outbox) is in
       let P : List ℕ → List ℕ → List ℕ → Type 0 = λ ts xs ys.
-      AfterSend config it outcome (λ original before. Goes (course_of config ts it.key original) (before calls) xs (answer_state at ys)) in
+      AfterSend config it outcome (λ original before. Goes (course_of config ts it.key original) (before calls) xs at key ys) in
       record {
         at = at;
+        key = key;
         goes =
             subst (λ ts. P ts old.outbox new.outbox) aims
             (subst (λ xs. P aimed xs new.outbox) waits (subst (λ ys. P aimed front ys) (sym o) goes));

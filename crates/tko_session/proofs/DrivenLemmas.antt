@@ -12,11 +12,11 @@ use Rattle.tko_io.specs.declared.clock.Clock.{Ghosts as ClockGhosts}
 use Rattle.tko_text.specs.declared.request.Request.{Request}
 use Rattle.tko_route.specs.Calls.{Call, IsExchange, Upstream, upstream}
 use Rattle.tko_route.specs.declared.attempt.Attempt.{Attempt}
+use Rattle.tko_route.specs.declared.routing.Stage.{Stage}
+use Rattle.tko_route.specs.declared.routing.Stage.TheVariants as stage
 use Rattle.tko_reply.specs.Ghosts.{parts_ghosts}
 use Rattle.tko_reply.specs.Interactions.{Interaction, Interacts, Made, Recorded, with_health, with_links, with_noted}
 use Rattle.tko_reply.specs.Replies.{reply_bound}
-use Rattle.tko_reply.specs.Standing.{Standing}
-use Rattle.tko_reply.specs.Standing as standing
 use Rattle.tko_reply.specs.TrailEvents.{Asked, Tried}
 use Rattle.tko_reply.specs.declared.parts.Parts.{Parts}
 use Rattle.tko_reply.specs.declared.trails.Trails.{Ghosts as TrailsGhosts}
@@ -108,10 +108,10 @@ module _ {H L T C : Type 0} (health : HealthGhosts H) (links : LinksGhosts L) (t
       (past_went calls it.past (subst (λ (c : Configuration). WentOn c now.state calls said new) (config_kept (parts_ghosts health links trails clock) it.gains) on))
 
   -- the answer to a key came so far
-  key_on : {done : List Interaction} (old now : Snapshot (Parts H L T C)) (at : Standing) → Gains (Interacts (parts_ghosts health links trails clock)) old.parts done now.parts
+  key_on : {done : List Interaction} (old now : Snapshot (Parts H L T C)) (at : Stage) → Gains (Interacts (parts_ghosts health links trails clock)) old.parts done now.parts
       → IsItemAt old.parts.config old.state true done (step_of at) now.state → IsOnAt health links trails clock old (step_of at) now
-  key_on {done} old now (standing.Asks clear sent) gains it = record { done = done; gains = gains; sent = it.0; at = it.1.at; out = it.1 }
-  key_on {done} old now (standing.Tried trail one) gains it = record { done = done; gains = gains; tried = it }
+  key_on {done} old now (stage.Away clear waiting) gains it = record { done = done; gains = gains; sent = it.0; at = it.1.at; out = it.1 }
+  key_on {done} old now (stage.Done trail) gains it = record { done = done; gains = gains; tried = it }
 
   -- what came of a send was recorded
   pub outcome_on : {old now : Snapshot (Parts H L T C)} {clear : ℕ} {mid : L} {got : Outcome} {calls : List Call} {said : Step} {new : SessionState} (after : Parts H L T C)

@@ -12,11 +12,12 @@ use Rattle.tko_pools.specs.Configs.{Configuration}
 use Rattle.tko_io.specs.Io.{capped}
 use Rattle.tko_route.specs.Calls.{Call, came}
 use Rattle.tko_route.specs.declared.attempt.Attempt.{Attempt}
+use Rattle.tko_route.specs.declared.routing.Stage.{Stage}
+use Rattle.tko_route.specs.declared.routing.Stage.TheVariants as stage
 use Rattle.tko_reply.specs.Answers.{IsKeyed}
 use Rattle.tko_reply.specs.Answers as answers
 use Rattle.tko_reply.specs.Interactions.{Interaction, Made, Recorded}
-use Rattle.tko_reply.specs.Standing.{Asking, Standing, answer_state, whole_of}
-use Rattle.tko_reply.specs.Standing as standing
+use Rattle.tko_reply.specs.Standing.{Asking, asking, whole_of}
 use Rattle.tko_reply.specs.TrailEvents.{Asked, Tried}
 use Rattle.tko_reply.specs.declared.asking.OneKey.{OneKey}
 use Rattle.tko_reply.proofs.DrivingLemmas.{key_begun, key_gone}
@@ -143,11 +144,11 @@ module _ {config : Configuration} {old : SessionState} {owes : Bool} where
       subst (λ s. IsItem config old owes done s new) (sym e) (subst (λ n. IsItem config old owes done said' n) (sym f) (record { on = is }))
 
   -- the answer came so far
-  pub key_item : {it : Request} {was done : List Interaction} {now : SessionState} {said : Step} {new : SessionState} (at : Standing) (targets outbox : List ℕ) → done ≡ Recorded (Asked it) ∷ was
-      → IsKeyed it → IsFor old it owes now → Stands config it old.outbox at targets was outbox → said ≡ step_of at → new ≡ went at (record now { outbox = outbox; targets = targets })
+  pub key_item : {it : Request} {was done : List Interaction} {now : SessionState} {said : Step} {new : SessionState} (at : Stage) (one : OneKey) (targets outbox : List ℕ) → done ≡ Recorded (Asked it) ∷ was
+      → IsKeyed it → IsFor old it owes now → Stands config it old.outbox at one targets was outbox → said ≡ step_of at → new ≡ went at one (record now { outbox = outbox; targets = targets })
       → IsItem config old owes done said new
-  key_item {it} {was} (standing.Asks clear sent) targets outbox are by_key under stands says is = said_so says is (
-    sent,
+  key_item {it} {was} (stage.Away clear waiting) one targets outbox are by_key under stands says is = said_so says is (
+    asking waiting one,
     record {
       it = it;
       was = was;
@@ -158,7 +159,7 @@ module _ {config : Configuration} {old : SessionState} {owes : Bool} where
       stands = stands;
     },
   )
-  key_item {it} {was} (standing.Tried trail one) targets outbox are by_key under stands says is = said_so says is (record {
+  key_item {it} {was} (stage.Done trail) one targets outbox are by_key under stands says is = said_so says is (record {
     it = it;
     was = was;
     are = are;
@@ -174,7 +175,7 @@ module _ {config : Configuration} {old : SessionState} {owes : Bool} where
       → IsFor old it owes now → IsAt config it old.outbox key one was now.outbox → KeyBegun config one now calls said new
       → IsItem config old owes (done ++ map Made calls) said new
   begun_item {key = key} {calls = calls} {new = new} are under at begun =
-      key_item begun.at new.targets new.outbox (more_are (map Made calls) are) (asks_keyed (of_at at).asks) under
+      key_item begun.at begun.key new.targets new.outbox (more_are (map Made calls) are) (asks_keyed (of_at at).asks) under
       (key_begun at (begun.targets key (keyed at)) begun.goes) begun.says begun.state
 
   -- the reply is complete
@@ -232,7 +233,7 @@ module _ {config : Configuration} {old : SessionState} {owes : Bool} where
       let sending = out.stands in
       let call = came sent.waiting.server sent.key.request (Ok got) in
       let goes = taken.goes (without_noreply sending.first.request) sending.calls (ap (λ (o : OneKey). o.request) sending.keeps) sending.reached.2 in
-      key_item taken.at now.targets new.outbox (more_are (map Made (call ∷ calls)) out.are) out.by_key out.under
+      key_item taken.at taken.key now.targets new.outbox (more_are (map Made (call ∷ calls)) out.are) out.by_key out.under
       (key_gone (call ∷ calls) sending goes) taken.says taken.state
 
   -- the trail of a key was recorded

@@ -13,14 +13,15 @@ use Rattle.tko_pools.specs.Configs.{Configuration}
 use Rattle.tko_route.specs.Calls.{Call}
 use Rattle.tko_route.specs.Routing.{GoesOn}
 use Rattle.tko_route.specs.declared.attempt.Attempt.{Attempt}
+use Rattle.tko_route.specs.declared.routing.Stage.{Stage}
+use Rattle.tko_route.specs.declared.routing.Stage.TheVariants as stage
 use Rattle.tko_reply.specs.Answering.{Extends}
-use Rattle.tko_reply.specs.Asking.{Begins, BeginsAt, Continues, IsFirst, IsJoined, begun}
+use Rattle.tko_reply.specs.Asking.{Begins, BeginsAt, Continues, IsFirst, IsJoined}
 use Rattle.tko_reply.specs.Asking as asked
 use Rattle.tko_reply.specs.Cuts.{IsBeginCut}
-use Rattle.tko_reply.specs.Standing.{Asking, Standing, whole_of}
-use Rattle.tko_reply.specs.Standing as standing
+use Rattle.tko_reply.specs.Standing.{Asking, whole_of}
 use Rattle.tko_reply.specs.declared.asking.OneKey.{OneKey}
-use Rattle.tko_reply.proofs.HeldLemmas.{AwaitsAt, HoldsAt, first_held, goes_awaits, goes_held, next_held}
+use Rattle.tko_reply.proofs.HeldLemmas.{AwaitsAt, first_held, goes_awaits, goes_held, next_held}
 use Rattle.tko_session.specs.Driven.{IsOut, IsRead, IsReady, IsReadyFor, ItemDropped, ItemRead, KeyBegun, KeyDropped, KeyPassed, OutcomeTaken, RequestBegun, WasDropped, WasDroppedFrom, WentOn, WentOnFrom, begun_at, dropped, finished, went}
 use Rattle.tko_session.specs.Driven as driven
 use Rattle.tko_session.specs.SessionState.{SessionState, progress_after, progress_of}
@@ -31,28 +32,28 @@ use Rattle.tko_session.specs.Working.{Work}
 use Rattle.tko_session.specs.Working as work
 use Rattle.tko_session.proofs.ItemCutLemmas.{taken}
 
-ready_at : (config : Configuration) (state : SessionState) (at : Standing) → HoldsAt state.begin at state.outbox
-    → AwaitsAt config state.targets at → IsReady config (went at state)
-ready_at config state (standing.Tried trail one) held awaits = held
-ready_at config state (standing.Asks clear it) held awaits = record { begins = held; sent = awaits }
+ready_at : (config : Configuration) (state : SessionState) (at : Stage) (one : OneKey) → BeginsAt state.begin one.share state.outbox
+    → AwaitsAt config state.targets at one → IsReady config (went at one state)
+ready_at config state (stage.Away clear waiting) one held awaits = record { begins = held; sent = awaits }
+ready_at config state (stage.Done trail) one held awaits = held
 
 true_or_false : true ≡ false → ⊥
 true_or_false e = cc
 
 -- a request that begins with a key
 pub begins_first : {config : Configuration} {request : Request} {outbox outbox' : List ℕ} {calls : List Call} {one : OneKey} {keyed : Bool} → keyed ≡ true
-    → Begins config request outbox calls (begun keyed one outbox') → IsFirst request (length outbox) one × (outbox' ≡ outbox) × (calls ≡ [])
+    → Begins config request outbox calls keyed one outbox' → IsFirst request (length outbox) one × (outbox' ≡ outbox) × (calls ≡ [])
 begins_first on (asked.itself text looks over is are same) = absurd (true_or_false (sym on ∙ over))
 begins_first on (asked.by_key on' first none same) = (first, same, none)
 
 -- a key that goes on to the next
-pub next_outbox : {one other : OneKey} {outbox outbox' : List ℕ} → Continues one outbox (begun true other outbox') → outbox' ≡ outbox
+pub next_outbox : {one other : OneKey} {outbox outbox' : List ℕ} → Continues one outbox true other outbox' → outbox' ≡ outbox
 next_outbox (asked.complete silent kind over same) = absurd (true_or_false over)
 next_outbox (asked.last begin kind over same) = absurd (true_or_false over)
 next_outbox (asked.next begin key left kind on alike then same) = same
 
 -- whose reply is complete
-over_same : {one other : OneKey} {outbox outbox' : List ℕ} → Continues one outbox (begun false other outbox') → Continues one outbox (begun false one outbox')
+over_same : {one other : OneKey} {outbox outbox' : List ℕ} → Continues one outbox false other outbox' → Continues one outbox false one outbox'
 over_same (asked.complete silent kind over same) = asked.complete silent kind over same
 over_same (asked.last begin kind over same) = asked.last begin kind over same
 over_same (asked.next begin key left kind on alike then same) = absurd (true_or_false (sym on))
@@ -81,7 +82,7 @@ module _ (config : Configuration) where
   key_ready {one} {old} {new} held key =
       let state : SessionState = record old { outbox = new.outbox; targets = new.targets } in
       subst (IsReady config) (sym key.state)
-      (ready_at config state key.at (goes_held config one (without_noreply one.request) old.begin held key.goes)
+      (ready_at config state key.at key.key (goes_held config one (without_noreply one.request) old.begin held key.goes)
       (goes_awaits one config (without_noreply one.request) key.within key.goes))
 
   pub item_ready : {old new : SessionState} {said : Step} → old.work ≡ work.Between → ItemRead old said new → IsReady config new
@@ -118,41 +119,29 @@ module _ (config : Configuration) where
       let goes = taken.goes sent.original sent.calls sent.form sent.found in
       let state : SessionState = record old { outbox = new.outbox } in
       subst (IsReady config) (sym taken.state)
-      (ready_at config state taken.at (goes_held config it.key sent.original old.begin out.begins goes)
+      (ready_at config state taken.at taken.key (goes_held config it.key sent.original old.begin out.begins goes)
       (goes_awaits it.key config sent.original sent.out.within goes))
 
-  key_moved : {one : OneKey} {at : Work} {outbox : List ℕ} {old mid new : SessionState} {calls : List Call} {said : Step} → outbox ≡ old.outbox → mid ≡ record old { outbox = outbox; work = at }
-      → KeyBegun config one mid calls said new → KeyBegun config one old calls said new
-  key_moved {one} {at} {outbox} {old} {mid} {new} {calls} {said} waits same key =
-      let it = subst (λ (s : SessionState). KeyBegun config one s calls said new) (same ∙ ap (λ xs. record old { outbox = xs; work = at }) waits) key in
-      record { at = it.at; goes = it.goes; targets = it.targets; within = it.within; says = it.says; state = it.state }
-
-  drop_moved : {one : OneKey} {at : Work} {outbox : List ℕ} {old mid new : SessionState} {calls : List Call} {attempts : List Attempt} → outbox ≡ old.outbox → mid ≡ record old { outbox = outbox; work = at }
-      → KeyDropped config one mid calls attempts new → KeyDropped config one old calls attempts new
-  drop_moved {one} {at} {outbox} {old} {mid} {new} {calls} {attempts} waits same key =
-      let it = subst (λ (s : SessionState). KeyDropped config one s calls attempts new) (same ∙ ap (λ xs. record old { outbox = xs; work = at }) waits) key in
-      record { lost = it.lost; state = it.state }
-
   -- a request was begun by its first key
-  pub request_keyed : {one other : OneKey} {at : Work} {outbox : List ℕ} {old mid new : SessionState} {calls more : List Call} {said : Step} {keyed : Bool}
-      → old.work ≡ work.Read one → keyed ≡ true → Begins config one.request old.outbox calls (begun keyed other outbox)
-      → mid ≡ record old { outbox = outbox; work = at } → KeyBegun config other mid more said new → WentOn config old (calls ++ more) said new
-  request_keyed {one} {other} {old = old} {new = new} {calls = calls} {more = more} {said = said} is on begins same key =
+  pub request_keyed : {one other : OneKey} {outbox : List ℕ} {old new : SessionState} {calls more : List Call} {said : Step} {keyed : Bool}
+      → old.work ≡ work.Read one → keyed ≡ true → Begins config one.request old.outbox calls keyed other outbox
+      → (outbox ≡ old.outbox → KeyBegun config other old more said new) → WentOn config old (calls ++ more) said new
+  request_keyed {one} {other} {old = old} {new = new} {calls = calls} {more = more} {said = said} is on begins key =
       let first = begins_first on begins in
       subst (λ cs. WentOn config old (cs ++ more) said new) (sym first.2)
-      (subst (λ w. WentOnFrom config w old more said new) (sym is) (driven.by_key other first.0 (key_moved first.1 same key)))
+      (subst (λ w. WentOnFrom config w old more said new) (sym is) (driven.by_key other first.0 (key first.1)))
 
-  pub request_lost : {one other : OneKey} {at : Work} {outbox : List ℕ} {old mid new : SessionState} {calls more : List Call} {attempts : List Attempt} {keyed : Bool}
-      → old.work ≡ work.Read one → keyed ≡ true → Begins config one.request old.outbox calls (begun keyed other outbox)
-      → mid ≡ record old { outbox = outbox; work = at } → KeyDropped config other mid more attempts new → WasDropped config old (calls ++ more) attempts new
-  request_lost {one} {other} {old = old} {new = new} {calls = calls} {more = more} {attempts = attempts} is on begins same key =
+  pub request_lost : {one other : OneKey} {outbox : List ℕ} {old new : SessionState} {calls more : List Call} {attempts : List Attempt} {keyed : Bool}
+      → old.work ≡ work.Read one → keyed ≡ true → Begins config one.request old.outbox calls keyed other outbox
+      → (outbox ≡ old.outbox → KeyDropped config other old more attempts new) → WasDropped config old (calls ++ more) attempts new
+  request_lost {one} {other} {old = old} {new = new} {calls = calls} {more = more} {attempts = attempts} is on begins key =
       let first = begins_first on begins in
       subst (λ cs. WasDropped config old (cs ++ more) attempts new) (sym first.2)
-      (subst (λ w. WasDroppedFrom config w old more attempts new) (sym is) (driven.at_key other first.0 (drop_moved first.1 same key)))
+      (subst (λ w. WasDroppedFrom config w old more attempts new) (sym is) (driven.at_key other first.0 (key first.1)))
 
   -- the proxy answered it itself
   pub request_itself : {one other : OneKey} {at : Work} {outbox : List ℕ} {old mid new : SessionState} {calls : List Call} {said : Step} {keyed : Bool}
-      → old.work ≡ work.Read one → keyed ≡ false → Begins config one.request old.outbox calls (begun keyed other outbox)
+      → old.work ≡ work.Read one → keyed ≡ false → Begins config one.request old.outbox calls keyed other outbox
       → mid ≡ record old { outbox = outbox; work = at } → said ≡ step.At (progress_of one.request) → new ≡ finished mid → WentOn config old calls said new
   request_itself is over (asked.by_key on first none same) moved says end = absurd (true_or_false (sym on ∙ over))
   request_itself {one} {at = at} {old = old} {new = new} {calls = calls} {said = said} is over (asked.itself text looks over' itself are same) moved says end =
@@ -169,34 +158,34 @@ module _ (config : Configuration) where
       (driven.unkeyed cut none (end ∙ ap (λ xs. record (dropped old) { outbox = xs }) (taken more begins ∙ sym (taken nothing begins))))
 
   -- after a key the next was asked for
-  pub key_passed : {one other : OneKey} {at : Work} {outbox : List ℕ} {old mid new : SessionState} {calls : List Call} {said : Step} {keyed : Bool}
-      → old.work ≡ work.Ended one → keyed ≡ true → Continues one old.outbox (begun keyed other outbox)
-      → mid ≡ record old { outbox = outbox; work = at } → KeyBegun config other mid calls said new → WentOn config old calls said new
-  key_passed {one} {other} {outbox = outbox} {old = old} {new = new} {calls = calls} {said = said} is on goes same key =
-      let goes' = subst (λ b. Continues one old.outbox (begun b other outbox)) on goes in
+  pub key_passed : {one other : OneKey} {outbox : List ℕ} {old new : SessionState} {calls : List Call} {said : Step} {keyed : Bool}
+      → old.work ≡ work.Ended one → keyed ≡ true → Continues one old.outbox keyed other outbox
+      → (outbox ≡ old.outbox → KeyBegun config other old calls said new) → WentOn config old calls said new
+  key_passed {one} {other} {outbox} {old} {new} {calls} {said} is on goes key =
+      let goes' = subst (λ b. Continues one old.outbox b other outbox) on goes in
       let waits = next_outbox goes' in
       subst (λ w. WentOnFrom config w old calls said new) (sym is)
-      (driven.next other (subst (λ xs. Continues one old.outbox (begun true other xs)) waits goes') (key_moved waits same key))
+      (driven.next other (subst (λ xs. Continues one old.outbox true other xs) waits goes') (key waits))
 
-  pub pass_lost : {one other : OneKey} {at : Work} {outbox : List ℕ} {old mid new : SessionState} {calls : List Call} {attempts : List Attempt} {keyed : Bool}
-      → old.work ≡ work.Ended one → keyed ≡ true → Continues one old.outbox (begun keyed other outbox)
-      → mid ≡ record old { outbox = outbox; work = at } → KeyDropped config other mid calls attempts new → WasDropped config old calls attempts new
-  pass_lost {one} {other} {outbox = outbox} {old = old} {new = new} {calls = calls} {attempts = attempts} is on goes same key =
-      let goes' = subst (λ b. Continues one old.outbox (begun b other outbox)) on goes in
+  pub pass_lost : {one other : OneKey} {outbox : List ℕ} {old new : SessionState} {calls : List Call} {attempts : List Attempt} {keyed : Bool}
+      → old.work ≡ work.Ended one → keyed ≡ true → Continues one old.outbox keyed other outbox
+      → (outbox ≡ old.outbox → KeyDropped config other old calls attempts new) → WasDropped config old calls attempts new
+  pass_lost {one} {other} {outbox} {old} {new} {calls} {attempts} is on goes key =
+      let goes' = subst (λ b. Continues one old.outbox b other outbox) on goes in
       let waits = next_outbox goes' in
       subst (λ w. WasDroppedFrom config w old calls attempts new) (sym is)
-      (driven.at_next other (subst (λ xs. Continues one old.outbox (begun true other xs)) waits goes') (drop_moved waits same key))
+      (driven.at_next other (subst (λ xs. Continues one old.outbox true other xs) waits goes') (key waits))
 
   -- or the reply is complete
   pub key_over : {one other : OneKey} {at : Work} {outbox : List ℕ} {old mid new : SessionState} {said : Step} {keyed : Bool}
-      → old.work ≡ work.Ended one → keyed ≡ false → Continues one old.outbox (begun keyed other outbox)
+      → old.work ≡ work.Ended one → keyed ≡ false → Continues one old.outbox keyed other outbox
       → mid ≡ record old { outbox = outbox; work = at } → said ≡ step.At progress.More → new ≡ finished mid → WentOn config old [] said new
   key_over {one} {other} {at} {outbox} {old} {mid} {new} {said} is over goes same says end =
-      let goes' = over_same (subst (λ b. Continues one old.outbox (begun b other outbox)) over goes) in
+      let goes' = over_same (subst (λ b. Continues one old.outbox b other outbox) over goes) in
       let there : new ≡ finished (record old { outbox = outbox }) = end ∙ ap finished same in
       let waits : new.outbox ≡ outbox = ap (λ (s : SessionState). s.outbox) there in
       subst (λ w. WentOnFrom config w old [] said new) (sym is)
-      (driven.over (subst (λ xs. Continues one old.outbox (begun false one xs)) (sym waits) goes') refl says
+      (driven.over (subst (λ xs. Continues one old.outbox false one xs) (sym waits) goes') refl says
       (there ∙ ap (λ xs. finished (record old { outbox = xs })) (sym waits)))
 
   -- memory ran out before the next key

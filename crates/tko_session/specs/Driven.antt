@@ -14,12 +14,14 @@ use Rattle.tko_pools.specs.Configs.{AreServers, Configuration}
 use Rattle.tko_route.specs.Calls.{Call, Told}
 use Rattle.tko_route.specs.Trail.{form_at}
 use Rattle.tko_route.specs.declared.attempt.Attempt.{Attempt}
+use Rattle.tko_route.specs.declared.routing.Stage.{Stage}
+use Rattle.tko_route.specs.declared.routing.Stage.TheVariants as stage
 use Rattle.tko_io.specs.Io.{capped}
 use Rattle.tko_reply.specs.Answers.{AnswersItself}
-use Rattle.tko_reply.specs.Asking.{BeginsAt, Continues, Goes, GoesTo, IsFirst, IsJoined, begun, course_of}
+use Rattle.tko_reply.specs.Asking.{BeginsAt, Continues, Goes, GoesTo, IsFirst, IsJoined, course_of}
 use Rattle.tko_reply.specs.Cuts.{EndsBy, IsBeginCut, KeyLost}
 use Rattle.tko_reply.specs.Sends.{AfterSend, IsSent}
-use Rattle.tko_reply.specs.Standing.{Asking, Asks, Standing, Tried, answer_state, whole_of}
+use Rattle.tko_reply.specs.Standing.{Asking, asking, whole_of}
 use Rattle.tko_reply.specs.declared.asking.OneKey.{OneKey}
 use Rattle.tko_session.specs.declared.step.Progress.TheVariants as progress
 use Rattle.tko_session.specs.declared.step.Step.{Step}
@@ -29,18 +31,18 @@ use Rattle.tko_session.specs.Working as work
 use Rattle.tko_session.specs.SessionState.{SessionState, progress_after, progress_of}
 
 -- what the session says, where a key came so far
-abbrev pub step_of : Standing → Step
-step_of (Asks clear it) = step.Asks clear
-step_of (Tried trail one) = step.Tried trail
+abbrev pub step_of : Stage → Step
+step_of (stage.Away clear waiting) = step.Asks clear
+step_of (stage.Done trail) = step.Tried trail
 
--- what the session is at there
-abbrev pub work_of : Standing → Work
-work_of (Asks clear it) = work.Awaits it
-work_of (Tried trail one) = work.Ended one
+-- what the session is at there, with the key
+abbrev pub work_of : Stage → OneKey → Work
+work_of (stage.Away clear waiting) one = work.Awaits (asking waiting one)
+work_of (stage.Done trail) one = work.Ended one
 
 -- the session there
-abbrev pub went : Standing → SessionState → SessionState
-went at old = record old { work = work_of at }
+abbrev pub went : Stage → OneKey → SessionState → SessionState
+went at one old = record old { work = work_of at one }
 
 -- the session where a request was read: its reply follows the replies that wait, and a round is
 -- owed
@@ -107,13 +109,14 @@ module _ (config : Configuration) where
   -- a key was asked for over its targets, which are servers
   pub record KeyBegun (one : OneKey) (old : SessionState) (calls : List Call) (said : Step)
       (new : SessionState) : Type 0 where
-    pub at : Standing
+    pub at : Stage
+    pub key : OneKey
     pub goes : Goes (course_of config new.targets one (without_noreply one.request)) calls
-        old.outbox (answer_state at new.outbox)
+        old.outbox at key new.outbox
     pub targets : GoesTo config one.request new.targets
     pub within : AreServers config new.targets
     pub says : said ≡ step_of at
-    pub state : new ≡ went at (record old { outbox = new.outbox; targets = new.targets })
+    pub state : new ≡ went at key (record old { outbox = new.outbox; targets = new.targets })
 
   -- memory ran out there, and its request was dropped after these attempts
   pub record KeyDropped (one : OneKey) (old : SessionState) (calls : List Call)
@@ -144,10 +147,10 @@ module _ (config : Configuration) where
   -- the attempts at a key had ended: its reply is complete, or the next key was asked for
   pub data KeyPassed (one : OneKey) (old : SessionState) (calls : List Call) (said : Step)
       (new : SessionState) : Type 0 where
-    over : Continues one old.outbox (begun false one new.outbox) → calls ≡ []
+    over : Continues one old.outbox false one new.outbox → calls ≡ []
         → said ≡ step.At progress.More → new ≡ finished (record old { outbox = new.outbox })
         → KeyPassed one old calls said new
-    next : (other : OneKey) → Continues one old.outbox (begun true other old.outbox)
+    next : (other : OneKey) → Continues one old.outbox true other old.outbox
         → KeyBegun other old calls said new → KeyPassed one old calls said new
 
   -- memory ran out there, after one of several keys: before the next was asked for, or at it
@@ -155,7 +158,7 @@ module _ (config : Configuration) where
       (attempts : List Attempt) (new : SessionState) : Type 0 where
     unpassed : IsJoined one.share → calls ≡ [] → attempts ≡ [] → new ≡ dropped old
         → PassDropped one old calls attempts new
-    at_next : (other : OneKey) → Continues one old.outbox (begun true other old.outbox)
+    at_next : (other : OneKey) → Continues one old.outbox true other old.outbox
         → KeyDropped other old calls attempts new → PassDropped one old calls attempts new
 
   -- the session went on from what it was at
@@ -184,12 +187,13 @@ module _ (config : Configuration) where
   -- what came of a send was recorded
   pub record OutcomeTaken (it : Asking) (outcome : Outcome) (old : SessionState)
       (calls : List Call) (said : Step) (new : SessionState) : Type 0 where
-    pub at : Standing
+    pub at : Stage
+    pub key : OneKey
     pub goes : AfterSend config it outcome (λ original before. Goes
         (course_of config old.targets it.key original) (before calls)
-        old.outbox (answer_state at new.outbox))
+        old.outbox at key new.outbox)
     pub says : said ≡ step_of at
-    pub state : new ≡ went at (record old { outbox = new.outbox })
+    pub state : new ≡ went at key (record old { outbox = new.outbox })
 
   -- memory ran out there, and the request was dropped after these attempts
   pub record OutcomeDropped (it : Asking) (outcome : Outcome) (old : SessionState)

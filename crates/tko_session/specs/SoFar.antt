@@ -5,7 +5,7 @@ use Rattle.tko_pools.specs.Configs.{Configuration, targets_of}
 use Rattle.tko_route.specs.Calls.{Call}
 use Rattle.tko_route.specs.Routing.{FindsUp, IsAwaited}
 use Rattle.tko_reply.specs.Answering.{retrieval}
-use Rattle.tko_reply.specs.Answers.{Answers, AreKeysRouted, IsKeyed, form_in, request_answer, request_keys}
+use Rattle.tko_reply.specs.Answers.{Answers, AreKeysRouted, IsKeyed, form_in, request_keys}
 use Rattle.tko_reply.specs.Interactions.{Interaction, Made}
 use Rattle.tko_reply.specs.Replies.{HasValues, RoutedKey, joined, keys_in}
 use Rattle.tko_reply.specs.Standing.{Asking, whole_of}
@@ -76,7 +76,7 @@ pub record IsSentFor (config : Configuration) (it : Pending) (asking : Asking) (
 pub record IsReplied (config : Configuration) (it : Pending) (outbox : List ℕ) : Type 0 where
   pub routed : List RoutedKey
   pub text : List ℕ
-  pub answers : Answers config it.request (request_answer routed text) it.done
+  pub answers : Answers config it.request routed text it.done
   pub appended : outbox ≡ it.front ++ text
 
 -- a key of it was routed, and its trail recorded: the reply is complete; or that was one of several

@@ -6,7 +6,7 @@ use Rattle.tko_text.specs.declared.item.Item.TheVariants as item
 use Rattle.tko_text.specs.declared.request.Request.{Request}
 use Rattle.tko_text.specs.Requests.{fault_text}
 use Rattle.tko_pools.specs.Configs.{Configuration}
-use Rattle.tko_reply.specs.Answers.{Answers, request_answer}
+use Rattle.tko_reply.specs.Answers.{Answers}
 use Rattle.tko_reply.specs.Cuts.{IsAnswerCut}
 use Rattle.tko_reply.specs.Interactions.{Interaction, Recorded}
 use Rattle.tko_reply.specs.Replies.{RoutedKey}
@@ -28,7 +28,7 @@ pub data IsTurn (config : Configuration) (turn : Turn) (done : List Interaction)
       → turn.text ≡ fault_text fault → done ≡ [] → IsTurn config turn done
   answered : (request : Request) (then : List Interaction) → turn.item ≡ item.Request request
       → done ≡ Recorded (Asked request) ∷ then
-      → Answers config request (request_answer turn.routed turn.text) then
+      → Answers config request turn.routed turn.text then
       → IsTurn config turn done
 
 -- a request was cut short: memory ran out while it was recorded, or in its answer

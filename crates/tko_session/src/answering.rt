@@ -9,8 +9,9 @@ ghost use Rattle.tko_reply.specs.Interactions.{with_links};
 ghost use Rattle.tko_reply.specs.Replies.{reply_bound};
 ghost use Rattle.tko_reply.specs.declared.asking.OneKey.{OneKey};
 ghost use Rattle.tko_session.specs.Effects.{effects};
-ghost use Rattle.tko_session.specs.AnswerEnds.{AnsweringEnds, DriveEnds, IsRun, IsSettled, ItemEnds, KeepsBegun, MayRunRound, OwesWhereBusy};
-ghost use Rattle.tko_session.specs.SessionState.{snapshot};
+ghost use Rattle.tko_session.specs.AnswerEnds.{AnsweringEnds, DriveEnds, IsRun, IsSettled, KeepsBegun, MayRunRound, OwesWhereBusy};
+ghost use Rattle.tko_reply.specs.declared.parts.Parts.{Parts};
+ghost use Rattle.tko_session.specs.SessionState.{Answered, Snapshot, snapshot};
 ghost use Rattle.tko_session.specs.Working.{Between, key_in};
 
 use crate::observing::{observe_attempts, observe_drop, observe_request, observe_trail};
@@ -24,7 +25,8 @@ use tko_route::Health;
 
 /// Answers the items that are decided, in order, until none is left, until the replies that wait
 /// reach their bound, or until a round is owed that may take long. The round after a request is run
-/// at once while no prober is at work.
+/// at once while no prober is at work. Where memory runs out, the servers that the attempts until
+/// then marked are going to be probed.
 pub fn answer<R: IoRuntime, H: Health, L: Links, T: Trails, C: Clock>(
     rt: &R,
     alloc: Global,
@@ -49,11 +51,15 @@ pub fn answer<R: IoRuntime, H: Health, L: Links, T: Trails, C: Clock>(
         if session.is_full() {
             return Ok(Progress::More);
         }
-        match answer_next(rt, alloc, session, parts)? {
-            Progress::More => {}
-            Progress::NeedsInput => return Ok(Progress::NeedsInput),
-            Progress::LineTooLong => return Ok(Progress::LineTooLong),
-            Progress::Quit => return Ok(Progress::Quit),
+        let mut told = 0;
+        match drive(rt, alloc, session, parts, &mut told) {
+            Ok(progress) => match end_item(rt, session, parts, progress)? {
+                Progress::More => {}
+                Progress::NeedsInput => return Ok(Progress::NeedsInput),
+                Progress::LineTooLong => return Ok(Progress::LineTooLong),
+                Progress::Quit => return Ok(Progress::Quit),
+            },
+            Err(dropped) => return Err(observe_drop(rt, parts, &mut told, &dropped)),
         }
     }
     unreachable!()
@@ -81,53 +87,31 @@ pub fn run_owed_round<R: IoRuntime, H: Health, L: Links, T: Trails, C: Clock>(
     round(rt, parts)
 }
 
-/// Answers the next item, if one is decided, and runs its round while no prober is at work.
-fn answer_next<R: IoRuntime, H: Health, L: Links, T: Trails, C: Clock>(
+/// Ends an item that was answered, from whatever stood before it: runs its round while no prober is
+/// at work. Returns its progress.
+fn end_item<R: IoRuntime, H: Health, L: Links, T: Trails, C: Clock>(
     rt: &R,
-    alloc: Global,
     session: &mut Session,
     parts: &mut Parts<H, L, T, C>,
+    progress: Progress,
 ) -> Result<Progress, NoMemory>
     requires reach { Reaches H.servers L.servers parts.old }
-    requires settled { IsSettled session.old }
-    requires room { length session.old.outbox < reply_bound }
-    ensures ends { AnsweringEnds (effects H.Health L.Links T.Trails C.Clock)
-        (snapshot session.old parts.old) result (snapshot session.new parts.new) }
-    ensures more { result ≡ Ok Progress.More → ¬ NeedsMore session.old.reading }
+    ensures ends { (old : Snapshot (Parts H L T C))
+        → Answered (effects H.Health L.Links T.Trails C.Clock)
+        progress old (snapshot session.old parts.old)
+        → AnsweringEnds (effects H.Health L.Links T.Trails C.Clock)
+        old result (snapshot session.new parts.new) }
     ensures busy { OnOk result (OwesWhereBusy (snapshot session.new parts.new)) }
-    ensures begun { KeepsBegun (snapshot session.old parts.old) (snapshot session.new parts.new) }
-    ensures between { session.new.work ≡ Between }
+    ensures begun { (session.old.owes ≡ false → NoneMarked parts.old.backend.probers)
+        → session.new.owes ≡ false → NoneMarked parts.new.backend.probers }
+    ensures work { session.new.work ≡ session.old.work }
     ensures reach { Reaches H.servers L.servers parts.new }
 {
-    let progress = answer_item(rt, alloc, session, parts)?;
     if !parts.backend.probers.is_quiet() {
         return Ok(progress);
     }
     run_owed_round(rt, session, parts)?;
     Ok(progress)
-}
-
-/// Answers the next item, if one is decided. Where memory runs out, the servers that the attempts
-/// until then marked are going to be probed.
-fn answer_item<R: IoRuntime, H: Health, L: Links, T: Trails, C: Clock>(
-    rt: &R,
-    alloc: Global,
-    session: &mut Session,
-    parts: &mut Parts<H, L, T, C>,
-) -> Result<Progress, NoMemory>
-    requires reach { Reaches H.servers L.servers parts.old }
-    requires settled { IsSettled session.old }
-    requires room { length session.old.outbox < reply_bound }
-    ensures ends { ItemEnds (effects H.Health L.Links T.Trails C.Clock)
-        (snapshot session.old parts.old) result (snapshot session.new parts.new) }
-    ensures more { result ≡ Ok Progress.More → ¬ NeedsMore session.old.reading }
-    ensures reach { Reaches H.servers L.servers parts.new }
-{
-    let mut told = 0;
-    match drive(rt, alloc, session, parts, &mut told) {
-        Ok(progress) => Ok(progress),
-        Err(dropped) => Err(observe_drop(rt, parts, &mut told, &dropped)),
-    }
 }
 
 /// Drives the session to the end of its next item: sends what it asks for, and hands on what it

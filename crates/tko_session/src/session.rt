@@ -51,14 +51,15 @@ struct KeyAtWork {
     stage: KeyStage,
 }
 
-/// How far a request or a key of it is.
+/// What the session waits for before it goes on with a request or a key of it. How far the key is
+/// says the `Stage` of its routing; the session keeps only what its driver was not given of it.
 #[derive(Drop)]
 enum KeyStage {
-    /// The request was read, and is to be begun.
+    /// The record of the request, which was read and is to be begun.
     Read,
-    /// It may be sent, and what comes of that is awaited.
+    /// What comes of its send.
     Sent(Waiting),
-    /// The attempts at the key ended, and its response is in the outbox.
+    /// The record of its trail; its response is in the outbox.
     Tried,
 }
 
@@ -172,7 +173,7 @@ impl Session {
         let targets = self.targets.as_slice();
         let outbox = &mut self.outbox;
         match key.answered(rt, health, config, targets, outbox, sent, outcome) {
-            Ok(answer) => Ok(self.go_to(answer)),
+            Ok(stage) => Ok(self.go_to(stage)),
             Err(lost) => Err(self.drop_after(lost)),
         }
     }

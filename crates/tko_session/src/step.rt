@@ -25,7 +25,10 @@ pub enum Progress {
     Quit,
 }
 
-/// What a call of a session came to, and what its driver does before the next call.
+/// What a call of a session did, and so what its driver does before the next call. It is not how
+/// far a key is, which is the `Stage` of its routing: a request that was read has no key yet, an
+/// item that was answered has none any more, and of a key's stage the driver is given what it
+/// needs.
 #[derive(Drop)]
 pub enum Step {
     /// A request was read, and `request` lends it. It is to be recorded before `next` begins it.

@@ -3,7 +3,7 @@ ghost use Rattle.std.specs.Prelude.{◌≡◌, ℕ, IfOk, OnErr, OnOk};
 ghost use Rattle.std.specs.Option.{option_copied};
 ghost use Rattle.tko_reply.specs.Answering.{Extends};
 ghost use Rattle.tko_reply.specs.Answers.{IsKeyed};
-ghost use Rattle.tko_reply.specs.Asking.{Continues, HasFront, IsFirst, Replies, begun, front_of};
+ghost use Rattle.tko_reply.specs.Asking.{Continues, HasFront, IsFirst, Replies, front_of};
 ghost use Rattle.tko_reply.specs.Standing.{shifted_key, whole_of};
 ghost use Rattle.tko_reply.specs.declared.asking.Share.TheVariants.{Joined};
 
@@ -74,8 +74,8 @@ pub(crate) fn join_next(
 ) -> Result<bool, NoMemory>
     ensures ok { IfOk result (λ keyed. (begin : ℕ) → Continues
         (record { request = request.old; share = Joined begin left.old }) outbox.old
-        (begun keyed (record { request = request.new; share = Joined begin left.new })
-        outbox.new)) }
+        keyed (record { request = request.new; share = Joined begin left.new })
+        outbox.new) }
     ensures err { OnErr result (outbox.new ≡ outbox.old) }
 {
     match left.next() {

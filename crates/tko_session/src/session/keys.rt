@@ -1,10 +1,8 @@
 //! The keys of the request that is answered, one after another.
 ghost use Rattle.std.specs.Prelude.{◌≡◌, IfErr, IfOk, IsSome, Some, length};
 ghost use Rattle.tko_route.specs.Routing.{GoesOn};
-ghost use Rattle.tko_reply.specs.Asking.{BeginsAt};
-ghost use Rattle.tko_reply.specs.Standing.{standing_of};
 ghost use Rattle.tko_reply.specs.declared.asking.OneKey.{OneKey};
-ghost use Rattle.tko_session.specs.Driven.{IsReady, KeyBegun, KeyDropped, WasDropped, WentOn, dropped, finished, step_of, went};
+ghost use Rattle.tko_session.specs.Driven.{IsReady, WasDropped, WentOn, dropped, finished, step_of, went};
 ghost use Rattle.tko_session.specs.Working.{ended_in, key_in, key_work, read_in};
 ghost use Rattle.tko_session.specs.SessionState.{progress_of};
 
@@ -14,8 +12,8 @@ use std::alloc::Global;
 use std::sync::Wait;
 use tko_bytes::NoMemory;
 use tko_pools::Config;
-use tko_reply::{Answer, Dropped};
-use tko_route::Health;
+use tko_reply::Dropped;
+use tko_route::{Health, Stage};
 use tko_text::Request;
 
 impl Session {
@@ -43,10 +41,14 @@ impl Session {
         let Ok(keyed) = key.first(rt, alloc, health, config, &mut self.outbox) else {
             return Err(self.drop_after(Dropped::from(NoMemory)));
         };
-        if keyed {
-            return self.begin_key(rt, alloc, health, config);
+        if !keyed {
+            return Ok(self.finish(progress));
         }
-        Ok(self.finish(progress))
+        let targets = &mut self.targets;
+        match key.begin(rt, alloc, health, config, targets, &mut self.outbox) {
+            Ok(stage) => Ok(self.go_to(stage)),
+            Err(lost) => Err(self.drop_after(lost)),
+        }
     }
 
     /// Goes on once the attempts at a key ended: to the next of several, or to the end of the
@@ -73,57 +75,30 @@ impl Session {
         let Ok(keyed) = key.go_on(&mut self.outbox) else {
             return Err(self.drop_after(Dropped::from(NoMemory)));
         };
-        if keyed {
-            return self.begin_key(rt, alloc, health, config);
+        if !keyed {
+            return Ok(self.finish(Progress::More));
         }
-        Ok(self.finish(Progress::More))
-    }
-
-    /// Begins the key that is at work.
-    #[inline(always)]
-    fn begin_key<R: Wait, H: Health>(
-        &mut self,
-        rt: &R,
-        alloc: Global,
-        health: &mut H,
-        config: &Config,
-    ) -> Result<Step, Dropped>
-        requires servers { H.servers health.old ≡ length config.now.addresses }
-        requires begins { (one : OneKey) → key_in self.old.work ≡ Some one
-            → BeginsAt self.old.begin one.share self.old.outbox }
-        requires answering { IsSome (key_in self.old.work) }
-        ensures ok { IfOk result (λ step. GoesOn H.steps health.old
-            (λ calls. (one : OneKey) → key_in self.old.work ≡ Some one
-            → KeyBegun config.now one self.old calls step self.new) health.new) }
-        ensures err { IfErr result (λ attempts. GoesOn H.steps health.old
-            (λ calls. (one : OneKey) → key_in self.old.work ≡ Some one
-            → KeyDropped config.now one self.old calls attempts self.new) health.new) }
-        ensures servers { H.servers health.new ≡ H.servers health.old }
-    {
-        let Some(KeyAtWork { key, stage: _ }) = &mut self.work else {
-            unreachable!();
-        };
         let targets = &mut self.targets;
         match key.begin(rt, alloc, health, config, targets, &mut self.outbox) {
-            Ok(answer) => Ok(self.go_to(answer)),
+            Ok(stage) => Ok(self.go_to(stage)),
             Err(lost) => Err(self.drop_after(lost)),
         }
     }
 
     /// Keeps how far the key came, and says what is next.
     #[inline(always)]
-    pub(super) fn go_to(&mut self, answer: Answer) -> Step
+    pub(super) fn go_to(&mut self, stage: Stage) -> Step
         ensures step { (one : OneKey) → key_in self.old.work ≡ Some one
-            → result ≡ step_of (standing_of answer one) }
+            → result ≡ step_of stage }
         ensures went { (one : OneKey) → key_in self.old.work ≡ Some one
-            → self.new ≡ went (standing_of answer one) self.old }
+            → self.new ≡ went stage one self.old }
     {
-        match answer {
-            Answer::Asks(clear, waiting) => {
+        match stage {
+            Stage::Away(clear, waiting) => {
                 self.set_stage(KeyStage::Sent(waiting));
                 Step::Asks(clear)
             }
-            Answer::Tried(trail) => {
+            Stage::Done(trail) => {
                 self.set_stage(KeyStage::Tried);
                 Step::Tried(trail)
             }

@@ -1,13 +1,13 @@
 use Rattle.tko_reply.specs.Standing.{asking}
 use Rattle.tko_reply.proofs.GoingLemmas.{answered_goes, answered_lost}
-use Rattle.tko_reply.proofs.ResultLemmas.{if_err, if_ok}
+use Rattle.tko_reply.proofs.ResultLemmas.{both_ok, if_err}
 use Rattle.tko_reply.proofs.asking.OneKey.answered.Goals as goal
 
 pub returns-clause-ok : goal.returns-clause-ok
 returns-clause-ok g c =
     let on = c.answered-stage.ensures in
-    if_ok c.settle.result c.settle.ensures.ok (λ answer settles.
-    answered_goes c.args.config.now c.answered-stage.result (asking c.args.waiting c.args.self.now) c.args.targets.now c.args.outcome _ _ c.failover_exptime-exptime.ensures on.request on.calls settles)
+    both_ok c.settle.result c.settle.ensures.ok c.settle.ensures.same (λ at settles same.
+    answered_goes c.args.config.now c.answered-stage.result (asking c.args.waiting c.args.self.now) c.args.targets.now c.args.outcome _ _ c.failover_exptime-exptime.ensures on.request on.calls same settles)
 
 pub returns-clause-lost : goal.returns-clause-lost
 returns-clause-lost g c =

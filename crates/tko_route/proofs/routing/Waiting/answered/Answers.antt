@@ -1,5 +1,20 @@
-use Rattle.tko_route.proofs.RoutingLemmas.{then_on}
+use Rattle.std.proofs.Common.{rules}
+use Rattle.std.specs.Option.{IsSome}
+use Rattle.tko_route.specs.Trail.{answer_of}
+use Rattle.tko_route.proofs.RoutingLemmas.{done_then, is_done, is_tried, then_on}
 use Rattle.tko_route.proofs.routing.Waiting.answered.Goals as goal
 
+pub returns-then-is_answered-clause-calls : goal.returns-then-is_answered-clause-calls
+returns-then-is_answered-clause-calls g c =
+    let targets = c.args.targets.now in
+    let answered : IsSome (answer_of c.record-attempts.result.items) = search rules in
+    let whole = is_done (c.record-attempts.ensures.concluded targets c.requires.awaited) answered c.of.ensures in
+    done_then targets c.args.self c.args.outcome whole c.of.ensures c.record-attempts.ensures.calls
+
+pub look_on-requires-clause-tried : goal.look_on-requires-clause-tried
+look_on-requires-clause-tried g c =
+    let none : ¬ IsSome (answer_of c.record-attempts.result.items) = search rules in
+    is_tried (c.record-attempts.ensures.concluded c.args.targets.now c.requires.awaited) none
+
 pub returns-clause-calls : goal.returns-clause-calls
-returns-clause-calls g c = then_on c.args.targets.now c.args.self c.args.outcome c.next.result c.record-routing.ensures.calls c.next.ensures.calls
+returns-clause-calls g c = then_on c.args.targets.now c.args.self c.args.outcome c.look_on.result c.record-attempts.ensures.calls c.look_on.ensures.calls

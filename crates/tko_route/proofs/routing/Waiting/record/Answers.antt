@@ -1,5 +1,5 @@
-use Rattle.std.proofs.Common.{◌≡◌, ◌++◌, ◌∷◌, [], rules, vec_capacity}
-use Rattle.tko_route.proofs.RoutingLemmas.{recorded, underway_again}
+use Rattle.std.proofs.Common.{◌≡◌, ◌++◌, ◌∷◌, [], rules}
+use Rattle.tko_route.proofs.RoutingLemmas.{concluded_again, recorded}
 use Rattle.tko_route.specs.Trail.{server_of}
 use Rattle.tko_route.proofs.routing.Waiting.record.Goals as goal
 
@@ -9,9 +9,8 @@ returns-clause-calls g c =
     let parts : c.push_reserved.new.self.items ≡ c.args.self.attempts ++ c.conclude.result ∷ [] = search rules in
     recorded c.args.self c.conclude.result c.args.outcome c.conclude.ensures.ends c.conclude.ensures.outcome at parts
 
-pub returns-clause-underway : goal.returns-clause-underway
-returns-clause-underway g c = λ targets awaited.
+pub returns-clause-concluded : goal.returns-clause-concluded
+returns-clause-concluded g c = λ targets awaited.
     let at : server_of c.conclude.result ≡ c.args.self.server = search rules in
     let parts : c.push_reserved.new.self.items ≡ c.args.self.attempts ++ c.conclude.result ∷ [] = search rules in
-    let room : vec_capacity c.push_reserved.new.self ≡ c.args.self.room = search rules in
-    underway_again c.conclude.result awaited at parts room
+    concluded_again c.conclude.result awaited at parts

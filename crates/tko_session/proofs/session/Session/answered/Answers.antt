@@ -1,6 +1,6 @@
 use Rattle.std.proofs.Common.{ap, subst, sym, take, ◌∙◌}
 use Rattle.tko_reply.specs.Asking.{BeginsAt}
-use Rattle.tko_reply.specs.Standing.{asking, standing_of}
+use Rattle.tko_reply.specs.Standing.{asking}
 use Rattle.tko_reply.proofs.HeldLemmas.{front_stays}
 use Rattle.tko_session.specs.Driven.{IsOut, IsReadyFor, OutcomeDropped, OutcomeTaken, dropped}
 use Rattle.tko_session.specs.SessionState.{SessionState}
@@ -20,7 +20,7 @@ returns-in-Ok-clause-ok g c =
     going c.in-Ok.ensures.ok (λ calls goes it is.
     subst (λ a. OutcomeTaken c.args.config.now a c.args.outcome c.args.self.now calls c.go_to.result c.go_to.new.self)
     (awaits_same it-was it (sym awaited ∙ is))
-    (outcome_taken c.args.outcome it-was (standing_of c.in-Ok.answer c.answered.new.self) calls _ _ _ _ _ _ _ _ goes (c.go_to.ensures.step _ (key_of_work _ _)) (c.go_to.ensures.went _ (key_of_work _ _))
+    (outcome_taken c.args.outcome it-was c.in-Ok.stage c.answered.new.self calls _ _ _ _ _ _ _ _ goes (c.go_to.ensures.step _ (key_of_work _ _)) (c.go_to.ensures.went _ (key_of_work _ _))
     (c.as_slice-targets.ensures.value ∙ aims) (ap (λ (s : SessionState). s.outbox) same) (ap (λ (s : SessionState). s.reading) same)
     (ap (λ (s : SessionState). s.requests) same) (ap (λ (s : SessionState). s.owes) same) (ap (λ (s : SessionState). s.begin) same) aims))
 
@@ -34,7 +34,7 @@ returns-in-Ok-clause-ready g c =
     let awaited = sym (ap (λ (s : SessionState). s.work) same) ∙ ap work_at c.in-Some.is ∙ ap (key_work key) found in
     let out : IsOut c.args.config.now c.args.self.now it-was = subst (IsReadyFor c.args.config.now c.args.self.now) awaited c.requires.ready in
     outcome_ready c.args.config.now out
-    (outcome_taken c.args.outcome it-was (standing_of c.in-Ok.answer c.answered.new.self) _ _ _ _ _ _ _ _ _ c.in-Ok.ensures.ok.is (c.go_to.ensures.step _ (key_of_work _ _)) (c.go_to.ensures.went _ (key_of_work _ _))
+    (outcome_taken c.args.outcome it-was c.in-Ok.stage c.answered.new.self _ _ _ _ _ _ _ _ _ c.in-Ok.ensures.ok.is (c.go_to.ensures.step _ (key_of_work _ _)) (c.go_to.ensures.went _ (key_of_work _ _))
     (c.as_slice-targets.ensures.value ∙ aims) (ap (λ (s : SessionState). s.outbox) same) (ap (λ (s : SessionState). s.reading) same)
     (ap (λ (s : SessionState). s.requests) same) (ap (λ (s : SessionState). s.owes) same) (ap (λ (s : SessionState). s.begin) same) aims)
 

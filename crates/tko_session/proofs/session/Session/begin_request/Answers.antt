@@ -1,14 +1,13 @@
 use Rattle.std.proofs.Common.{◌≡◌, ap, length, subst, sym, take, ◌∙◌}
 use Rattle.std.specs.Prelude.{IsSome}
 use Rattle.tko_reply.specs.Answering.{Extends}
-use Rattle.tko_reply.specs.Asking.{Begins, BeginsAt, begun}
-use Rattle.tko_reply.proofs.HeldLemmas.{first_held}
-use Rattle.tko_reply.proofs.ResultLemmas.{if_err, if_ok}
+use Rattle.tko_reply.specs.Asking.{Begins, BeginsAt}
+use Rattle.tko_reply.proofs.HeldLemmas.{first_held, front_stays, has_front}
 use Rattle.tko_session.specs.Driven.{IsRead, IsReadyFor, dropped}
 use Rattle.tko_session.specs.SessionState.{SessionState}
 use Rattle.tko_session.specs.Working.{key_work, read_in, work_at}
 use Rattle.tko_session.specs.declared.step.Step.TheVariants.{At}
-use Rattle.tko_session.proofs.CallLemmas.{going, going_then, key_is, key_of_work, key_some, read_work}
+use Rattle.tko_session.proofs.CallLemmas.{dropped_again, going, going_then, key_begun, key_dropped, key_of_work, read_work}
 use Rattle.tko_session.proofs.ReadyLemmas.{begins_first, request_itself, request_keyed, request_lost, request_unkeyed}
 use Rattle.tko_session.proofs.session.Session.begin_request.Goals as goal
 
@@ -34,8 +33,21 @@ returns-in_default-first-clause-err g c =
     request_unkeyed c.args.config.now is ready.begins more cut (c.drop_after.ensures.attempts ∙ c.from.ensures)
     (c.drop_after.ensures.dropped ∙ ap (λ (s : SessionState). record (dropped s) { outbox = take s.begin c.first.new.outbox }) same))
 
-pub begin_key-requires-clause-begins : goal.begin_key-requires-clause-begins
-begin_key-requires-clause-begins g c = λ one at-is.
+pub returns-then-not-keyed-clause-ok : goal.returns-then-not-keyed-clause-ok
+returns-then-not-keyed-clause-ok g c =
+    let same = c.self.view_is in
+    let key = c.in-Some.field-0.key in
+    let at = c.in-Some.field-0.stage in
+    let work = sym (ap (λ (s : SessionState). s.work) same) ∙ ap work_at c.in-Some.is in
+    let is = work ∙ read_work key at (subst (λ w. IsSome (read_in w)) work c.requires.read) in
+    going c.in-Ok.ensures.ok (λ calls begins.
+    request_itself c.args.config.now is c.if-not-keyed.true
+    (subst (λ (s : SessionState). Begins c.args.config.now key.request s.outbox calls c.in-Ok.keyed c.first.new.self c.first.new.outbox) same begins)
+    (ap (λ (s : SessionState). record s { outbox = c.first.new.outbox; work = key_work c.first.new.self at }) same)
+    (rw c.request.ensures at (c.finish.ensures.step ∙ ap At c.progress_of-progress.ensures)) c.finish.ensures.finished)
+
+pub begin-requires-clause-front : goal.begin-requires-clause-front
+begin-requires-clause-front g c =
     let same = c.self.view_is in
     let key = c.in-Some.field-0.key in
     let at = c.in-Some.field-0.stage in
@@ -43,49 +55,43 @@ begin_key-requires-clause-begins g c = λ one at-is.
     let is = work ∙ read_work key at (subst (λ w. IsSome (read_in w)) work c.requires.read) in
     let ready : IsRead c.args.self.now key = subst (IsReadyFor c.args.config.now c.args.self.now) is c.requires.ready in
     let begin = subst (λ (s : SessionState). s.begin ≡ length s.outbox) (sym same) ready.begins in
-    let first = begins_first c.if-keyed.true c.in-Ok.ensures.ok.is in
-    let held = first_held c.self.inside.begin key.request c.self.inside.outbox c.first.new.self begin first.0 in
-    subst (λ o. BeginsAt c.self.inside.begin o.share c.first.new.outbox) (key_is c.first.new.self one at at-is)
-    (subst (λ xs. BeginsAt c.self.inside.begin c.first.new.self.share xs) (sym first.1) held)
+    let first = begins_first c.if-not-keyed.false c.in-Ok.ensures.ok.is in
+    let held = subst (λ xs. BeginsAt c.self.inside.begin c.first.new.self.share xs) (sym first.1)
+    (first_held c.self.inside.begin key.request c.self.inside.outbox c.first.new.self begin first.0) in
+    has_front _ c.first.new.self.share _ held
 
-pub begin_key-requires-clause-answering : goal.begin_key-requires-clause-answering
-begin_key-requires-clause-answering g c = key_some c.first.new.self c.in-Some.field-0.stage
-
-pub returns-then-keyed-clause-ok : goal.returns-then-keyed-clause-ok
-returns-then-keyed-clause-ok g c =
+pub returns-in-Ok-begin-clause-ok : goal.returns-in-Ok-begin-clause-ok
+returns-in-Ok-begin-clause-ok g c =
     let same = c.self.view_is in
     let key = c.in-Some.field-0.key in
     let at = c.in-Some.field-0.stage in
     let work = sym (ap (λ (s : SessionState). s.work) same) ∙ ap work_at c.in-Some.is in
     let is = work ∙ read_work key at (subst (λ w. IsSome (read_in w)) work c.requires.read) in
-    if_ok c.begin_key.result c.begin_key.ensures.ok (λ step begins-key. going_then c.in-Ok.ensures.ok begins-key (λ calls more begins goes.
-    request_keyed c.args.config.now is c.if-keyed.true
-    (subst (λ (s : SessionState). Begins c.args.config.now key.request s.outbox calls (begun c.in-Ok.keyed c.first.new.self c.first.new.outbox)) same begins)
-    (ap (λ (s : SessionState). record s { outbox = c.first.new.outbox; work = key_work c.first.new.self at }) same)
-    (goes c.first.new.self (key_of_work c.first.new.self at))))
+    going_then c.in-Ok.ensures.ok c.in-Ok-begin.ensures.ok (λ calls more begins goes.
+    request_keyed c.args.config.now is c.if-not-keyed.false
+    (subst (λ (s : SessionState). Begins c.args.config.now key.request s.outbox calls c.in-Ok.keyed c.first.new.self c.first.new.outbox) same begins)
+    (λ waits. key_begun c.first.new.self c.in-Ok-begin.stage c.begin.new.self more _ _ _ _ _ _ _ goes c.in-Ok-begin.ensures.targets c.in-Ok-begin.ensures.within
+    (c.go_to.ensures.step _ (key_of_work _ at)) (c.go_to.ensures.went _ (key_of_work _ at)) (waits)
+    (ap (λ (s : SessionState). s.reading) same) (ap (λ (s : SessionState). s.requests) same)
+    (ap (λ (s : SessionState). s.owes) same) (ap (λ (s : SessionState). s.begin) same)))
 
-pub returns-then-keyed-clause-err : goal.returns-then-keyed-clause-err
-returns-then-keyed-clause-err g c =
+pub returns-in-Err-clause-err : goal.returns-in-Err-clause-err
+returns-in-Err-clause-err g c =
     let same = c.self.view_is in
     let key = c.in-Some.field-0.key in
     let at = c.in-Some.field-0.stage in
     let work = sym (ap (λ (s : SessionState). s.work) same) ∙ ap work_at c.in-Some.is in
     let is = work ∙ read_work key at (subst (λ w. IsSome (read_in w)) work c.requires.read) in
-    if_err c.begin_key.result c.begin_key.ensures.err (λ lost drops-key. going_then c.in-Ok.ensures.ok drops-key (λ calls more begins goes.
-    request_lost c.args.config.now is c.if-keyed.true
-    (subst (λ (s : SessionState). Begins c.args.config.now key.request s.outbox calls (begun c.in-Ok.keyed c.first.new.self c.first.new.outbox)) same begins)
-    (ap (λ (s : SessionState). record s { outbox = c.first.new.outbox; work = key_work c.first.new.self at }) same)
-    (goes c.first.new.self (key_of_work c.first.new.self at))))
-
-pub returns-clause-ok : goal.returns-clause-ok
-returns-clause-ok g c =
-    let same = c.self.view_is in
-    let key = c.in-Some.field-0.key in
-    let at = c.in-Some.field-0.stage in
-    let work = sym (ap (λ (s : SessionState). s.work) same) ∙ ap work_at c.in-Some.is in
-    let is = work ∙ read_work key at (subst (λ w. IsSome (read_in w)) work c.requires.read) in
-    going c.in-Ok.ensures.ok (λ calls begins.
-    request_itself c.args.config.now is c.if-keyed.false
-    (subst (λ (s : SessionState). Begins c.args.config.now key.request s.outbox calls (begun c.in-Ok.keyed c.first.new.self c.first.new.outbox)) same begins)
-    (ap (λ (s : SessionState). record s { outbox = c.first.new.outbox; work = key_work c.first.new.self at }) same)
-    (rw c.request.ensures at (c.finish.ensures.step ∙ ap At c.progress_of-progress.ensures)) c.finish.ensures.finished)
+    let ready : IsRead c.args.self.now key = subst (IsReadyFor c.args.config.now c.args.self.now) is c.requires.ready in
+    let begin = subst (λ (s : SessionState). s.begin ≡ length s.outbox) (sym same) ready.begins in
+    let first = begins_first c.if-not-keyed.false c.in-Ok.ensures.ok.is in
+    let held = subst (λ xs. BeginsAt c.self.inside.begin c.first.new.self.share xs) (sym first.1)
+    (first_held c.self.inside.begin key.request c.self.inside.outbox c.first.new.self begin first.0) in
+    going_then c.in-Ok.ensures.ok c.in-Err.ensures.lost (λ calls more begins lost.
+    request_lost c.args.config.now is c.if-not-keyed.false
+    (subst (λ (s : SessionState). Begins c.args.config.now key.request s.outbox calls c.in-Ok.keyed c.first.new.self c.first.new.outbox) same begins)
+    (λ waits.
+    let left = front_stays _ _ _ _ held c.in-Err.ensures.err ∙ ap (take c.self.inside.begin) waits ∙ ap (λ (s : SessionState). take s.begin c.args.self.now.outbox) same in
+    let again = dropped_again c.args.self.now _ _ _ _ _ _ left (ap (λ (s : SessionState). s.reading) same) (ap (λ (s : SessionState). s.requests) same)
+    (ap (λ (s : SessionState). s.owes) same) (ap (λ (s : SessionState). s.begin) same) in
+    key_dropped c.first.new.self more c.in-Err.lost _ lost c.drop_after-in-Err.ensures.attempts (c.drop_after-in-Err.ensures.dropped ∙ again)))

@@ -3,7 +3,7 @@ use Rattle.tko_text.specs.declared.request.Request.{Request}
 use Rattle.tko_route.specs.Calls.{Call}
 use Rattle.tko_route.specs.Routing.{GoesOn, IsTried}
 use Rattle.tko_route.specs.Trail.{Makes, form_at}
-use Rattle.tko_route.proofs.looking.look_on.Given as goal
+use Rattle.tko_route.proofs.routing.look_on.Given as goal
 
 abbrev pub invariant-loop-attempts : goal.invariant-loop-attempts
 invariant-loop-attempts g l =
