@@ -4,3 +4,4 @@ pub mod ProbeTimes
 pub mod TcpAddresses
 pub mod TcpConnections
 pub mod TcpWires
+pub mod WireFaults

@@ -4,8 +4,10 @@
 //! and then needs neither the clock nor another limit of the socket. Each later call has what is
 //! left.
 ghost use Rattle.std.specs.Prelude.{◌≡◌, ◌≤◌, ◌↔◌, true, false, IfErr, IfOk, length};
+ghost use Rattle.std.specs.IoError.{error_kind};
 ghost use Rattle.tko_tcp.specs.ExchangeTimes.{left_at};
 ghost use Rattle.tko_tcp.specs.TcpConnections.{Begins, IsAllowed, IsOpened, IsQuick};
+ghost use Rattle.tko_tcp.specs.WireFaults.{fault_of_kind};
 
 use crate::exchange_time::ExchangeTime;
 use crate::limited_stream::LimitedStream;
@@ -146,7 +148,10 @@ impl TcpConnection {
     }
 }
 
-fn fault_of(error: Error) -> WireFault {
+/// Which fault of a wire an error of the socket is.
+fn fault_of(error: Error) -> WireFault
+    ensures { result ≡ fault_of_kind (error_kind error) }
+{
     match error.kind() {
         ErrorKind::WouldBlock | ErrorKind::TimedOut => WireFault::TimedOut,
         _ => WireFault::Other,
