@@ -58,6 +58,13 @@ impl<'a> Listening<'a> {
         }
     }
 
+    /// How many connections were accepted; it stays at 2^64 - 1.
+    pub fn accepted(&self) -> u64
+        ensures { result ≡ self.now.accepted }
+    {
+        self.accepted
+    }
+
     /// The next connection.
     pub(crate) fn accept(&mut self) -> Result<TcpStream, AcceptStop>
         ensures accepted { self.new.accepted ≡ count_after self.old.accepted result }
