@@ -2,3 +2,5 @@ mod NotedLemmas
 mod PortLemmas
 mod ReachLemmas
 mod RestLemmas
+mod TakenLemmas
+mod WireLemmas

@@ -88,8 +88,8 @@ pub record HasLeft {L T P : Type 0} (awaited : T → Option ℕ) (old : MuxState
   pub lines : new.lines ≡ old.lines
   pub limit : new.limit ≡ old.limit
 
--- where a client was to leave: it left; or it stays, since a request of it is under way; or there is
--- none
+-- where a client was to leave: it left; or it stays, since a request of it is under way, or there
+-- is none
 pub data DropEnds {L T P : Type 0} (awaited : T → Option ℕ) (old : MuxState (Guest L T) (Shared P))
     (number : ℕ) (new : MuxState (Guest L T) (Shared P)) : Type 0 where
   kept : IsKept (λ guest. awaited guest.talk) old.roster.slots number → new ≡ old

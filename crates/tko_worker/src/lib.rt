@@ -8,16 +8,21 @@
 //!   what that came to; `End`: why a client's session ended.
 #![tactic(auto)]
 
+mod event_worker;
 mod guest;
 mod memory;
 mod port;
+mod servers;
 mod settling;
 mod talking;
+mod wire;
 mod worker;
 
+pub use event_worker::EventWorker;
 pub use guest::{Event, Guest, Shared, Turned};
 pub use memory::MemoryPort;
 pub use port::{Port, Read};
+pub use servers::Peer;
 pub use settling::{End, Settled, settle};
 pub use talking::{Stage, Talking};
 pub use worker::Worker;

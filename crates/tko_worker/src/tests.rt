@@ -1,11 +1,14 @@
-//! Clients that are served until they rest.
-ghost use Rattle.std.specs.Prelude.{◌≡◌, None, IfOk};
+//! Clients that are served until they rest, and whole turns with a server.
+ghost use Rattle.std.specs.Prelude.{◌≡◌, None, Some, IfOk};
 
-use crate::{End, MemoryPort, Port, Settled, Shared, Stage, Talking, Worker, settle};
+use crate::{
+    End, Event, EventWorker, MemoryPort, Port, Read, Settled, Shared, Stage, Talking, Worker,
+    settle,
+};
 use std::alloc::Global;
 use std::test::Fail;
 use tko_bytes::NoMemory;
-use tko_model::Clear;
+use tko_model::{Clear, Look, Mark};
 use tko_mux::Came;
 use tko_text::{Key, Keys, Request};
 
@@ -149,5 +152,208 @@ fn a_client_is_served_at_the_end_of_the_turn(rt: HostRuntime) -> Result<(), Fail
     assert!(rt; worker.spent().is_empty());
     let next = MemoryPort::new(alloc, Vec::new(alloc), 100);
     assert_eq!(rt; worker.open(next, new_echo(alloc, 100)?)?, number);
+    Ok(())
+}
+
+/// A port from which nothing can be read before an event says so.
+#[derive(Drop)]
+struct LatePort {
+    inner: MemoryPort,
+    readable: bool,
+}
+
+impl Port for LatePort {
+    ghost port = { λ it. record (⟦<MemoryPort as Port>⟧.port it.inner) { readable = it.readable } };
+
+    fn is_readable(&self) -> bool {
+        self.readable
+    }
+
+    fn is_writable(&self) -> bool {
+        self.inner.is_writable()
+    }
+
+    fn set_readable(&mut self) {
+        self.readable = true;
+    }
+
+    fn set_writable(&mut self) {
+        self.inner.set_writable();
+    }
+
+    fn set_ended(&mut self) {
+        self.readable = true;
+    }
+
+    fn read(&mut self, buffer: &mut [u8]) -> Read {
+        self.inner.set_readable();
+        let read = self.inner.read(buffer);
+        self.readable = self.inner.is_readable();
+        read
+    }
+
+    fn write(&mut self, text: &[u8]) -> Option<usize> {
+        self.inner.write(text)
+    }
+}
+
+/// A session that asks server 0 once it is served. Once a response came it replies with a word, and
+/// is over.
+#[derive(Drop)]
+struct AskTalk {
+    request: Request,
+    has_asked: bool,
+    has_come: bool,
+    awaits: Option<usize>,
+    output: Vec<u8>,
+    stage: Stage,
+}
+
+/// The permission to ask a server that is up.
+fn clear_of(server: usize) -> Option<Clear>
+    ensures { result ≡ Some server }
+{
+    match Look::of(server, Mark::Up(0)) {
+        Look::Up(_, clear) => Some(clear),
+        Look::Marked(_) => None,
+    }
+}
+
+impl Talking<()> for AskTalk {
+    ghost use Rattle.std.specs.Prelude.{None, Some};
+
+    ghost talk = { λ it. record { stage = it.stage; output = it.output.items } };
+
+    ghost awaited = { λ it. it.awaits };
+
+    ghost asks_for = { λ it. Some it.request };
+
+    ghost does = { λ _ _ _. Unit {0} };
+
+    ghost ready = { λ _ _. Unit {0} };
+
+    ghost stays = { λ _ _. Unit {0} };
+
+    ghost stay_ready = { λ _ _ _ _ _. tt };
+
+    ghost stay = { λ _ _ _ _ _. tt };
+
+    ghost same_stays = { λ _. tt };
+
+    fn go_on(&mut self, _parts: &mut ()) -> Result<Option<Clear>, NoMemory> {
+        if self.has_come {
+            self.stage = Stage::Over;
+            return Ok(None);
+        }
+        self.stage = Stage::NeedsInput;
+        if self.has_asked {
+            return Ok(None);
+        }
+        self.has_asked = true;
+        self.awaits = Some(0);
+        Ok(clear_of(0))
+    }
+
+    fn stage(&self) -> Stage {
+        self.stage
+    }
+
+    fn output(&self) -> &[u8] {
+        self.output.as_slice()
+    }
+
+    fn sent(&mut self, _parts: &mut (), count: usize) {
+        self.output.drain(..count);
+    }
+
+    fn feed(&mut self, _parts: &mut (), _piece: &[u8]) -> Result<(), NoMemory> {
+        Ok(())
+    }
+
+    fn end(&mut self, _parts: &mut ()) {}
+
+    fn take(&mut self, _parts: &mut (), came: Came) -> Option<Clear> {
+        self.awaits = None;
+        if let Came::Response(_) = came {
+            let _ = self.output.extend_from_slice(b"came".as_slice());
+            self.has_come = true;
+        }
+        None
+    }
+
+    fn awaited(&self) -> Option<usize> {
+        self.awaits
+    }
+
+    fn request(&self) -> &Request {
+        &self.request
+    }
+}
+
+/// A client that asks server 0, and whose port takes all.
+fn new_asker(alloc: Global) -> Result<AskTalk, Fail>
+    ensures { IfOk result (λ it. it.awaits ≡ None) }
+{
+    Ok(AskTalk {
+        request: Request::Version,
+        has_asked: false,
+        has_come: false,
+        awaits: None,
+        output: Vec::new(alloc),
+        stage: Stage::NeedsInput,
+    })
+}
+
+/// A port whose other side sends this once an event says so.
+fn new_port(alloc: Global, input: &[u8]) -> Result<LatePort, Fail> {
+    Ok(LatePort {
+        inner: MemoryPort::new(alloc, input.to_vec(alloc)?, 100),
+        readable: false,
+    })
+}
+
+#[test]
+fn a_request_is_written_and_the_response_reaches_its_client(rt: HostRuntime) -> Result<(), Fail> {
+    let alloc = rt.alloc();
+    let shared = Shared {
+        parts: (),
+        buffer: vec![in alloc; 0; 4]?,
+    };
+    let mut worker = EventWorker::new(alloc, shared, 1, 100)?;
+    let number = worker
+        .clients
+        .open(new_port(alloc, b"".as_slice())?, new_asker(alloc)?)?;
+    assert!(rt; worker.end_turn(alloc, &mut [0; 4], 1, 101));
+    assert!(rt; worker.wants(0));
+    assert_eq!(rt; worker.next_due(), Some(101));
+    worker.connecting(0, new_port(alloc, b"VERSION 1\r\n".as_slice())?);
+    worker.connected(0);
+    assert!(rt; worker.end_turn(alloc, &mut [0; 4], 2, 102));
+    worker.note_server(0, Event::Readable);
+    assert!(rt; !worker.end_turn(alloc, &mut [0; 4], 3, 103));
+    assert!(rt; worker.end_turn(alloc, &mut [0; 4], 3, 103));
+    assert!(rt; !worker.wants(0));
+    let next = new_port(alloc, b"".as_slice())?;
+    assert_eq!(rt; worker.clients.open(next, new_asker(alloc)?)?, number);
+    Ok(())
+}
+
+#[test]
+fn a_client_whose_server_is_late_is_told_so(rt: HostRuntime) -> Result<(), Fail> {
+    let alloc = rt.alloc();
+    let shared = Shared {
+        parts: (),
+        buffer: vec![in alloc; 0; 4]?,
+    };
+    let mut worker = EventWorker::new(alloc, shared, 1, 100)?;
+    worker
+        .clients
+        .open(new_port(alloc, b"".as_slice())?, new_asker(alloc)?)?;
+    assert!(rt; worker.end_turn(alloc, &mut [0; 4], 1, 101));
+    assert!(rt; worker.end_turn(alloc, &mut [0; 4], 100, 200));
+    assert!(rt; worker.wants(0));
+    assert!(rt; !worker.end_turn(alloc, &mut [0; 4], 101, 201));
+    assert!(rt; worker.end_turn(alloc, &mut [0; 4], 101, 201));
+    assert_eq!(rt; worker.next_due(), None);
     Ok(())
 }

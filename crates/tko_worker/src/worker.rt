@@ -1,11 +1,12 @@
 //! One turn of events of a worker.
-ghost use Rattle.std.specs.Prelude.{◌≡◌, ◌<◌, [], None, IfNone, IfOk, OnErr, length};
+ghost use Rattle.std.specs.Prelude.{◌≡◌, ◌<◌, [], None, Some, IfNone, IfOk, OnErr, length};
 ghost use Rattle.std.specs.Bool.{OnFalse, OnTrue};
 ghost use Rattle.tko_roster.specs.Rosters.{AreReady};
 ghost use Rattle.tko_mux.specs.Linking.{AreLinked};
 ghost use Rattle.tko_mux.specs.Muxes.{HasNoneLeaving, line_at};
 ghost use Rattle.tko_worker.specs.Guests.{IsNotice, noting};
 ghost use Rattle.tko_worker.specs.Ports.{now_readable, now_writable};
+ghost use Rattle.tko_worker.specs.Servers.{HasLeftNext, HasTaken, ListsReached};
 ghost use Rattle.tko_worker.specs.Workers.{DropEnds, IsListed, IsListedFor, IsNoted, IsOpened, IsServed, ListEnds, NobodyForgotten, OthersStay, OthersStayFor, RestAt, WasServed};
 
 use crate::{Event, Guest, Port, Shared, Talking, Turned};
@@ -20,7 +21,7 @@ use tko_roster::Driven;
 /// The clients of a worker, and which of them are to be served.
 #[derive(Drop)]
 pub struct Worker<L, T, P> {
-    mux: Mux<Guest<L, T>, Shared<P>>,
+    pub(crate) mux: Mux<Guest<L, T>, Shared<P>>,
     /// The numbers of clients that are to be served in this turn.
     touched: Vec<usize>,
     /// And of those that are served again in the next.
@@ -185,6 +186,8 @@ impl<P, L: Port + Drop, T: Talking<P> + Drop> Worker<L, T, P> {
             self.old.mux.roster.slots self.old.mux.lines }
         requires nobody { NobodyForgotten (T.awaited, T.talk, L.port)
             self.old.mux.roster.slots self.old.touched self.old.spent }
+        ensures taken { HasTaken (T.awaited, T.talk, L.port)
+            ⟦<Guest<L, T> as Asking<Shared<P>>>⟧.asks_for self.old server due result self.new }
         ensures nobody { NobodyForgotten (T.awaited, T.talk, L.port)
             self.new.mux.roster.slots self.new.touched self.new.spent }
         ensures ready { AreReady ⟦<Client<Guest<L, T>> as Driven<Shared<P>>>⟧.ready
@@ -212,6 +215,8 @@ impl<P, L: Port + Drop, T: Talking<P> + Drop> Worker<L, T, P> {
             self.old.mux.roster.slots self.old.mux.lines }
         requires nobody { NobodyForgotten (T.awaited, T.talk, L.port)
             self.old.mux.roster.slots self.old.touched self.old.spent }
+        ensures told { HasLeftNext (T.awaited, T.talk, L.port)
+            ⟦<Guest<L, T> as Asking<Shared<P>>>⟧.asks_for self.old server due result self.new }
         ensures none { IfNone result (HasNoneLeaving (line_at self.new.mux server)) }
         ensures nobody { NobodyForgotten (T.awaited, T.talk, L.port)
             self.new.mux.roster.slots self.new.touched self.new.spent }
@@ -308,6 +313,8 @@ fn list_reached<P, L: Port + Drop, T: Talking<P> + Drop>(
     requires ready { AreReady ⟦<Client<Guest<L, T>> as Driven<Shared<P>>>⟧.ready mux.old.roster }
     requires linked { AreLinked ⟦<Guest<L, T> as Asking<Shared<P>>>⟧.awaited
         mux.old.roster.slots mux.old.lines }
+    ensures ends { ListsReached T.awaited mux.old (Some delivery.now) numbers.old.items mux.new
+        numbers.new.items }
     ensures listed { IsListedFor (T.awaited, T.talk, L.port) mux.new.roster.slots delivery.now
         numbers.old.items numbers.new.items }
     ensures others { OthersStayFor delivery.now mux.old.roster.slots mux.new.roster.slots }

@@ -1,6 +1,7 @@
-use Rattle.std.proofs.Common.{subst, sym}
+use Rattle.std.proofs.Common.{None, Some, refl, subst, sym}
 use Rattle.tko_worker.specs.Workers.{NobodyForgotten, WorkerState}
 use Rattle.tko_worker.proofs.ReachLemmas.{leave_others, one_reached}
+use Rattle.tko_worker.proofs.TakenLemmas.{left_by}
 use Rattle.tko_worker.proofs.worker.Worker.leave.Goals as goal
 
 pub returns-in-Some-clause-nobody : goal.returns-in-Some-clause-nobody
@@ -16,3 +17,18 @@ returns-in-Some-clause-nobody g c =
     (λ guest. g.T.Talking.asks_for guest.talk) c.self.inside.mux c.leave.new.self c.args.server
     c.args.due c.in-Some.delivery c.leave.result c.leave.ensures.left c.in-Some.is)
     c.list_reached.ensures.others c.list_reached.ensures.listed
+
+pub returns-in-Some-clause-told : goal.returns-in-Some-clause-told
+returns-in-Some-clause-told g c =
+    left_by (g.T.Talking.awaited, g.T.Talking.talk, g.L.Port.port)
+    (λ guest. g.T.Talking.asks_for guest.talk) _ c.args.self.now c.leave.new.self
+    c.list_reached.new.mux c.list_reached.new.numbers.items c.args.server c.args.due c.leave.result
+    (Some c.in-Some.delivery) c.self.view_is c.in-Some.is c.leave.ensures.left
+    c.list_reached.ensures.ends
+
+pub returns-in-None-clause-told : goal.returns-in-None-clause-told
+returns-in-None-clause-told g c =
+    left_by (g.T.Talking.awaited, g.T.Talking.talk, g.L.Port.port)
+    (λ guest. g.T.Talking.asks_for guest.talk) _ c.args.self.now c.leave.new.self c.leave.new.self
+    c.self.inside.touched.items c.args.server c.args.due c.leave.result None c.self.view_is
+    c.in-None.is c.leave.ensures.left (refl, refl)

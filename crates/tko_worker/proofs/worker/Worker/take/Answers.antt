@@ -1,6 +1,7 @@
-use Rattle.std.proofs.Common.{rules, ◌≡◌, ◌∙◌, None, Some, Ok, subst, sym}
+use Rattle.std.proofs.Common.{rules, ◌≡◌, ◌∙◌, None, Some, Ok, refl, subst, sym}
 use Rattle.tko_worker.specs.Workers.{NobodyForgotten, WorkerState}
 use Rattle.tko_worker.proofs.ReachLemmas.{one_reached, take_others, unread_nobody}
+use Rattle.tko_worker.proofs.TakenLemmas.{taken_by}
 use Rattle.tko_worker.proofs.worker.Worker.take.Goals as goal
 
 pub returns-in-Ok-Some-clause-nobody : goal.returns-in-Ok-Some-clause-nobody
@@ -39,3 +40,25 @@ returns-in-Err-clause-nobody g c =
     (subst (λ (w : WorkerState _ _ _). NobodyForgotten
     (g.T.Talking.awaited, g.T.Talking.talk, g.L.Port.port) w.mux.roster.slots w.touched w.spent)
     (sym c.self.view_is) c.requires.nobody)
+
+pub returns-in-Ok-Some-clause-taken : goal.returns-in-Ok-Some-clause-taken
+returns-in-Ok-Some-clause-taken g c =
+    taken_by (g.T.Talking.awaited, g.T.Talking.talk, g.L.Port.port)
+    (λ guest. g.T.Talking.asks_for guest.talk) _ c.args.self.now c.take.new.self
+    c.list_reached.new.mux c.list_reached.new.numbers.items c.args.server c.args.due c.take.result
+    (Ok (Some c.in-Ok-Some.delivery)) c.self.view_is (search rules) c.take.ensures.read
+    c.list_reached.ensures.ends
+
+pub returns-in-Ok-None-clause-taken : goal.returns-in-Ok-None-clause-taken
+returns-in-Ok-None-clause-taken g c =
+    taken_by (g.T.Talking.awaited, g.T.Talking.talk, g.L.Port.port)
+    (λ guest. g.T.Talking.asks_for guest.talk) _ c.args.self.now c.take.new.self c.take.new.self
+    c.self.inside.touched.items c.args.server c.args.due c.take.result (Ok None) c.self.view_is
+    (search rules) c.take.ensures.read (refl, refl)
+
+pub returns-in-Err-clause-taken : goal.returns-in-Err-clause-taken
+returns-in-Err-clause-taken g c =
+    taken_by (g.T.Talking.awaited, g.T.Talking.talk, g.L.Port.port)
+    (λ guest. g.T.Talking.asks_for guest.talk) _ c.args.self.now c.take.new.self c.take.new.self
+    c.self.inside.touched.items c.args.server c.args.due c.take.result _ c.self.view_is
+    c.in-Err.is c.take.ensures.read (refl, refl)

@@ -1,0 +1,149 @@
+-- What came from a server, and where there is no response yet.
+use Rattle.std.proofs.Common.{◌≡◌, ◌⊎◌, ℕ, Bool, true, false, List, refl, sym, ap, subst, ◌∙◌, Option, Some, None}
+use Rattle.std.specs.Bool.{OnFalse, OnTrue}
+use Rattle.std.specs.Prelude.{not, Result, Ok, Err, slice_get}
+use Rattle.tko_text.specs.declared.request.Request.{Request}
+use Rattle.tko_text.specs.declared.response.Response.{Response}
+use Rattle.tko_pipe.specs.declared.fates.ShutCause.{ShutCause}
+use Rattle.tko_pipe.specs.declared.link.Link.{Link}
+use Rattle.tko_pipe.specs.declared.link.Link.TheVariants.{Connecting, Connected, Shut}
+use Rattle.tko_pipe.specs.declared.waiter.Asker.{Asker}
+use Rattle.tko_pipe.specs.declared.waiter.Waiter.{Waiter}
+use Rattle.tko_pipe.specs.Pipes.{PipeState}
+use Rattle.tko_roster.specs.Rosters.{RosterState}
+use Rattle.tko_mux.specs.declared.client.Client.{Client}
+use Rattle.tko_mux.specs.declared.mux.delivery.Delivery.{Delivery}
+use Rattle.tko_mux.specs.Asks.{AskingActs}
+use Rattle.tko_mux.specs.Lines.{LineState, first_on, line_by}
+use Rattle.tko_mux.specs.Muxes.{IsOnLine, IsRead, LeaveEnds, MuxState, Reaches, ReadsFirst, ReadsOn}
+use Rattle.tko_worker.specs.declared.guest.Guest.{Guest}
+use Rattle.tko_worker.specs.declared.guest.Shared.{Shared}
+use Rattle.tko_worker.specs.declared.guest.Turned.{Turned}
+use Rattle.tko_worker.specs.Guests.{IsGuestCall}
+use Rattle.tko_worker.specs.Servers.{AwaitsMore, HasLeftNext, HasNoResponse, HasTaken, ListsReached, delivery_in, pipe_at}
+use Rattle.tko_worker.specs.Workers.{Sight, WorkerState}
+use Rattle.tko_worker.proofs.WireLemmas.{this_line}
+
+-- the connection of a line is the one that the line was made of
+live_of : (link : Link) (it pipe : PipeState) → (line_by link it).pipe ≡ Some pipe → it ≡ pipe
+live_of Connecting it pipe is = cc is
+live_of Connected it pipe is = cc is
+live_of (Shut left) it pipe is = absurd (let none : ⊥ = cc is in none)
+
+-- where no response was read on a line, none is there
+none_there : {S P : Type 0} (asks_for : S → Option Request) (roster : RosterState (Client S) P)
+    (first : Option Waiter) (was now : LineState) (pipe : PipeState) → first_on was.pipe ≡ first
+    → ReadsFirst asks_for roster first was (Ok None) now → now.pipe ≡ Some pipe
+    → AwaitsMore asks_for roster (slice_get pipe.waiting 0) pipe
+none_there asks_for roster None was now pipe is read here =
+    let before : was.pipe ≡ Some pipe = sym (ap (λ (l : LineState). l.pipe) read.1) ∙ here in
+    let none : slice_get pipe.waiting 0 ≡ None = sym (ap first_on before) ∙ is in
+    subst (λ (f : Option Waiter). AwaitsMore asks_for roster f pipe) (sym none) tt
+none_there asks_for roster (Some waiter) was now pipe is read here =
+    let on = read.on in
+    let of : on.now ≡ pipe =
+    live_of on.now.link on.now pipe (sym (ap (λ (l : LineState). l.pipe) on.to) ∙ here) in
+    let same : on.was ≡ pipe = sym on.ends.0 ∙ of in
+    let some : slice_get on.was.waiting 0 ≡ Some waiter = sym (ap first_on on.from) ∙ is in
+    subst (λ (p : PipeState). AwaitsMore asks_for roster (slice_get p.waiting 0) p) same
+    (subst (λ (f : Option Waiter). AwaitsMore asks_for roster f on.was) (sym some)
+    (record { request = read.lent; is_lent = read.is_lent; short = on.ends.1 }))
+
+none_on : {S P : Type 0} (asks_for : S → Option Request) (old : MuxState S P)
+    (lines : List LineState) (server : ℕ)
+    → IsOnLine (λ was now. ReadsOn asks_for old.roster was (Ok None) now) old.lines server lines
+    → HasNoResponse asks_for (record old { lines = lines }) server
+none_on asks_for old lines server on pipe here link =
+    let at : on.now.pipe ≡ Some pipe =
+    sym (ap pipe_at (this_line _ old.lines lines server on)) ∙ here in
+    none_there asks_for old.roster (first_on on.was.pipe) on.was on.now pipe refl on.ends at
+
+none_by : {S P I O : Type 0} (acts : AskingActs S P I O) (awaited : S → Option ℕ)
+    (asks_for : S → Option Request) (old new : MuxState S P) (lines : List LineState)
+    (server due : ℕ) (taken : Result (Option (Asker × Response)) ShutCause)
+    → IsOnLine (λ was now. ReadsOn asks_for old.roster was taken now) old.lines server lines
+    → Reaches acts awaited asks_for (record old { lines = lines }) taken due (Ok None) new
+    → HasNoResponse asks_for new server
+none_by {S} {P} acts awaited asks_for old new lines server due (Ok None) on reaches =
+    subst (λ (m : MuxState S P). HasNoResponse asks_for m server) (sym reaches.1)
+    (none_on asks_for old lines server on)
+none_by acts awaited asks_for old new lines server due (Err why) on reaches =
+    absurd (let e = reaches.0 in let f : ⊥ = cc e in f)
+none_by acts awaited asks_for old new lines server due (Ok (Some taken)) on reaches =
+    absurd (let e = reaches.1 in let f : ⊥ = cc e in f)
+
+none_read : {S P I O : Type 0} (acts : AskingActs S P I O) (awaited : S → Option ℕ)
+    (asks_for : S → Option Request) (old new : MuxState S P) (server due : ℕ)
+    → IsRead acts awaited asks_for old server due (Ok None) new → HasNoResponse asks_for new server
+none_read acts awaited asks_for old new server due read =
+    none_by acts awaited asks_for old new read.lines server due read.taken read.on read.reaches
+
+pub none_taken : {L T P : Type 0} (sight : Sight L T) (asks_for : Guest L T → Option Request)
+    (old new : WorkerState L T P) (server due : ℕ)
+    → HasTaken sight asks_for old server due (Ok None) new
+    → HasNoResponse asks_for new.mux server
+none_taken {L} {T} {P} sight asks_for old new server due taken =
+    subst (λ (m : MuxState (Guest L T) (Shared P)). HasNoResponse asks_for m server)
+    (sym taken.listed.0)
+    (none_read (IsGuestCall sight.0 sight.1 sight.2) (λ guest. sight.0 guest.talk) asks_for old.mux
+    taken.mid server due taken.read)
+
+pub taken_by : {L T P : Type 0} (sight : Sight L T) (asks_for : Guest L T → Option Request)
+    (inside old : WorkerState L T P) (mid mux : MuxState (Guest L T) (Shared P)) (touched : List ℕ)
+    (server due : ℕ) (result told : Result (Option (Delivery Turned)) ShutCause) → inside ≡ old
+    → result ≡ told
+    → IsRead (IsGuestCall sight.0 sight.1 sight.2) (λ guest. sight.0 guest.talk) asks_for inside.mux
+    server due result mid
+    → ListsReached sight.0 mid (delivery_in told) inside.touched mux touched
+    → HasTaken sight asks_for old server due told
+    (record { mux = mux; touched = touched; spent = inside.spent })
+taken_by {L} {T} {P} sight asks_for inside old mid mux touched server due result told same is read
+    listed =
+    subst (λ (w : WorkerState L T P). HasTaken sight asks_for w server due told
+    (record { mux = mux; touched = touched; spent = inside.spent })) same
+    (record {
+      mid = mid;
+      read = subst (λ r. IsRead (IsGuestCall sight.0 sight.1 sight.2)
+          (λ guest. sight.0 guest.talk) asks_for inside.mux server due r mid) is read;
+      listed = listed;
+      spent = refl;
+    })
+
+pub left_by : {L T P : Type 0} (sight : Sight L T) (asks_for : Guest L T → Option Request)
+    (inside old : WorkerState L T P) (mid mux : MuxState (Guest L T) (Shared P)) (touched : List ℕ)
+    (server due : ℕ) (result told : Option (Delivery Turned)) → inside ≡ old → result ≡ told
+    → LeaveEnds (IsGuestCall sight.0 sight.1 sight.2) (λ guest. sight.0 guest.talk) asks_for
+    inside.mux server due result mid
+    → ListsReached sight.0 mid told inside.touched mux touched
+    → HasLeftNext sight asks_for old server due told
+    (record { mux = mux; touched = touched; spent = inside.spent })
+left_by {L} {T} {P} sight asks_for inside old mid mux touched server due result told same is left
+    listed =
+    subst (λ (w : WorkerState L T P). HasLeftNext sight asks_for w server due told
+    (record { mux = mux; touched = touched; spent = inside.spent })) same
+    (record {
+      mid = mid;
+      left = subst (λ r. LeaveEnds (IsGuestCall sight.0 sight.1 sight.2)
+          (λ guest. sight.0 guest.talk) asks_for inside.mux server due r mid) is left;
+      listed = listed;
+      spent = refl;
+    })
+
+-- the same, where a look for a response tells whether one came
+pub none_unless : {L T P : Type 0} (sight : Sight L T) (asks_for : Guest L T → Option Request)
+    (old new : WorkerState L T P) (server due : ℕ)
+    (result : Result (Option (Delivery Turned)) ShutCause) (more : Bool)
+    → OnFalse more (result ≡ Ok None) → HasTaken sight asks_for old server due result new
+    → OnFalse more (HasNoResponse asks_for new.mux server)
+none_unless sight asks_for old new server due result true none taken = tt
+none_unless sight asks_for old new server due result false none taken =
+    none_taken sight asks_for old new server due
+    (subst (λ r. HasTaken sight asks_for old server due r new) none taken)
+
+pub none_kept : {L T P : Type 0} (asks_for : Guest L T → Option Request)
+    (old new : WorkerState L T P) (server : ℕ) (late : Bool) → OnFalse late (new ≡ old)
+    → HasNoResponse asks_for old.mux server
+    → OnTrue (not late) (HasNoResponse asks_for new.mux server)
+none_kept asks_for old new server true kept none = tt
+none_kept {L} {T} {P} asks_for old new server false kept none =
+    subst (λ (w : WorkerState L T P). HasNoResponse asks_for w.mux server) (sym kept) none

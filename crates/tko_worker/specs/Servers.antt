@@ -1,0 +1,76 @@
+-- The servers of a worker: what came from them, and when nothing can be done for them.
+use Rattle.std.specs.Prelude.{◌≡◌, ◌⊎◌, ℕ, List, [], Option, Some, None, Result, Ok, Err, slice_get}
+use Rattle.std.specs.Option.{option_and_then, option_map}
+use Rattle.tko_text.specs.declared.request.Request.{Request}
+use Rattle.tko_text.specs.declared.response.fault.ReadFault.TheVariants as fault
+use Rattle.tko_text.specs.Responses.{ReadsResponse}
+use Rattle.tko_pipe.specs.declared.fates.ShutCause.{ShutCause}
+use Rattle.tko_pipe.specs.declared.link.Link.TheVariants.{Connected}
+use Rattle.tko_pipe.specs.declared.waiter.Waiter.{Waiter}
+use Rattle.tko_pipe.specs.Pipes.{PipeState}
+use Rattle.tko_roster.specs.Rosters.{RosterState}
+use Rattle.tko_mux.specs.declared.client.Client.{Client}
+use Rattle.tko_mux.specs.declared.mux.delivery.Delivery.{Delivery}
+use Rattle.tko_mux.specs.declared.mux.delivery.Delivery.TheVariants.{Probed, Reached}
+use Rattle.tko_mux.specs.Lines.{LineState}
+use Rattle.tko_mux.specs.Muxes.{IsLent, IsRead, LeaveEnds, MuxState}
+use Rattle.tko_worker.specs.declared.guest.Guest.{Guest}
+use Rattle.tko_worker.specs.declared.guest.Shared.{Shared}
+use Rattle.tko_worker.specs.declared.guest.Turned.{Turned}
+use Rattle.tko_worker.specs.Guests.{IsGuestCall}
+use Rattle.tko_worker.specs.Workers.{ListEnds, Sight, WorkerState}
+
+-- no whole response of a connection is unread, where this request is the first that waits
+pub record IsUnanswered {S P : Type 0} (asks_for : S → Option Request)
+    (roster : RosterState (Client S) P) (first : Waiter) (pipe : PipeState) : Type 0 where
+  pub request : Request
+  pub is_lent : IsLent asks_for roster first.by request
+  pub short : (pipe.unread ≡ []) ⊎ ReadsResponse request pipe.unread (Err fault.Short)
+
+abbrev pub AwaitsMore : {S P : Type 0} → (S → Option Request) → RosterState (Client S) P
+    → Option Waiter → PipeState → Type 0
+AwaitsMore asks_for roster None pipe = Unit {0}
+AwaitsMore asks_for roster (Some first) pipe = IsUnanswered asks_for roster first pipe
+
+-- the connection that requests to a server go out on
+abbrev pub pipe_at : Option LineState → Option PipeState
+pipe_at line = option_and_then (λ it. it.pipe) line
+
+-- no whole response of a server is unread
+abbrev pub HasNoResponse : {S P : Type 0} → (S → Option Request) → MuxState S P → ℕ → Type 0
+HasNoResponse asks_for mux server = (pipe : PipeState)
+    → pipe_at (slice_get mux.lines server) ≡ Some pipe → pipe.link ≡ Connected
+    → AwaitsMore asks_for mux.roster (slice_get pipe.waiting 0) pipe
+
+-- the client that something reached, if it reached one, is to be served in this turn
+abbrev pub ListsReached : {L T P : Type 0} → (T → Option ℕ) → MuxState (Guest L T) (Shared P)
+    → Option (Delivery Turned) → List ℕ → MuxState (Guest L T) (Shared P) → List ℕ → Type 0
+ListsReached awaited old None numbers new now = (new ≡ old) × (now ≡ numbers)
+ListsReached awaited old (Some (Reached number done)) numbers new now =
+    ListEnds awaited old number numbers new now
+ListsReached awaited old (Some (Probed it)) numbers new now = (new ≡ old) × (now ≡ numbers)
+
+abbrev pub delivery_in : Result (Option (Delivery Turned)) ShutCause → Option (Delivery Turned)
+delivery_in (Ok delivery) = delivery
+delivery_in (Err why) = None
+
+-- a response of a server was looked for; the client that it reached is to be served in this turn
+pub record HasTaken {L T P : Type 0} (sight : Sight L T) (asks_for : Guest L T → Option Request)
+    (old : WorkerState L T P) (server due : ℕ) (result : Result (Option (Delivery Turned)) ShutCause)
+    (new : WorkerState L T P) : Type 0 where
+  pub mid : MuxState (Guest L T) (Shared P)
+  pub read : IsRead (IsGuestCall sight.0 sight.1 sight.2) (λ guest. sight.0 guest.talk) asks_for
+      old.mux server due result mid
+  pub listed : ListsReached sight.0 mid (delivery_in result) old.touched new.mux new.touched
+  pub spent : new.spent ≡ old.spent
+
+-- the next of those that waited on a connection that was shut was told what became of its request;
+-- if it is a client, that is to be served in this turn
+pub record HasLeftNext {L T P : Type 0} (sight : Sight L T) (asks_for : Guest L T → Option Request)
+    (old : WorkerState L T P) (server due : ℕ) (result : Option (Delivery Turned))
+    (new : WorkerState L T P) : Type 0 where
+  pub mid : MuxState (Guest L T) (Shared P)
+  pub left : LeaveEnds (IsGuestCall sight.0 sight.1 sight.2) (λ guest. sight.0 guest.talk) asks_for
+      old.mux server due result mid
+  pub listed : ListsReached sight.0 mid result old.touched new.mux new.touched
+  pub spent : new.spent ≡ old.spent

@@ -1,0 +1,61 @@
+-- A turn of events of a worker as a whole: its clients and its servers.
+use Rattle.std.specs.Prelude.{◌≡◌, ◌≢◌, ◌<◌, ◌≤◌, nat_le, if◌then◌else◌, ℕ, false, List, Option, Some, None, slice_get}
+use Rattle.std.specs.Option.{option_and_then, option_map}
+use Rattle.tko_pipe.specs.declared.link.Link.TheVariants.{Connecting}
+use Rattle.tko_mux.specs.Lines.{LineState}
+use Rattle.tko_worker.specs.declared.servers.Peer.{Peer}
+use Rattle.tko_worker.specs.Ports.{PortState}
+use Rattle.tko_worker.specs.Wires.{CannotRead, CannotWriteTo, IsOpen, first_at, is_first_late, link_at}
+
+-- the port of the socket to a server, if there is one
+abbrev pub socket_at : {L : Type 0} → (L → PortState) → List (Peer L) → ℕ → Option PortState
+socket_at port peers server =
+    option_and_then (λ peer. option_map port peer.socket) (slice_get peers server)
+
+-- nothing can be done for a server before its next event: nobody is left of a connection that was
+-- shut; nothing can be read; nothing can be written; and its first response is not late
+pub record ServerRests (now : ℕ) (line : Option LineState) (port : Option PortState) : Type 0 where
+  pub is_open : IsOpen line
+  pub read : CannotRead line port
+  pub write : CannotWriteTo line port
+  pub time : is_first_late (first_at line) now ≡ false
+
+-- each of so many servers rests
+abbrev pub ServersRest : {L : Type 0} → (L → PortState) → ℕ → List LineState → List (Peer L) → ℕ
+    → Type 0
+ServersRest port now lines peers count = (server : ℕ) → server < count
+    → ServerRests now (slice_get lines server) (socket_at port peers server)
+
+-- to each of so many servers nothing can be written, unless its connection was shut
+abbrev pub AreWritten : {L : Type 0} → (L → PortState) → List LineState → List (Peer L) → ℕ
+    → Type 0
+AreWritten port lines peers count = (server : ℕ) → server < count → IsOpen (slice_get lines server)
+    → CannotWriteTo (slice_get lines server) (socket_at port peers server)
+
+-- the other servers have their sockets as before
+abbrev pub OtherPeers : {L : Type 0} → ℕ → List (Peer L) → List (Peer L) → Type 0
+OtherPeers server old new =
+    (other : ℕ) → other ≢ server → slice_get new other ≡ slice_get old other
+
+-- when the first response of a server is due, if one is awaited
+abbrev pub due_at : List LineState → ℕ → Option ℕ
+due_at lines server = option_map (λ first. first.due) (first_at (slice_get lines server))
+
+-- the first moment at which a response of so many servers is due, if any is awaited
+abbrev pub IsNextDue : List LineState → ℕ → Option ℕ → Type 0
+IsNextDue lines count None = (server : ℕ) → server < count → due_at lines server ≡ None
+IsNextDue lines count (Some moment) =
+    ((server due : ℕ) → server < count → due_at lines server ≡ Some due → moment ≤ due)
+    × ((server : ℕ) × (server < count) × (due_at lines server ≡ Some moment))
+
+-- a connection to a server is to be begun: requests wait for one, and there is no socket
+pub record IsWanted (line : Option LineState) (port : Option PortState) : Type 0 where
+  pub link : link_at line ≡ Some Connecting
+  pub is_open : IsOpen line
+  pub closed : port ≡ None
+
+-- the first of two moments, if there is one
+abbrev pub earlier : Option ℕ → Option ℕ → Option ℕ
+earlier None other = other
+earlier (Some one) None = Some one
+earlier (Some one) (Some other) = if nat_le one other then Some one else Some other

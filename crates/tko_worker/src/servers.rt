@@ -1,0 +1,484 @@
+//! The servers of a worker, from one event to the next.
+ghost use Rattle.std.specs.Prelude.{◌≡◌, ◌≢◌, ◌<◌, None, Some, Ok, false, length, option_map};
+ghost use Rattle.std.specs.Bool.{OnFalse, OnTrue};
+ghost use Rattle.tko_roster.specs.Rosters.{AreReady};
+ghost use Rattle.tko_mux.specs.Linking.{AreLinked};
+ghost use Rattle.tko_mux.specs.Muxes.{HasNoneLeaving, line_at};
+ghost use Rattle.tko_worker.specs.Guests.{noting};
+ghost use Rattle.tko_worker.specs.Servers.{HasNoResponse};
+ghost use Rattle.tko_worker.specs.Wires.{CannotRead, CannotWriteTo, HasConnected, HasExpired, HasFailed, HasReadOn, IsHeld, IsOpen, OtherLines, first_at, is_first_late};
+ghost use Rattle.tko_worker.specs.Workers.{NobodyForgotten};
+
+use crate::wire::{is_connecting, is_late, is_open, read_wire, write_wire};
+use crate::{Event, Guest, Port, Shared, Talking, Turned, Worker};
+use std::alloc::Global;
+use tko_mux::{Asking, Came, Client, Delivery};
+use tko_pipe::ShutCause;
+use tko_roster::Driven;
+
+/// How often a server is read from in one turn; how many of its responses are taken between two
+/// reads; and of how many that waited on a connection that was shut it is told what became of their
+/// requests. What is left is done in the next turn.
+const READS: u32 = 16;
+
+const RESPONSES: u32 = 1_024;
+
+const LEAVES: u32 = 4_096;
+
+/// A server as its worker has it: the socket of the connection to it, if there is one, and what
+/// came for a probe of it.
+#[derive(Drop)]
+pub struct Peer<L> {
+    pub(crate) socket: Option<L>,
+    pub(crate) probed: Option<Came>,
+}
+
+impl<L: Drop> Peer<L> {
+    /// There is no connection.
+    pub(crate) fn new() -> Peer<L>
+        ensures { result.socket ≡ None }
+    {
+        Peer {
+            socket: None,
+            probed: None,
+        }
+    }
+
+    /// Keeps what came, if it came for a probe.
+    fn keep(&mut self, delivery: Delivery<Turned>)
+        ensures { self.new.socket ≡ self.old.socket }
+    {
+        match delivery {
+            Delivery::Reached(_, _) => {}
+            Delivery::Probed(came) => self.probed = Some(came),
+        }
+    }
+
+    /// The same of what a look for a response gave. Returns whether one came, or the connection was
+    /// shut.
+    fn keep_taken(&mut self, taken: Result<Option<Delivery<Turned>>, ShutCause>) -> bool
+        ensures none { OnFalse result (taken ≡ Ok None) }
+        ensures socket { self.new.socket ≡ self.old.socket }
+    {
+        match taken {
+            Ok(Some(delivery)) => {
+                self.keep(delivery);
+                true
+            }
+            Ok(None) => false,
+            Err(_) => true,
+        }
+    }
+
+    /// Closes the socket, unless its connection is still there.
+    fn hold(&mut self, is_there: bool)
+        ensures kept { OnTrue is_there (self.new ≡ self.old) }
+        ensures gone { OnFalse is_there (self.new.socket ≡ None) }
+    {
+        if !is_there {
+            self.socket = None;
+        }
+    }
+}
+
+impl<L: Port + Drop> Peer<L> {
+    /// Whether there is no socket.
+    pub(crate) fn is_closed(&self) -> bool
+        ensures none { OnTrue result (option_map L.port self.now.socket ≡ None) }
+        ensures some { OnFalse result (option_map L.port self.now.socket ≢ None) }
+    {
+        match &self.socket {
+            Some(_) => false,
+            None => true,
+        }
+    }
+
+    /// A connection was begun on this socket.
+    pub(crate) fn begin(&mut self, port: L)
+        ensures { option_map L.port self.new.socket ≡ Some (L.port port) }
+    {
+        self.socket = Some(port);
+    }
+
+    /// An event came for the socket.
+    pub(crate) fn note(&mut self, event: Event)
+        ensures { option_map L.port self.new.socket
+            ≡ option_map (noting event) (option_map L.port self.old.socket) }
+    {
+        if let Some(port) = &mut self.socket {
+            note_at(port, event);
+        }
+    }
+
+    /// What came for a probe.
+    pub(crate) fn take_probed(&mut self) -> Option<Came>
+        ensures socket { self.new.socket ≡ self.old.socket }
+        ensures came { result ≡ self.old.probed }
+        ensures none { self.new.probed ≡ None }
+    {
+        self.probed.take()
+    }
+}
+
+/// Notes an event at a port.
+fn note_at<L: Port>(port: &mut L, event: Event)
+    ensures { L.port port.new ≡ noting event (L.port port.old) }
+{
+    match event {
+        Event::Readable => port.set_readable(),
+        Event::Writable => port.set_writable(),
+        Event::Ended => port.set_ended(),
+        Event::Serve => {}
+    }
+}
+
+impl<P, L: Port + Drop, T: Talking<P> + Drop> Worker<L, T, P> {
+    /// The connection to a server was made, if one was begun. Its port is writable.
+    pub(crate) fn connect(&mut self, peer: &mut Peer<L>, server: usize)
+        requires server { server < length self.old.mux.lines }
+        requires ready { AreReady ⟦<Client<Guest<L, T>> as Driven<Shared<P>>>⟧.ready
+            self.old.mux.roster }
+        requires linked { AreLinked ⟦<Guest<L, T> as Asking<Shared<P>>>⟧.awaited
+            self.old.mux.roster.slots self.old.mux.lines }
+        requires nobody { NobodyForgotten (T.awaited, T.talk, L.port)
+            self.old.mux.roster.slots self.old.touched self.old.spent }
+        ensures done { HasConnected server self.old.mux.lines (option_map L.port peer.old.socket)
+            self.new.mux.lines (option_map L.port peer.new.socket) }
+        ensures nobody { NobodyForgotten (T.awaited, T.talk, L.port)
+            self.new.mux.roster.slots self.new.touched self.new.spent }
+        ensures ready { AreReady ⟦<Client<Guest<L, T>> as Driven<Shared<P>>>⟧.ready
+            self.new.mux.roster }
+        ensures linked { AreLinked ⟦<Guest<L, T> as Asking<Shared<P>>>⟧.awaited
+            self.new.mux.roster.slots self.new.mux.lines }
+    {
+        if peer.is_closed() {
+            return;
+        }
+        if !is_connecting(&self.mux, server) {
+            return;
+        }
+        peer.note(Event::Writable);
+        self.mux.connected(server);
+    }
+
+    /// The connection to a server could not be made, if one was begun.
+    pub(crate) fn fail(&mut self, peer: &mut Peer<L>, server: usize)
+        requires ready { AreReady ⟦<Client<Guest<L, T>> as Driven<Shared<P>>>⟧.ready
+            self.old.mux.roster }
+        requires linked { AreLinked ⟦<Guest<L, T> as Asking<Shared<P>>>⟧.awaited
+            self.old.mux.roster.slots self.old.mux.lines }
+        requires nobody { NobodyForgotten (T.awaited, T.talk, L.port)
+            self.old.mux.roster.slots self.old.touched self.old.spent }
+        ensures done { HasFailed server self.old.mux.lines self.new.mux.lines }
+        ensures held { IsHeld (option_map L.port peer.new.socket) (line_at self.new.mux server) }
+        ensures nobody { NobodyForgotten (T.awaited, T.talk, L.port)
+            self.new.mux.roster.slots self.new.touched self.new.spent }
+        ensures ready { AreReady ⟦<Client<Guest<L, T>> as Driven<Shared<P>>>⟧.ready
+            self.new.mux.roster }
+        ensures linked { AreLinked ⟦<Guest<L, T> as Asking<Shared<P>>>⟧.awaited
+            self.new.mux.roster.slots self.new.mux.lines }
+    {
+        peer.hold(is_open(&self.mux, server));
+        if !is_open(&self.mux, server) {
+            return;
+        }
+        if !is_connecting(&self.mux, server) {
+            return;
+        }
+        self.mux.shut(server, ShutCause::Fault);
+        peer.hold(is_open(&self.mux, server));
+    }
+
+    /// Does for a server what can be done before the clients are served: those that waited on a
+    /// connection that was shut leave; what its port has is read, and the responses reach their
+    /// clients; and a connection whose first response is late is shut. Returns whether that was all.
+    pub(crate) fn serve_server(
+        &mut self,
+        alloc: Global,
+        peer: &mut Peer<L>,
+        server: usize,
+        now: u64,
+        due: u64,
+        buffer: &mut [u8],
+    ) -> bool
+        requires room { 0 < length buffer.old }
+        requires ready { AreReady ⟦<Client<Guest<L, T>> as Driven<Shared<P>>>⟧.ready
+            self.old.mux.roster }
+        requires linked { AreLinked ⟦<Guest<L, T> as Asking<Shared<P>>>⟧.awaited
+            self.old.mux.roster.slots self.old.mux.lines }
+        requires nobody { NobodyForgotten (T.awaited, T.talk, L.port)
+            self.old.mux.roster.slots self.old.touched self.old.spent }
+        ensures cannot { OnTrue result
+            (CannotRead (line_at self.new.mux server) (option_map L.port peer.new.socket)) }
+        ensures taken { OnTrue result
+            (HasNoResponse ⟦<Guest<L, T> as Asking<Shared<P>>>⟧.asks_for self.new.mux server) }
+        ensures time { OnTrue result
+            (is_first_late (first_at (line_at self.new.mux server)) now ≡ false) }
+        ensures open { OnTrue result (IsOpen (line_at self.new.mux server)) }
+        ensures held { IsHeld (option_map L.port peer.new.socket) (line_at self.new.mux server) }
+        ensures room { length buffer.new ≡ length buffer.old }
+        ensures nobody { NobodyForgotten (T.awaited, T.talk, L.port)
+            self.new.mux.roster.slots self.new.touched self.new.spent }
+        ensures ready { AreReady ⟦<Client<Guest<L, T>> as Driven<Shared<P>>>⟧.ready
+            self.new.mux.roster }
+        ensures linked { AreLinked ⟦<Guest<L, T> as Asking<Shared<P>>>⟧.awaited
+            self.new.mux.roster.slots self.new.mux.lines }
+    {
+        if !self.leave_all(alloc, peer, server, due) {
+            return false;
+        }
+        if !self.pull(alloc, peer, server, now, due, buffer) {
+            return false;
+        }
+        !self.expire(peer, server, now)
+    }
+
+    /// All that waited on a connection that was shut leave. Returns whether none is left.
+    fn leave_all(&mut self, alloc: Global, peer: &mut Peer<L>, server: usize, due: u64) -> bool
+        requires ready { AreReady ⟦<Client<Guest<L, T>> as Driven<Shared<P>>>⟧.ready
+            self.old.mux.roster }
+        requires linked { AreLinked ⟦<Guest<L, T> as Asking<Shared<P>>>⟧.awaited
+            self.old.mux.roster.slots self.old.mux.lines }
+        requires nobody { NobodyForgotten (T.awaited, T.talk, L.port)
+            self.old.mux.roster.slots self.old.touched self.old.spent }
+        ensures open { OnTrue result (IsOpen (line_at self.new.mux server)) }
+        ensures held { IsHeld (option_map L.port peer.new.socket) (line_at self.new.mux server) }
+        ensures nobody { NobodyForgotten (T.awaited, T.talk, L.port)
+            self.new.mux.roster.slots self.new.touched self.new.spent }
+        ensures ready { AreReady ⟦<Client<Guest<L, T>> as Driven<Shared<P>>>⟧.ready
+            self.new.mux.roster }
+        ensures linked { AreLinked ⟦<Guest<L, T> as Asking<Shared<P>>>⟧.awaited
+            self.new.mux.roster.slots self.new.mux.lines }
+    {
+        if is_open(&self.mux, server) {
+            return true;
+        }
+        peer.socket = None;
+        for _ in 0..LEAVES {
+            if !self.leave_one(alloc, peer, server, due) {
+                return is_open(&self.mux, server);
+            }
+        }
+        false
+    }
+
+    /// The next of them leaves. Returns whether there was one.
+    fn leave_one(&mut self, alloc: Global, peer: &mut Peer<L>, server: usize, due: u64) -> bool
+        requires gone { peer.old.socket ≡ None }
+        requires ready { AreReady ⟦<Client<Guest<L, T>> as Driven<Shared<P>>>⟧.ready
+            self.old.mux.roster }
+        requires linked { AreLinked ⟦<Guest<L, T> as Asking<Shared<P>>>⟧.awaited
+            self.old.mux.roster.slots self.old.mux.lines }
+        requires nobody { NobodyForgotten (T.awaited, T.talk, L.port)
+            self.old.mux.roster.slots self.old.touched self.old.spent }
+        ensures gone { peer.new.socket ≡ None }
+        ensures nobody { NobodyForgotten (T.awaited, T.talk, L.port)
+            self.new.mux.roster.slots self.new.touched self.new.spent }
+        ensures ready { AreReady ⟦<Client<Guest<L, T>> as Driven<Shared<P>>>⟧.ready
+            self.new.mux.roster }
+        ensures linked { AreLinked ⟦<Guest<L, T> as Asking<Shared<P>>>⟧.awaited
+            self.new.mux.roster.slots self.new.mux.lines }
+    {
+        if server >= self.mux.servers() {
+            return false;
+        }
+        match self.leave(alloc, server, due) {
+            Some(delivery) => {
+                peer.keep(delivery);
+                true
+            }
+            None => false,
+        }
+    }
+
+    /// Reads what a server's port has, and takes the responses. Returns whether that was all.
+    fn pull(
+        &mut self,
+        alloc: Global,
+        peer: &mut Peer<L>,
+        server: usize,
+        now: u64,
+        due: u64,
+        buffer: &mut [u8],
+    ) -> bool
+        requires room { 0 < length buffer.old }
+        requires held { IsHeld (option_map L.port peer.old.socket) (line_at self.old.mux server) }
+        requires ready { AreReady ⟦<Client<Guest<L, T>> as Driven<Shared<P>>>⟧.ready
+            self.old.mux.roster }
+        requires linked { AreLinked ⟦<Guest<L, T> as Asking<Shared<P>>>⟧.awaited
+            self.old.mux.roster.slots self.old.mux.lines }
+        requires nobody { NobodyForgotten (T.awaited, T.talk, L.port)
+            self.old.mux.roster.slots self.old.touched self.old.spent }
+        ensures cannot { OnTrue result
+            (CannotRead (line_at self.new.mux server) (option_map L.port peer.new.socket)) }
+        ensures taken { OnTrue result
+            (HasNoResponse ⟦<Guest<L, T> as Asking<Shared<P>>>⟧.asks_for self.new.mux server) }
+        ensures open { OnTrue result (IsOpen (line_at self.new.mux server)) }
+        ensures held { IsHeld (option_map L.port peer.new.socket) (line_at self.new.mux server) }
+        ensures room { length buffer.new ≡ length buffer.old }
+        ensures nobody { NobodyForgotten (T.awaited, T.talk, L.port)
+            self.new.mux.roster.slots self.new.touched self.new.spent }
+        ensures ready { AreReady ⟦<Client<Guest<L, T>> as Driven<Shared<P>>>⟧.ready
+            self.new.mux.roster }
+        ensures linked { AreLinked ⟦<Guest<L, T> as Asking<Shared<P>>>⟧.awaited
+            self.new.mux.roster.slots self.new.mux.lines }
+    {
+        for _ in 0..READS {
+            if !self.take_all(alloc, peer, server, due) {
+                return false;
+            }
+            if !self.read(peer, server, now, buffer) {
+                return true;
+            }
+        }
+        false
+    }
+
+    /// Takes the responses of a server that came. Returns whether there are no more.
+    fn take_all(&mut self, alloc: Global, peer: &mut Peer<L>, server: usize, due: u64) -> bool
+        requires held { IsHeld (option_map L.port peer.old.socket) (line_at self.old.mux server) }
+        requires ready { AreReady ⟦<Client<Guest<L, T>> as Driven<Shared<P>>>⟧.ready
+            self.old.mux.roster }
+        requires linked { AreLinked ⟦<Guest<L, T> as Asking<Shared<P>>>⟧.awaited
+            self.old.mux.roster.slots self.old.mux.lines }
+        requires nobody { NobodyForgotten (T.awaited, T.talk, L.port)
+            self.old.mux.roster.slots self.old.touched self.old.spent }
+        ensures taken { OnTrue result
+            (HasNoResponse ⟦<Guest<L, T> as Asking<Shared<P>>>⟧.asks_for self.new.mux server) }
+        ensures open { OnTrue result (IsOpen (line_at self.new.mux server)) }
+        ensures held { IsHeld (option_map L.port peer.new.socket) (line_at self.new.mux server) }
+        ensures nobody { NobodyForgotten (T.awaited, T.talk, L.port)
+            self.new.mux.roster.slots self.new.touched self.new.spent }
+        ensures ready { AreReady ⟦<Client<Guest<L, T>> as Driven<Shared<P>>>⟧.ready
+            self.new.mux.roster }
+        ensures linked { AreLinked ⟦<Guest<L, T> as Asking<Shared<P>>>⟧.awaited
+            self.new.mux.roster.slots self.new.mux.lines }
+    {
+        for _ in 0..RESPONSES {
+            if !is_open(&self.mux, server) {
+                return false;
+            }
+            if !self.take_one(alloc, peer, server, due) {
+                return is_open(&self.mux, server);
+            }
+        }
+        false
+    }
+
+    /// Takes the next response of a server. Returns whether one came, or the connection was shut.
+    fn take_one(&mut self, alloc: Global, peer: &mut Peer<L>, server: usize, due: u64) -> bool
+        requires server { server < length self.old.mux.lines }
+        requires left { HasNoneLeaving (line_at self.old.mux server) }
+        requires ready { AreReady ⟦<Client<Guest<L, T>> as Driven<Shared<P>>>⟧.ready
+            self.old.mux.roster }
+        requires linked { AreLinked ⟦<Guest<L, T> as Asking<Shared<P>>>⟧.awaited
+            self.old.mux.roster.slots self.old.mux.lines }
+        requires nobody { NobodyForgotten (T.awaited, T.talk, L.port)
+            self.old.mux.roster.slots self.old.touched self.old.spent }
+        ensures taken { OnFalse result
+            (HasNoResponse ⟦<Guest<L, T> as Asking<Shared<P>>>⟧.asks_for self.new.mux server) }
+        ensures held { IsHeld (option_map L.port peer.new.socket) (line_at self.new.mux server) }
+        ensures nobody { NobodyForgotten (T.awaited, T.talk, L.port)
+            self.new.mux.roster.slots self.new.touched self.new.spent }
+        ensures ready { AreReady ⟦<Client<Guest<L, T>> as Driven<Shared<P>>>⟧.ready
+            self.new.mux.roster }
+        ensures linked { AreLinked ⟦<Guest<L, T> as Asking<Shared<P>>>⟧.awaited
+            self.new.mux.roster.slots self.new.mux.lines }
+    {
+        let taken = self.take(alloc, server, due);
+        peer.hold(is_open(&self.mux, server));
+        peer.keep_taken(taken)
+    }
+
+    /// Reads from a server once. Returns whether bytes came, or the connection was shut.
+    fn read(&mut self, peer: &mut Peer<L>, server: usize, now: u64, buffer: &mut [u8]) -> bool
+        requires open { IsOpen (line_at self.old.mux server) }
+        requires room { 0 < length buffer.old }
+        requires held { IsHeld (option_map L.port peer.old.socket) (line_at self.old.mux server) }
+        requires ready { AreReady ⟦<Client<Guest<L, T>> as Driven<Shared<P>>>⟧.ready
+            self.old.mux.roster }
+        requires linked { AreLinked ⟦<Guest<L, T> as Asking<Shared<P>>>⟧.awaited
+            self.old.mux.roster.slots self.old.mux.lines }
+        requires nobody { NobodyForgotten (T.awaited, T.talk, L.port)
+            self.old.mux.roster.slots self.old.touched self.old.spent }
+        ensures read { OnTrue result (HasReadOn server now self.old.mux.lines
+            (option_map L.port peer.old.socket) self.new.mux.lines) }
+        ensures kept { OnFalse result (self.new ≡ self.old) }
+        ensures cannot { OnFalse result
+            (CannotRead (line_at self.new.mux server) (option_map L.port peer.new.socket)) }
+        ensures held { IsHeld (option_map L.port peer.new.socket) (line_at self.new.mux server) }
+        ensures room { length buffer.new ≡ length buffer.old }
+        ensures nobody { NobodyForgotten (T.awaited, T.talk, L.port)
+            self.new.mux.roster.slots self.new.touched self.new.spent }
+        ensures ready { AreReady ⟦<Client<Guest<L, T>> as Driven<Shared<P>>>⟧.ready
+            self.new.mux.roster }
+        ensures linked { AreLinked ⟦<Guest<L, T> as Asking<Shared<P>>>⟧.awaited
+            self.new.mux.roster.slots self.new.mux.lines }
+    {
+        if !read_wire(&mut self.mux, &mut peer.socket, server, now, buffer) {
+            return false;
+        }
+        peer.hold(is_open(&self.mux, server));
+        true
+    }
+
+    /// Shuts the connection to a server if its first response is late at this moment, and returns
+    /// whether it is.
+    fn expire(&mut self, peer: &mut Peer<L>, server: usize, now: u64) -> bool
+        requires open { IsOpen (line_at self.old.mux server) }
+        requires held { IsHeld (option_map L.port peer.old.socket) (line_at self.old.mux server) }
+        requires ready { AreReady ⟦<Client<Guest<L, T>> as Driven<Shared<P>>>⟧.ready
+            self.old.mux.roster }
+        requires linked { AreLinked ⟦<Guest<L, T> as Asking<Shared<P>>>⟧.awaited
+            self.old.mux.roster.slots self.old.mux.lines }
+        requires nobody { NobodyForgotten (T.awaited, T.talk, L.port)
+            self.old.mux.roster.slots self.old.touched self.old.spent }
+        ensures kept { OnFalse result (self.new ≡ self.old) }
+        ensures socket { OnFalse result (peer.new ≡ peer.old) }
+        ensures time { OnFalse result
+            (is_first_late (first_at (line_at self.old.mux server)) now ≡ false) }
+        ensures late { OnTrue result
+            (HasExpired server now self.old.mux.lines self.new.mux.lines) }
+        ensures held { IsHeld (option_map L.port peer.new.socket) (line_at self.new.mux server) }
+        ensures nobody { NobodyForgotten (T.awaited, T.talk, L.port)
+            self.new.mux.roster.slots self.new.touched self.new.spent }
+        ensures ready { AreReady ⟦<Client<Guest<L, T>> as Driven<Shared<P>>>⟧.ready
+            self.new.mux.roster }
+        ensures linked { AreLinked ⟦<Guest<L, T> as Asking<Shared<P>>>⟧.awaited
+            self.new.mux.roster.slots self.new.mux.lines }
+    {
+        if !is_late(&self.mux, server, now) {
+            return false;
+        }
+        self.mux.expire(server, now);
+        peer.hold(is_open(&self.mux, server));
+        true
+    }
+
+    /// Writes to a server what is to be written, once.
+    pub(crate) fn write(&mut self, peer: &mut Peer<L>, server: usize)
+        requires ready { AreReady ⟦<Client<Guest<L, T>> as Driven<Shared<P>>>⟧.ready
+            self.old.mux.roster }
+        requires linked { AreLinked ⟦<Guest<L, T> as Asking<Shared<P>>>⟧.awaited
+            self.old.mux.roster.slots self.old.mux.lines }
+        requires nobody { NobodyForgotten (T.awaited, T.talk, L.port)
+            self.old.mux.roster.slots self.old.touched self.old.spent }
+        ensures wrote { IsOpen (line_at self.new.mux server)
+            → CannotWriteTo (line_at self.new.mux server) (option_map L.port peer.new.socket) }
+        ensures others { OtherLines server self.old.mux.lines self.new.mux.lines }
+        ensures touched { self.new.touched ≡ self.old.touched }
+        ensures spent { self.new.spent ≡ self.old.spent }
+        ensures held { IsHeld (option_map L.port peer.new.socket) (line_at self.new.mux server) }
+        ensures nobody { NobodyForgotten (T.awaited, T.talk, L.port)
+            self.new.mux.roster.slots self.new.touched self.new.spent }
+        ensures ready { AreReady ⟦<Client<Guest<L, T>> as Driven<Shared<P>>>⟧.ready
+            self.new.mux.roster }
+        ensures linked { AreLinked ⟦<Guest<L, T> as Asking<Shared<P>>>⟧.awaited
+            self.new.mux.roster.slots self.new.mux.lines }
+    {
+        if is_open(&self.mux, server) {
+            write_wire(&mut self.mux, &mut peer.socket, server);
+        }
+        peer.hold(is_open(&self.mux, server));
+    }
+}
