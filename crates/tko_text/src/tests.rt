@@ -177,3 +177,16 @@ fn the_greatest_response_is_read_and_written(rt: HostRuntime) -> Result<(), Fail
     assert!(rt; response.write(alloc)? == text);
     Ok(())
 }
+
+/// `rt try --test --fail-alloc N` refuses one allocation of each test: this one may then end with
+/// `NoMemory`, and never with another text.
+#[test]
+fn a_response_is_written_whole_or_memory_ran_out(rt: HostRuntime) -> Result<(), Fail> {
+    let alloc = rt.alloc();
+    let text = "VALUE key 7 5 9\r\nhello\r\nEND\r\n";
+    let request = request_of(alloc, "gets key")?;
+    let (response, _) = Response::read(alloc, &request, text.as_bytes())?;
+    let came = response.write(alloc)?;
+    assert_eq!(rt; came.as_slice(), text.as_bytes());
+    Ok(())
+}
