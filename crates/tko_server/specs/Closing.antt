@@ -6,6 +6,7 @@ use Rattle.tko_server.specs.declared.running.Ran.{Ran}
 use Rattle.tko_server.specs.declared.run_fault.RunFault.{RunFault}
 use Rattle.tko_server.specs.declared.run_fault.RunFault.TheVariants as run
 use Rattle.tko_server.specs.declared.tracked.Failed.{Failed}
+use Rattle.tko_server.specs.Endings.{IsEnough}
 use Rattle.tko_server.specs.Runs.{IsAfterOpening, tracker_settings}
 use Rattle.tko_table.specs.Closing.{Left}
 use Rattle.tko_tracker.specs.Closing.{HoldsEachOnce, IsFinal}
@@ -25,10 +26,11 @@ pub record HasRun (options : Options) (tracker : TrackerId) (ran : Ran) : Type 0
   pub on_options : ran.options.value ≡ options
   pub over : ran.tracker.value ≡ tracker
 
--- a server ran on these options to its end: the tracker that its workers had passes of has the
--- settings of the options, and was closed
+-- a server ran on these options to its end: as many connections were accepted as they ask for; the
+-- tracker that its workers had passes of has the settings of the options, and was closed
 pub record HasEnded (options : Options) (ended : Ended) : Type 0 where
   pub on_options : ended.ran.options.value ≡ options
+  pub enough : IsEnough options.connections ended.accepted
   pub same : ended.ran.tracker.value.settings ≡ tracker_settings options
   pub closed : IsClosed ended.ran.tracker.value ended.closed
 

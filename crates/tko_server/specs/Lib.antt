@@ -1,4 +1,5 @@
 pub mod Announcing
+pub mod Beside
 pub mod Closing
 pub mod Endings
 pub mod Members

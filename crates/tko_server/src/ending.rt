@@ -7,17 +7,25 @@ use tko_accept::AcceptEnd;
 use tko_bytes::NoMemory;
 use tko_threads::WorkerReport;
 
-/// What a server came to whose workers met this, and which ended accepting so. Its workers end
-/// before it does only where memory runs out.
+/// What the workers of a server met that ended well, and how many connections it accepted.
+#[derive(Clone, Copy, Debug)]
+pub(crate) struct Served {
+    pub(crate) report: WorkerReport,
+    pub(crate) accepted: u64,
+}
+
+/// What a server came to whose workers met this, and which ended accepting so, after so many
+/// connections. Its workers end before it does only where memory runs out.
 pub(crate) fn ended_by(
     report: Result<WorkerReport, NoMemory>,
-    accepted: AcceptEnd,
-) -> Result<WorkerReport, RunFault>
-    ensures { result ≡ ended_by report accepted }
+    ended: AcceptEnd,
+    accepted: u64,
+) -> Result<Served, RunFault>
+    ensures { result ≡ ended_by report ended accepted }
 {
     let report = report?;
-    match accepted {
-        AcceptEnd::Enough => Ok(report),
+    match ended {
+        AcceptEnd::Enough => Ok(Served { report, accepted }),
         AcceptEnd::NoWorker => Err(RunFault::Memory),
         AcceptEnd::Broken => Err(RunFault::Accept),
     }

@@ -1,7 +1,8 @@
 //! The server over TCP, and its event log beside it.
-ghost use Rattle.std.specs.Prelude.{◌≡◌, ◌↔◌, Err, IfOk, Some};
+ghost use Rattle.std.specs.Prelude.{◌≡◌, ◌↔◌, Err, IfOk, Some, map, string_bytes};
 ghost use Rattle.tko_model.specs.Ranges.{first_fault};
 ghost use Rattle.tko_server.specs.Announcing.{IsAnnounced};
+ghost use Rattle.tko_server.specs.Beside.{IsLogOf};
 ghost use Rattle.tko_server.specs.Closing.{HasEnded};
 ghost use Rattle.tko_server.specs.Runs.{tracker_settings};
 
@@ -35,12 +36,11 @@ impl Logging {
         alloc: Global,
         listen: &str,
         options: &Options,
-    ) -> Result<Logging, AllocError> {
+    ) -> Result<Logging, AllocError>
+        ensures { IfOk result (IsLogOf listen.now options.now) }
+    {
         let (log, reader) = open(alloc)?;
-        let mut names = Vec::new(alloc);
-        for address in options.config.addresses() {
-            names.push(String::from_str(alloc, address.as_str())?)?;
-        }
+        let names = copies_of(alloc, options.config.addresses())?;
         let listen = String::from_str(alloc, listen)?;
         let journal = Journal::new(alloc, listen, options.settings.failures, names)?;
         log.tell(rt, What::Started);
@@ -50,6 +50,17 @@ impl Logging {
             journal,
         })
     }
+}
+
+/// Copies of these texts.
+fn copies_of(alloc: Global, texts: &[String]) -> Result<Vec<String>, AllocError>
+    ensures { IfOk result (λ copies. map string_bytes copies.items ≡ map string_bytes texts.now) }
+{
+    let mut copies = Vec::new(alloc);
+    for text in texts {
+        copies.push(String::from_str(alloc, text.as_str())?)?;
+    }
+    Ok(copies)
 }
 
 /// What `run_to_end` does, while the log, if there is one, is written to standard error. It returns

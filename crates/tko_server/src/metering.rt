@@ -2,6 +2,7 @@
 ghost use Rattle.std.specs.Prelude.{◌≡◌, ◌↔◌, Err, IfOk, Some};
 ghost use Rattle.tko_model.specs.Ranges.{first_fault};
 ghost use Rattle.tko_server.specs.Announcing.{IsAnnounced};
+ghost use Rattle.tko_server.specs.Beside.{IsMeterOf};
 ghost use Rattle.tko_server.specs.Closing.{HasEnded};
 ghost use Rattle.tko_server.specs.Runs.{tracker_settings};
 
@@ -32,7 +33,9 @@ impl Metering {
         listener: TcpListener,
         options: &Options,
         process: Process,
-    ) -> Result<Metering, AllocError> {
+    ) -> Result<Metering, AllocError>
+        ensures { IfOk result (IsMeterOf options.now) }
+    {
         let addresses = options.config.addresses();
         let meter = Meter::open(alloc, options.settings.threads, addresses.len())?;
         let scrapes = Scrapes::new(alloc, listener, meter.another()?, addresses, process)?;

@@ -54,6 +54,8 @@ pub struct Ran {
 pub struct Ended {
     pub ran: Ran,
     pub totals: Totals,
+    /// How many connections were accepted.
+    pub accepted: u64,
     /// What all workers met.
     pub report: WorkerReport,
     /// What is left of the tracker, to which all passes came back.

@@ -1,10 +1,11 @@
 //! A server whose workers are on threads, and the thread that accepts for them.
-ghost use Rattle.std.specs.Prelude.{◌≡◌, IfErr, length, true};
+ghost use Rattle.std.specs.Prelude.{◌≡◌, IfErr, IfOk, false, length, true};
 ghost use Rattle.tko_server.specs.Announcing.{IsAnnounced};
+ghost use Rattle.tko_server.specs.Endings.{HasComeTo, IsEnough};
 ghost use Rattle.tko_server.specs.Runs.{IsAfterOpening, tracker_settings};
 ghost use Rattle.tko_server.specs.Members.{AreReadyAt};
 
-use crate::ending::ended_by;
+use crate::ending::{Served, ended_by};
 use crate::members::Shared;
 use crate::starting::{Start, start_of};
 use crate::threads::{WorkerThread, join_all, start_all};
@@ -17,7 +18,6 @@ use tko_accept::{Entrance, FirstAsks, Listening, accept_all};
 use tko_desk::{Desk, Share};
 use tko_events::{Log, What};
 use tko_io::IoRuntime;
-use tko_threads::WorkerReport;
 use tko_tracker::Named;
 
 /// Accepts connections and serves each by one of the workers, who take these shares, and the passes
@@ -36,9 +36,11 @@ pub(crate) fn serve_all<
     desk: &Desk<N>,
     shares: &mut [Share],
     announcement: A,
-) -> (A, Result<WorkerReport, RunFault>)
+) -> (A, Result<Served, RunFault>)
     requires shares { length shares.old ≡ N.tracker.settings.threads }
     requires asked { N.tracker.settings ≡ tracker_settings shared.now.options.now }
+    ensures enough { IfOk result.1 (λ served.
+        IsEnough shared.now.options.now.connections served.accepted) }
     ensures fault { IfErr result.1 IsAfterOpening }
     ensures announced { IsAnnounced A.announces A.fails announcement result.0 result.1 }
 {
@@ -61,8 +63,10 @@ fn serve_from<
     desk: &Desk<N>,
     start: Start<'_, '_, N>,
     announcement: A,
-) -> (A, Result<WorkerReport, RunFault>)
+) -> (A, Result<Served, RunFault>)
     requires { AreReadyAt N.tracker start.members.items }
+    ensures enough { IfOk result.1 (λ served.
+        IsEnough shared.now.options.now.connections served.accepted) }
     ensures fault { IfErr result.1 IsAfterOpening }
     ensures announced { IsAnnounced A.announces A.fails announcement result.0 result.1 }
 {
@@ -77,8 +81,10 @@ fn serve_from<
     thread::scope(
         thread::scope_env(),
         rt,
-        move |scope| -> (A, Result<WorkerReport, RunFault>)
+        move |scope| -> (A, Result<Served, RunFault>)
             requires { AreReadyAt N.tracker members.items }
+            ensures enough { IfOk result.1 (λ served.
+                IsEnough options.entry.now.connections served.accepted) }
             ensures fault { IfErr result.1 IsAfterOpening }
             ensures announced { IsAnnounced A.announces A.fails announcement
                 result.0 result.1 }
@@ -118,11 +124,12 @@ impl Workers {
         rt: &R,
         alloc: Global,
         listener: &TcpListener,
-        mut entrance: Entrance,
+        entrance: Entrance,
         connections: u64,
         mut announcement: A,
-    ) -> (A, Result<WorkerReport, RunFault>)
+    ) -> (A, Result<Served, RunFault>)
         requires { entrance.has_worker ≡ true }
+        ensures enough { IfOk result.1 (λ served. IsEnough connections served.accepted) }
         ensures fault { IfErr result.1 IsAfterOpening }
         ensures announced { IsAnnounced A.announces A.fails announcement result.0 result.1 }
     {
@@ -134,11 +141,30 @@ impl Workers {
             return (announcement, Err(fault));
         }
         let mut listening = Listening::new(listener);
-        let accepted = accept_all(rt, alloc, &mut listening, &mut entrance, connections);
-        // (the workers end once no more clients can come)
-        drop(entrance);
-        (announcement, ended_by(join_all(rt, threads), accepted))
+        let served = accept_for(rt, alloc, threads, &mut listening, entrance, connections);
+        (announcement, served)
     }
+}
+
+/// Accepts clients for the workers on these threads, and waits for the workers to end.
+#[tactic(auto, using(crate::proofs::EndingLemmas::came_to))]
+fn accept_for<R: IoRuntime + Threads>(
+    rt: &R,
+    alloc: Global,
+    threads: Vec<WorkerThread>,
+    listening: &mut Listening<'_>,
+    mut entrance: Entrance,
+    connections: u64,
+) -> Result<Served, RunFault>
+    requires none { listening.old.accepted ≡ 0 }
+    requires whole { listening.old.is_broken ≡ false }
+    requires taken { entrance.has_worker ≡ true }
+    ensures { HasComeTo connections listening.new result }
+{
+    let ended = accept_all(rt, alloc, listening, &mut entrance, connections);
+    // (the workers end once no more clients can come)
+    drop(entrance);
+    ended_by(join_all(rt, threads), ended, listening.accepted())
 }
 
 /// Waits until each worker has asked for its first connection, and then announces it, after the log

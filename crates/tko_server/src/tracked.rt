@@ -3,8 +3,10 @@ ghost use Rattle.std.specs.Prelude.{◌≡◌, IfErr, IfOk, length};
 ghost use Rattle.tko_tracker.specs.Seated.{ArePasses};
 ghost use Rattle.tko_server.specs.Announcing.{IsAnnounced, fault_in};
 ghost use Rattle.tko_server.specs.Closing.{HasFailed, HasRun, IsClosed, unclosed};
+ghost use Rattle.tko_server.specs.Endings.{IsEnough};
 ghost use Rattle.tko_server.specs.Runs.{IsAfterOpening, tracker_settings};
 
+use crate::ending::Served;
 use crate::members::Shared;
 use crate::naming::Naming;
 use crate::serving::serve_all;
@@ -19,7 +21,6 @@ use tko_desk::{Book, Desk, Share, Totals, gather};
 use tko_events::Log;
 use tko_health::SharedSeating;
 use tko_io::IoRuntime;
-use tko_threads::WorkerReport;
 use tko_tracker::{Final, IdlePass, Named, Tracker, close};
 
 /// Why a server ended without its totals, and what was left of its tracker.
@@ -52,6 +53,8 @@ pub(crate) fn run_with<
     requires passes { ArePasses N.tracker passes.items }
     ensures ran { IfOk result.1 (λ ended. HasRun options.now N.tracker ended.ran) }
     ensures closed { IfOk result.1 (λ ended. IsClosed N.tracker ended.closed) }
+    ensures enough { IfOk result.1 (λ ended.
+        IsEnough options.now.connections ended.accepted) }
     ensures failed { IfErr result.1 (HasFailed N.tracker) }
     ensures announced { IsAnnounced A.announces A.fails announcement result.0
         (fault_in result.1) }
@@ -74,11 +77,12 @@ pub(crate) fn run_with<
         return (announcement, Err(Failed { fault, closed }));
     };
     match served {
-        Ok((totals, report, ran)) => {
+        Ok((totals, served, ran)) => {
             let ended = Ended {
                 ran,
                 totals,
-                report,
+                accepted: served.accepted,
+                report: served.report,
                 closed,
             };
             (announcement, Ok(ended))
@@ -104,7 +108,7 @@ fn unclosed<T>(served: &Result<T, RunFault>) -> RunFault
 }
 
 /// Serves over this tracker, which `N` names, by workers with the passes of this desk. Returns the
-/// announcement, and the totals with what the workers met, and what they ran on.
+/// announcement, and the totals with what the workers met and were given, and what they ran on.
 fn serve_over<
     'o,
     N: Named + Send + Sync,
@@ -119,17 +123,19 @@ fn serve_over<
     tracker: &'o Tracker,
     desk: &Desk<N>,
     announcement: A,
-) -> (A, Result<(Totals, WorkerReport, Ran), RunFault>)
+) -> (A, Result<(Totals, Served, Ran), RunFault>)
     requires named { tracker.now ≡ N.tracker }
     requires asked { N.tracker.settings ≡ tracker_settings options.now }
     ensures ran { IfOk result.1 (λ served. HasRun options.now N.tracker served.2) }
+    ensures enough { IfOk result.1 (λ served.
+        IsEnough options.now.connections served.1.accepted) }
     ensures fault { IfErr result.1 IsAfterOpening }
     ensures announced { IsAnnounced A.announces A.fails announcement result.0 result.1 }
 {
     let Ok((shared, mut shares)) = shared_by_all::<N, R>(rt, alloc, options, log, tracker) else {
         return (announcement, Err(RunFault::Memory));
     };
-    let (announcement, report) = serve_all(
+    let (announcement, served) = serve_all(
         rt,
         alloc,
         listener,
@@ -138,11 +144,11 @@ fn serve_over<
         &mut shares,
         announcement,
     );
-    match report {
-        Ok(report) => {
+    match served {
+        Ok(served) => {
             let ran = ran_on(&shared, tracker);
             let totals = totals_of(shared.book.into_inner(), shares);
-            (announcement, Ok((totals, report, ran)))
+            (announcement, Ok((totals, served, ran)))
         }
         Err(fault) => (announcement, Err(fault)),
     }

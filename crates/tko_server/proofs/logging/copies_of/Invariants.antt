@@ -1,0 +1,7 @@
+use Rattle.std.proofs.Common.{◌≡◌, ◌++◌, drop, map, string_bytes}
+use Rattle.tko_server.proofs.logging.copies_of.Given as goal
+
+abbrev pub invariant-loop-text : goal.invariant-loop-text
+invariant-loop-text l =
+    map string_bytes l.copies.items ++ map string_bytes (drop l.text-index l.texts)
+    ≡ map string_bytes l.texts
