@@ -9,12 +9,12 @@ use Rattle.tko_mux.specs.Asks.{IsAsking}
 use Rattle.tko_mux.specs.Linking.{IsKept}
 use Rattle.tko_mux.specs.Muxes.{IsMade, MuxState, SendEnds}
 use Rattle.tko_worker.specs.declared.guest.Event.{Event}
-use Rattle.tko_worker.specs.declared.guest.Event.TheVariants.{Ended, Readable, Serve, Writable}
+use Rattle.tko_worker.specs.declared.guest.Event.TheVariants.{Ended, Leave, Readable, Serve, Writable}
 use Rattle.tko_worker.specs.declared.guest.Guest.{Guest}
 use Rattle.tko_worker.specs.declared.guest.Shared.{Shared}
 use Rattle.tko_worker.specs.declared.guest.Turned.{Turned}
 use Rattle.tko_worker.specs.declared.guest.Turned.TheVariants.{Noted}
-use Rattle.tko_worker.specs.Guests.{EventKeeps, GuestDoes, IsGuestCall, IsNotice, Seen, noting}
+use Rattle.tko_worker.specs.Guests.{EventKeeps, GuestDoes, IsGuestCall, IsNotice, Seen, noting, presence_after}
 use Rattle.tko_worker.specs.Workers.{DropEnds, HasReached, IsNotedAt, Sight, kept, left, nobody, noted}
 
 asks_nobody : (asked old new : Option ℕ) → new ≡ old → IsAsking asked old new → asked ≡ None
@@ -25,10 +25,14 @@ asks_nobody (Some server) old new same asking =
 
 -- what a notice does: one flag of the port, and no more
 does_note : (event : Event) (asked : Option ℕ) (did : Turned) (old new : Seen) → IsNotice event
-    → GuestDoes (Input event) asked did old new → new ≡ record old { port = noting event old.port }
+    → GuestDoes (Input event) asked did old new → new ≡ record old {
+      port = noting event old.port;
+      presence = presence_after event old.presence;
+    }
 does_note Readable asked did old new is does = does.1
 does_note Writable asked did old new is does = does.1
 does_note Ended asked did old new is does = does.1
+does_note Leave asked did old new is does = does.1
 does_note Serve asked did old new is does = absurd is
 
 keeps_talk : {L T P : Type 0} (event : Event) (old new : Guest L T × Shared P) → IsNotice event
@@ -36,6 +40,7 @@ keeps_talk : {L T P : Type 0} (event : Event) (old new : Guest L T × Shared P) 
 keeps_talk Readable old new is keeps = keeps
 keeps_talk Writable old new is keeps = keeps
 keeps_talk Ended old new is keeps = keeps
+keeps_talk Leave old new is keeps = keeps
 keeps_talk Serve old new is keeps = absurd is
 
 noted_at : {L T P : Type 0} (sight : Sight L T) (asks_for : Guest L T → Option Request)
@@ -43,7 +48,7 @@ noted_at : {L T P : Type 0} (sight : Sight L T) (asks_for : Guest L T → Option
     (done : Done Turned) → IsNotice event
     → IsMade (IsGuestCall sight.0 sight.1 sight.2) (λ guest. sight.0 guest.talk) asks_for old number
     (Input event) 0 done new
-    → IsNotedAt sight.2 (noting event) old number new
+    → IsNotedAt sight.2 event old number new
 noted_at {L} {T} {P} sight asks_for old new number event done is made =
     let call = made.called in
     let did = call.made.made in
@@ -58,12 +63,13 @@ noted_at {L} {T} {P} sight asks_for old new number event done is made =
     asks_for (record old { roster = made.mid }) number None 0 done.stopped new =
     subst (λ a. SendEnds (IsGuestCall sight.0 sight.1 sight.2) (λ guest. sight.0 guest.talk)
     asks_for (record old { roster = made.mid }) number a 0 done.stopped new) none made.sends in
-    let At : MuxState (Guest L T) (Shared P) → Type 0 = λ m. IsNotedAt sight.2 (noting event) old number m in
+    let At : MuxState (Guest L T) (Shared P) → Type 0 = λ m. IsNotedAt sight.2 event old number m in
     subst At (sym sends.1) (record {
       was = call.was;
       now = call.now;
       moved = call.moved;
       flag = ap (λ (s : Seen). s.port) now;
+      presence = ap (λ (s : Seen). s.presence) now;
       talk = kept.0;
       parts = ap (λ (s : Shared P). s) kept.1;
       lines = refl;
@@ -76,7 +82,7 @@ pub event_reached : {L T P : Type 0} (sight : Sight L T) (asks_for : Guest L T �
     → IfSome result (λ done. IsMade (IsGuestCall sight.0 sight.1 sight.2)
     (λ guest. sight.0 guest.talk) asks_for old number (Input event) 0 done new)
     → IfNone result (session_at old.roster.slots number ≡ None) → IfNone result (new ≡ old)
-    → HasReached sight.2 (noting event) old number new
+    → HasReached sight.2 event old number new
 event_reached sight asks_for old new number event None is made none same =
     nobody none same
 event_reached sight asks_for old new number event (Some done) is made none same =

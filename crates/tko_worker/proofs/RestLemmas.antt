@@ -14,10 +14,12 @@ use Rattle.tko_mux.specs.Linking.{IsKept, awaited_at}
 use Rattle.tko_mux.specs.Muxes.{IsMade, MuxState, SendEnds}
 use Rattle.tko_worker.specs.declared.guest.Event.TheVariants.{Serve}
 use Rattle.tko_worker.specs.declared.guest.Guest.{Guest}
+use Rattle.tko_worker.specs.declared.guest.Presence.{Presence}
+use Rattle.tko_worker.specs.declared.guest.Presence.TheVariants.{Here, Leaving}
 use Rattle.tko_worker.specs.declared.guest.Shared.{Shared}
 use Rattle.tko_worker.specs.declared.guest.Turned.{Turned}
 use Rattle.tko_worker.specs.declared.guest.Turned.TheVariants as turned
-use Rattle.tko_worker.specs.Guests.{AsksIf, IsGuestCall, ServedAs}
+use Rattle.tko_worker.specs.Guests.{AsksIf, IsGuestCall, RestsBy, Seen, ServedAs, ServesAs, seen}
 use Rattle.tko_worker.specs.Ports.{PortState}
 use Rattle.tko_worker.specs.Rests.{AtRest, RestsAt}
 use Rattle.tko_worker.specs.Talks.{Talk}
@@ -28,12 +30,15 @@ awaits_rest : (awaited : Option ℕ) (talk : Talk) (port : PortState) → IsSome
 awaits_rest None talk port some = absurd (let f : ⊥ = cc some in f)
 awaits_rest (Some server) talk port some = tt
 
+awaits_by : (presence : Presence) (it : Seen) → IsSome it.awaited → RestsBy presence it
+awaits_by Here it some = awaits_rest it.awaited it.talk it.port some
+awaits_by Leaving it some = some
+
 client_awaits : {L T : Type 0} (sight : Sight L T) (it : Option (Client (Guest L T)))
     → IsSome (option_and_then (λ client. sight.0 client.session.talk) it) → Rests sight it
 client_awaits sight None some = tt
 client_awaits sight (Some client) some =
-    awaits_rest (sight.0 client.session.talk) (sight.1 client.session.talk)
-    (sight.2 client.session.port) some
+    awaits_by client.session.presence (seen sight.0 sight.1 sight.2 client.session) some
 
 -- a number without a client, or whose client awaits a server
 pub kept_rests : {L T : Type 0} (sight : Sight L T) (slots : List (Option (Client (Guest L T))))
@@ -46,6 +51,18 @@ idle_rests : (awaited : Option ℕ) (talk : Talk) (port : PortState) → awaited
 idle_rests None talk port none rests = rests
 idle_rests (Some server) talk port none rests = tt
 
+-- only one that is still served was found to rest
+served_here : (presence : Presence) (asked : Option ℕ) (did : Turned) (old new : Seen)
+    → did ≡ turned.Rests → ServesAs presence asked did old new
+    → ServedAs did new.talk new.port × AsksIf did asked × (new.presence ≡ Here)
+served_here Here asked did old new rests serves = serves
+served_here Leaving asked did old new rests serves =
+    let both = sym rests ∙ serves.0 in absurd (let f : ⊥ = cc both in f)
+
+rests_here : (presence : Presence) (it : Seen) → presence ≡ Here
+    → AtRest it.awaited it.talk it.port → RestsBy presence it
+rests_here presence it here rests = subst (λ p. RestsBy p it) (sym here) rests
+
 -- a client that rests, and asks nobody
 pub served_rests : {L T P : Type 0} (sight : Sight L T)
     (asks_for : Guest L T → Option Request) (old new : MuxState (Guest L T) (Shared P))
@@ -57,7 +74,9 @@ pub served_rests : {L T P : Type 0} (sight : Sight L T)
     → RestAt sight new.roster.slots number
 served_rests {L} {T} {P} sight asks_for old new number due done made idle rests =
     let call = made.called in
-    let does = call.made.made.did in
+    let does = served_here call.was.session.presence made.asked done.did
+    (seen sight.0 sight.1 sight.2 call.was.session)
+    (seen sight.0 sight.1 sight.2 call.now.session) rests call.made.made.did in
     let asks_none : made.asked ≡ None = subst (λ d. AsksIf d made.asked) rests does.1 in
     let at_rest : ServedAs turned.Rests (sight.1 call.now.session.talk)
     (sight.2 call.now.session.port) =
@@ -80,8 +99,9 @@ served_rests {L} {T} {P} sight asks_for old new number due done made idle rests 
     ap (λ (r : RosterState (Client (Guest L T)) (Shared P)). session_at r.slots number) roster
     ∙ call.moved.after in
     subst (Rests sight) (sym here)
+    (rests_here call.now.session.presence (seen sight.0 sight.1 sight.2 call.now.session) does.2
     (idle_rests (sight.0 call.now.session.talk) (sight.1 call.now.session.talk)
-    (sight.2 call.now.session.port) after at_rest)
+    (sight.2 call.now.session.port) after at_rest))
 
 in_last : (number : ℕ) (list : List ℕ) → IsIn number (list ++ number ∷ [])
 in_last number [] = inl refl

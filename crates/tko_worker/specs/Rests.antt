@@ -1,6 +1,6 @@
 -- When nothing can be done for a client before its next event, and what was done until then.
 use Rattle.std.specs.Prelude.{◌≡◌, ◌≢◌, ℕ, false, List, [], Option, Some, None}
-use Rattle.tko_worker.specs.declared.settling.End.TheVariants.{Finished, Memory, ReadFault, WriteFault}
+use Rattle.tko_worker.specs.declared.settling.End.TheVariants.{Finished, Left, Memory, ReadFault, WriteFault}
 use Rattle.tko_worker.specs.declared.settling.Settled.{Settled}
 use Rattle.tko_worker.specs.declared.settling.Settled.TheVariants.{Asks, Ends, Rests, Spent}
 use Rattle.tko_worker.specs.declared.talking.Stage.{Stage}
@@ -45,3 +45,4 @@ SettledAs (Ends Finished) talk port = (talk.stage ≡ Over) × (talk.output ≡ 
 SettledAs (Ends Memory) talk port = Unit {0}
 SettledAs (Ends ReadFault) talk port = Unit {0}
 SettledAs (Ends WriteFault) talk port = Unit {0}
+SettledAs (Ends Left) talk port = ⊥

@@ -9,11 +9,13 @@ use Rattle.tko_mux.specs.declared.mux.delivery.Done.{Done}
 use Rattle.tko_mux.specs.Linking.{IsKept}
 use Rattle.tko_mux.specs.Muxes.{IsMade, MuxState}
 use Rattle.tko_text.specs.declared.request.Request.{Request}
+use Rattle.tko_worker.specs.declared.guest.Event.{Event}
 use Rattle.tko_worker.specs.declared.guest.Event.TheVariants.{Serve}
+use Rattle.tko_worker.specs.declared.guest.Presence.TheVariants.{Here}
 use Rattle.tko_worker.specs.declared.guest.Guest.{Guest}
 use Rattle.tko_worker.specs.declared.guest.Turned.{Turned}
 use Rattle.tko_worker.specs.declared.guest.Shared.{Shared}
-use Rattle.tko_worker.specs.Guests.{IsGuestCall, IsResting, seen}
+use Rattle.tko_worker.specs.Guests.{IsGuestCall, IsResting, noting, presence_after, seen}
 use Rattle.tko_worker.specs.Ports.{PortState}
 use Rattle.tko_worker.specs.Talks.{Talk}
 
@@ -59,26 +61,27 @@ abbrev pub IsListed : {L T : Type 0} → Sight L T → List (Option (Client (Gue
 IsListed sight slots number old new =
     (RestAt sight slots number × (new ≡ old)) ⊎ (new ≡ old ++ number ∷ [])
 
--- an event was noted at the port of a number's client. Its session, all others and all else stay
-pub record IsNotedAt {L T P : Type 0} (port : L → PortState) (note : PortState → PortState)
+-- an event was noted at a number's client. Its session, all others and all else stay
+pub record IsNotedAt {L T P : Type 0} (port : L → PortState) (event : Event)
     (old : MuxState (Guest L T) (Shared P)) (number : ℕ) (new : MuxState (Guest L T) (Shared P))
     : Type 0 where
   pub was : Client (Guest L T)
   pub now : Client (Guest L T)
   pub moved : IsMoved old.roster.slots number (Some was) (Some now) new.roster.slots
-  pub flag : port now.session.port ≡ note (port was.session.port)
+  pub flag : port now.session.port ≡ noting event (port was.session.port)
+  pub presence : now.session.presence ≡ presence_after event was.session.presence
   pub talk : now.session.talk ≡ was.session.talk
   pub parts : new.roster.parts ≡ old.roster.parts
   pub lines : new.lines ≡ old.lines
   pub limit : new.limit ≡ old.limit
 
 -- an event came for a number: it has no client, and nothing changes; or it was noted at its port
-pub data HasReached {L T P : Type 0} (port : L → PortState) (note : PortState → PortState)
+pub data HasReached {L T P : Type 0} (port : L → PortState) (event : Event)
     (old : MuxState (Guest L T) (Shared P)) (number : ℕ) (new : MuxState (Guest L T) (Shared P))
     : Type 0 where
   nobody : session_at old.roster.slots number ≡ None → new ≡ old
-      → HasReached port note old number new
-  noted : IsNotedAt port note old number new → HasReached port note old number new
+      → HasReached port event old number new
+  noted : IsNotedAt port event old number new → HasReached port event old number new
 
 -- the client of a number left, which has no request under way
 pub record HasLeft {L T P : Type 0} (awaited : T → Option ℕ) (old : MuxState (Guest L T) (Shared P))
@@ -105,10 +108,10 @@ pub data ListEnds {L T P : Type 0} (awaited : T → Option ℕ) (old : MuxState 
         → ListEnds awaited old number numbers new now
 
 -- an event came for a number, and its client is to be served in this turn
-pub record IsNoted {L T P : Type 0} (sight : Sight L T) (note : PortState → PortState)
+pub record IsNoted {L T P : Type 0} (sight : Sight L T) (event : Event)
     (old : WorkerState L T P) (number : ℕ) (new : WorkerState L T P) : Type 0 where
   pub reached : MuxState (Guest L T) (Shared P)
-  pub has_reached : HasReached sight.2 note old.mux number reached
+  pub has_reached : HasReached sight.2 event old.mux number reached
   pub listed : ListEnds sight.0 reached number old.touched new.mux new.touched
   pub spent : new.spent ≡ old.spent
 
@@ -117,7 +120,7 @@ pub record IsOpened {L T P : Type 0} (sight : Sight L T) (old : WorkerState L T 
     (talk : T) (number : ℕ) (new : WorkerState L T P) : Type 0 where
   pub mid : MuxState (Guest L T) (Shared P)
   pub admitted : IsAdmitted old.mux.roster number
-      (record { session = record { port = port; talk = talk } }) mid.roster
+      (record { session = record { port = port; talk = talk; presence = Here } }) mid.roster
   pub lines : mid.lines ≡ old.mux.lines
   pub limit : mid.limit ≡ old.mux.limit
   pub listed : ListEnds sight.0 mid number old.touched new.mux new.touched

@@ -25,8 +25,19 @@ pub enum Event {
     Writable,
     /// An event said that the client sends no more.
     Ended,
+    /// It is to leave.
+    Leave,
     /// It is to be served.
     Serve,
+}
+
+/// Whether a client is still served.
+#[derive(Clone, Copy, Debug, PartialEq, Eq)]
+pub enum Presence {
+    Here,
+    /// It leaves as soon as no request of it is under way. Nothing is read from it or written to it
+    /// any more.
+    Leaving,
 }
 
 /// What that came to.
@@ -51,6 +62,7 @@ pub enum Turned {
 pub struct Guest<L, T> {
     pub port: L,
     pub talk: T,
+    pub presence: Presence,
 }
 
 impl<P, L: Port, T: Talking<P>> Asking<Shared<P>> for Guest<L, T> {
@@ -88,7 +100,14 @@ impl<P, L: Port, T: Talking<P>> Asking<Shared<P>> for Guest<L, T> {
                 self.port.set_ended();
                 (None, Turned::Noted)
             }
-            Event::Serve => serve(&mut self.port, &mut self.talk, shared),
+            Event::Leave => {
+                self.presence = Presence::Leaving;
+                (None, Turned::Noted)
+            }
+            Event::Serve => match self.presence {
+                Presence::Here => serve(&mut self.port, &mut self.talk, shared),
+                Presence::Leaving => (None, Turned::Ends(End::Left)),
+            },
         }
     }
 

@@ -19,7 +19,7 @@ mod wire;
 mod worker;
 
 pub use event_worker::EventWorker;
-pub use guest::{Event, Guest, Shared, Turned};
+pub use guest::{Event, Guest, Presence, Shared, Turned};
 pub use memory::MemoryPort;
 pub use port::{Port, Read};
 pub use servers::Peer;

@@ -20,6 +20,8 @@ pub enum End {
     Memory,
     ReadFault,
     WriteFault,
+    /// It was to leave, and no request of it was under way any more.
+    Left,
 }
 
 /// What serving a client came to.

@@ -357,3 +357,27 @@ fn a_client_whose_server_is_late_is_told_so(rt: HostRuntime) -> Result<(), Fail>
     assert_eq!(rt; worker.next_due(), None);
     Ok(())
 }
+
+#[test]
+fn a_client_that_leaves_keeps_its_number_until_its_request_is_done(
+    rt: HostRuntime,
+) -> Result<(), Fail> {
+    let alloc = rt.alloc();
+    let shared = Shared {
+        parts: (),
+        buffer: vec![in alloc; 0; 4]?,
+    };
+    let mut worker = EventWorker::new(alloc, shared, 1, 100)?;
+    let port = new_port(alloc, b"".as_slice())?;
+    let number = worker.clients.open(port, new_asker(alloc)?)?;
+    assert!(rt; worker.end_turn(alloc, &mut [0; 4], 1, 101));
+    worker.clients.gone(alloc, number);
+    assert!(rt; worker.end_turn(alloc, &mut [0; 4], 2, 102));
+    let next = new_port(alloc, b"".as_slice())?;
+    assert!(rt; worker.clients.open(next, new_asker(alloc)?)? != number);
+    worker.failed(0);
+    worker.end_turn(alloc, &mut [0; 4], 3, 103);
+    let last = new_port(alloc, b"".as_slice())?;
+    assert_eq!(rt; worker.clients.open(last, new_asker(alloc)?)?, number);
+    Ok(())
+}

@@ -4,12 +4,11 @@ ghost use Rattle.std.specs.Bool.{OnFalse, OnTrue};
 ghost use Rattle.tko_roster.specs.Rosters.{AreReady};
 ghost use Rattle.tko_mux.specs.Linking.{AreLinked};
 ghost use Rattle.tko_mux.specs.Muxes.{HasNoneLeaving, line_at};
-ghost use Rattle.tko_worker.specs.Guests.{IsNotice, noting};
-ghost use Rattle.tko_worker.specs.Ports.{now_readable, now_writable};
+ghost use Rattle.tko_worker.specs.Guests.{IsNotice};
 ghost use Rattle.tko_worker.specs.Servers.{HasLeftNext, HasTaken, ListsReached};
 ghost use Rattle.tko_worker.specs.Workers.{DropEnds, IsListed, IsListedFor, IsNoted, IsOpened, IsServed, ListEnds, NobodyForgotten, OthersStay, OthersStayFor, RestAt, WasServed};
 
-use crate::{Event, Guest, Port, Shared, Talking, Turned};
+use crate::{Event, Guest, Port, Presence, Shared, Talking, Turned};
 use std::alloc::Global;
 use std::marker::Model;
 use std::mem::swap;
@@ -85,7 +84,12 @@ impl<P, L: Port + Drop, T: Talking<P> + Drop> Worker<L, T, P> {
         ensures linked { AreLinked ⟦<Guest<L, T> as Asking<Shared<P>>>⟧.awaited
             self.new.mux.roster.slots self.new.mux.lines }
     {
-        let number = self.mux.open(Guest { port, talk })?;
+        let guest = Guest {
+            port,
+            talk,
+            presence: Presence::Here,
+        };
+        let number = self.mux.open(guest)?;
         list(&mut self.mux, &mut self.touched, number);
         Ok(number)
     }
@@ -98,7 +102,8 @@ impl<P, L: Port + Drop, T: Talking<P> + Drop> Worker<L, T, P> {
             self.old.mux.roster.slots self.old.mux.lines }
         requires nobody { NobodyForgotten (T.awaited, T.talk, L.port)
             self.old.mux.roster.slots self.old.touched self.old.spent }
-        ensures noted { IsNoted (T.awaited, T.talk, L.port) now_readable self.old number self.new }
+        ensures noted { IsNoted (T.awaited, T.talk, L.port) Event.Readable self.old number
+            self.new }
         ensures nobody { NobodyForgotten (T.awaited, T.talk, L.port)
             self.new.mux.roster.slots self.new.touched self.new.spent }
         ensures ready { AreReady ⟦<Client<Guest<L, T>> as Driven<Shared<P>>>⟧.ready
@@ -117,7 +122,8 @@ impl<P, L: Port + Drop, T: Talking<P> + Drop> Worker<L, T, P> {
             self.old.mux.roster.slots self.old.mux.lines }
         requires nobody { NobodyForgotten (T.awaited, T.talk, L.port)
             self.old.mux.roster.slots self.old.touched self.old.spent }
-        ensures noted { IsNoted (T.awaited, T.talk, L.port) now_writable self.old number self.new }
+        ensures noted { IsNoted (T.awaited, T.talk, L.port) Event.Writable self.old number
+            self.new }
         ensures nobody { NobodyForgotten (T.awaited, T.talk, L.port)
             self.new.mux.roster.slots self.new.touched self.new.spent }
         ensures ready { AreReady ⟦<Client<Guest<L, T>> as Driven<Shared<P>>>⟧.ready
@@ -136,7 +142,8 @@ impl<P, L: Port + Drop, T: Talking<P> + Drop> Worker<L, T, P> {
             self.old.mux.roster.slots self.old.mux.lines }
         requires nobody { NobodyForgotten (T.awaited, T.talk, L.port)
             self.old.mux.roster.slots self.old.touched self.old.spent }
-        ensures noted { IsNoted (T.awaited, T.talk, L.port) now_readable self.old number self.new }
+        ensures noted { IsNoted (T.awaited, T.talk, L.port) Event.Ended self.old number
+            self.new }
         ensures nobody { NobodyForgotten (T.awaited, T.talk, L.port)
             self.new.mux.roster.slots self.new.touched self.new.spent }
         ensures ready { AreReady ⟦<Client<Guest<L, T>> as Driven<Shared<P>>>⟧.ready
@@ -145,6 +152,27 @@ impl<P, L: Port + Drop, T: Talking<P> + Drop> Worker<L, T, P> {
             self.new.mux.roster.slots self.new.mux.lines }
     {
         self.note(alloc, number, Event::Ended);
+    }
+
+    /// A client is to leave: nothing is read from it or written to it any more. If a request of it is
+    /// under way, it keeps its number until it took what came of that.
+    pub fn gone(&mut self, alloc: Global, number: usize)
+        requires ready { AreReady ⟦<Client<Guest<L, T>> as Driven<Shared<P>>>⟧.ready
+            self.old.mux.roster }
+        requires linked { AreLinked ⟦<Guest<L, T> as Asking<Shared<P>>>⟧.awaited
+            self.old.mux.roster.slots self.old.mux.lines }
+        requires nobody { NobodyForgotten (T.awaited, T.talk, L.port)
+            self.old.mux.roster.slots self.old.touched self.old.spent }
+        ensures noted { IsNoted (T.awaited, T.talk, L.port) Event.Leave self.old number
+            self.new }
+        ensures nobody { NobodyForgotten (T.awaited, T.talk, L.port)
+            self.new.mux.roster.slots self.new.touched self.new.spent }
+        ensures ready { AreReady ⟦<Client<Guest<L, T>> as Driven<Shared<P>>>⟧.ready
+            self.new.mux.roster }
+        ensures linked { AreLinked ⟦<Guest<L, T> as Asking<Shared<P>>>⟧.awaited
+            self.new.mux.roster.slots self.new.mux.lines }
+    {
+        self.note(alloc, number, Event::Leave);
     }
 
     /// Notes an event at a client's port, and that this client is to be served.
@@ -156,7 +184,7 @@ impl<P, L: Port + Drop, T: Talking<P> + Drop> Worker<L, T, P> {
             self.old.mux.roster.slots self.old.mux.lines }
         requires nobody { NobodyForgotten (T.awaited, T.talk, L.port)
             self.old.mux.roster.slots self.old.touched self.old.spent }
-        ensures noted { IsNoted (T.awaited, T.talk, L.port) (noting event) self.old number
+        ensures noted { IsNoted (T.awaited, T.talk, L.port) event self.old number
             self.new }
         ensures nobody { NobodyForgotten (T.awaited, T.talk, L.port)
             self.new.mux.roster.slots self.new.touched self.new.spent }

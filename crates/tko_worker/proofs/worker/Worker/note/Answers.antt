@@ -1,6 +1,6 @@
 use Rattle.std.proofs.Common.{refl, subst, sym}
 use Rattle.tko_mux.specs.declared.asking.Given.TheVariants.{Input}
-use Rattle.tko_worker.specs.Guests.{IsGuestCall, noting}
+use Rattle.tko_worker.specs.Guests.{IsGuestCall}
 use Rattle.tko_worker.specs.Workers.{IsNoted, NobodyForgotten, WorkerState}
 use Rattle.tko_worker.proofs.NotedLemmas.{event_reached}
 use Rattle.tko_worker.proofs.RestLemmas.{act_others, one_listed}
@@ -24,7 +24,7 @@ returns-clause-nobody g c =
 pub returns-clause-noted : goal.returns-clause-noted
 returns-clause-noted g c =
     subst (λ (w : WorkerState _ _ _). IsNoted
-    (g.T.Talking.awaited, g.T.Talking.talk, g.L.Port.port) (noting c.args.event) w c.args.number
+    (g.T.Talking.awaited, g.T.Talking.talk, g.L.Port.port) c.args.event w c.args.number
     (record {
       mux = c.list.new.mux;
       touched = c.list.new.numbers.items;

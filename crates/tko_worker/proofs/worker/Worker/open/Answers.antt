@@ -1,4 +1,5 @@
 use Rattle.std.proofs.Common.{rules, refl, subst, sym}
+use Rattle.tko_worker.specs.declared.guest.Presence.TheVariants.{Here}
 use Rattle.tko_worker.specs.Workers.{IsOpened, NobodyForgotten, WorkerState}
 use Rattle.tko_worker.proofs.RestLemmas.{admitted_others, one_listed}
 use Rattle.tko_worker.proofs.worker.Worker.open.Goals as goal
@@ -13,7 +14,7 @@ returns-clause-nobody g c =
     (g.T.Talking.awaited, g.T.Talking.talk, g.L.Port.port) w.mux.roster.slots w.touched w.spent)
     (sym c.self.view_is) c.requires.nobody)
     (admitted_others c.self.inside.mux.roster c.open.new.self.roster c.in_ok-number.number
-    (record { session = record { port = c.args.port; talk = c.args.talk } }) (search rules))
+    (record { session = record { port = c.args.port; talk = c.args.talk; presence = Here } }) (search rules))
     c.list.ensures.others c.list.ensures.listed
 
 pub returns-clause-ok : goal.returns-clause-ok
