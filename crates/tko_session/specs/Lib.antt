@@ -1,5 +1,6 @@
 pub mod Acts
 pub mod AnswerEnds
+pub mod Awaiting
 pub mod Batches
 pub mod Clients
 pub mod Driven

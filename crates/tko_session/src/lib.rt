@@ -9,6 +9,8 @@
 //!   the session asks for over the links, records what it did, tells each attempt as it ends,
 //!   writes the replies to an `Outlet`, and runs the rounds.
 //! - `round`: sends the probes that are due, and tells each as it ends.
+//! - `observe_attempts`, `observe_request`, `observe_trail`, `observe_drop`: hand on what a session
+//!   did, for a driver that does not wait.
 //! - `client_begins`, `client_acts`, `served`: laws. Each client has a life of its own, also where
 //!   one thread serves many over the same parts.
 #![tactic(auto)]
@@ -24,6 +26,7 @@ mod step;
 
 pub use clients::{client_acts, client_begins, served};
 pub use fault::SessionFault;
+pub use observing::{observe_attempts, observe_drop, observe_request, observe_trail};
 pub use rounds::round;
 pub use serving::serve;
 pub use session::Session;

@@ -13,7 +13,7 @@ use tko_io::IoRuntime;
 use tko_route::{Attempt, Trail};
 
 /// Tells those attempts at a key that were not told yet; the first `told` were.
-pub(crate) fn observe_attempts<R: IoRuntime, T: Trails>(
+pub fn observe_attempts<R: IoRuntime, T: Trails>(
     rt: &R,
     trails: &mut T,
     attempts: &[Attempt],
@@ -29,7 +29,7 @@ pub(crate) fn observe_attempts<R: IoRuntime, T: Trails>(
 }
 
 /// Records the request that a session read. Where memory runs out, the session drops it.
-pub(crate) fn observe_request<R: IoRuntime, T: Trails>(
+pub fn observe_request<R: IoRuntime, T: Trails>(
     rt: &R,
     session: &mut Session,
     trails: &mut T,
@@ -53,7 +53,7 @@ pub(crate) fn observe_request<R: IoRuntime, T: Trails>(
 
 /// Tells the last attempts at a key, notes the marks of all of them, and records its trail; of the
 /// next key none is told. Where memory runs out, the session drops the request.
-pub(crate) fn observe_trail<R: IoRuntime, H, L, T: Trails, C>(
+pub fn observe_trail<R: IoRuntime, H, L, T: Trails, C>(
     rt: &R,
     session: &mut Session,
     parts: &mut Parts<H, L, T, C>,
@@ -82,7 +82,7 @@ pub(crate) fn observe_trail<R: IoRuntime, H, L, T: Trails, C>(
 }
 
 /// Tells the last attempts at a key whose request was dropped, and notes the marks of all of them.
-pub(crate) fn observe_drop<R: IoRuntime, H, L, T: Trails, C>(
+pub fn observe_drop<R: IoRuntime, H, L, T: Trails, C>(
     rt: &R,
     parts: &mut Parts<H, L, T, C>,
     told: &mut usize,

@@ -1,0 +1,64 @@
+-- What is done with a client is one session's life.
+use Rattle.std.proofs.Common.{◌≡◌, ℕ, List, [], ◌∷◌, ◌++◌, take, refl, sym, ap, subst, ◌∙◌, append_assoc, append-nil}
+use Rattle.std.specs.Prelude.{flat_map}
+use Rattle.tko_model.specs.Records.{Gains, Lead}
+use Rattle.tko_pools.specs.Configs.{Configuration}
+use Rattle.tko_reply.specs.Ghosts.{PartsGhosts}
+use Rattle.tko_reply.specs.Interactions.{Interaction}
+use Rattle.tko_session.specs.Acts.{IsAct, came_to}
+use Rattle.tko_session.specs.Clients.{Client, IsClient, Life, life, lived, new_client, no_life}
+use Rattle.tko_session.proofs.ActLemmas.{acted}
+use Rattle.tko_session.proofs.LifeLemmas.{begins}
+use Rattle.tko_worker.specs.Talks.{Dropped, Ended, Fed, NotFed, Sent, TalkItem, Took, Went}
+use Rattle.tko_client.specs.Comings.{result_of}
+use Rattle.tko_client.specs.Clients.{ClientOver, Does, DoesAs, HasLife, IsOwnTalk, bytes_in}
+
+-- a life that goes on with this one, in which these bytes came too
+record Grows (config : Configuration) (it : Life) (bytes : List ℕ) (now : Client) : Type 0 where
+  more : Life
+  is : IsClient config more now
+  from : more.bytes ≡ it.bytes ++ bytes
+
+module _ {H T C : Type 0} (ghosts : PartsGhosts H (List ℕ) T C) (config : Configuration) where
+  stays_so : (it : Life) (old new : ClientOver H T C) → IsClient config it old.0 → new ≡ old → Grows config it [] new.0
+  stays_so it old new is same = record { more = it; is = subst (λ (c : ClientOver H T C). IsClient config it c.0) (sym same) is; from = sym (append-nil it.bytes) }
+
+  one_act : (it adds : Life) (old new : Client) → IsClient config it old → IsAct config old adds new → Grows config it adds.bytes new
+  one_act it adds old new is act = record { more = lived it adds; is = acted config it old adds new is act; from = refl }
+
+  gone_life : (it : Life) (old : ClientOver H T C) (calls : List (List Interaction)) (new : ClientOver H T C) → IsClient config it old.0
+      → Lead (Does ghosts config) old calls new → Grows config it [] new.0
+  gone_life it old [] new is same = stays_so it old new is same
+  gone_life it old (done ∷ calls) new is (mid, step, rest) =
+      let grown = gone_life (lived it (life [] [] done)) mid calls new (acted config it old.0 (life [] [] done) mid.0 is step.0) rest in record {
+        more = grown.more;
+        is = grown.is;
+        from = grown.from ∙ append-nil (it.bytes ++ []);
+      }
+
+  did : (it : Life) (old new : ClientOver H T C) (item : TalkItem) → old.1.config ≡ config → IsClient config it old.0 → DoesAs ghosts item old new
+      → Grows config it (bytes_in item) new.0
+  did it old new (Went asked) same is gone = gone_life it old gone.calls new is (subst (λ c. Lead (Does ghosts c) old gone.calls new) same gone.gains.leads)
+  did it old new Dropped same is (gone, short) = gone_life it old gone.calls new is (subst (λ c. Lead (Does ghosts c) old gone.calls new) same gone.gains.leads)
+  did it old new (Fed bytes) same is act = one_act it (life bytes [] []) old.0 new.0 is (subst (λ c. IsAct c old.0 (life bytes [] []) new.0) same act.0)
+  did it old new NotFed same is kept = stays_so it old new is kept
+  did it old new Ended same is kept = stays_so it old new is kept
+  did it old new (Sent count) same is act =
+      let adds : Life = life [] (take count old.0.session.outbox) [] in one_act it adds old.0 new.0 is (subst (λ c. IsAct c old.0 adds new.0) same act.0)
+  did it old new (Took came asked) same is taken =
+      let adds : Life = life [] [] (came_to taken.it (result_of came) ∷ taken.then) in one_act it adds old.0 new.0 is (subst (λ c. IsAct c old.0 adds new.0) same taken.act.0)
+
+  talked : (it : Life) (old : Client) (items : List TalkItem) (new : Client) → IsClient config it old → Lead (IsOwnTalk ghosts config) old items new
+      → Grows config it (flat_map bytes_in items) new
+  talked it old [] new is same = record { more = it; is = subst (IsClient config it) (sym same) is; from = sym (append-nil it.bytes) }
+  talked it old (item ∷ items) new is (mid, talk, rest) =
+      let first = did it (old, talk.before) (mid, talk.after) item talk.same is talk.does in
+      let grown = talked first.more mid items new first.is rest in record {
+        more = grown.more;
+        is = grown.is;
+        from = grown.from ∙ ap (λ bytes. bytes ++ flat_map bytes_in items) first.from ∙ append_assoc it.bytes (bytes_in item) (flat_map bytes_in items);
+      }
+
+  pub has_life : (items : List TalkItem) (now : Client) → Gains (IsOwnTalk ghosts config) new_client items now → HasLife config items now
+  has_life items now gains =
+      let grown = talked no_life new_client items now (begins config) gains.leads in record { it = grown.more; is = grown.is; bytes = grown.from }

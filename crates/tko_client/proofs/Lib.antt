@@ -1,0 +1,5 @@
+pub mod CallLemmas
+pub mod ClientLemmas
+pub mod GoingLemmas
+pub mod LawLemmas
+pub mod RecordedLemmas

@@ -1,0 +1,19 @@
+use Rattle.tko_client.specs.Steps.{client_ghosts}
+use Rattle.tko_client.proofs.CallLemmas.{lost, stepped, unrecorded}
+use Rattle.tko_client.proofs.calls.go_once.Goals as goal
+
+pub returns-in-Ok-clause-ok : goal.returns-in-Ok-clause-ok
+returns-in-Ok-clause-ok g c =
+    let on = c.in-Ok.ensures.ok in
+    let told = c.observe.ensures in
+    stepped (client_ghosts {C = g.row.C.Denot} g.H.Health g.T.Trails) c.args.session.now c.next.new.self c.observe.new.session c.args.parts.now c.observe.new.parts c.next.new.health on.items c.in-Ok.step c.observe.result on.is on.gains told.went told.ok told.same
+
+pub returns-in-Ok-clause-err : goal.returns-in-Ok-clause-err
+returns-in-Ok-clause-err g c =
+    let on = c.in-Ok.ensures.ok in
+    unrecorded (client_ghosts {C = g.row.C.Denot} g.H.Health g.T.Trails) c.args.session.now c.next.new.self c.observe.new.session c.args.parts.now c.observe.new.parts c.next.new.health on.items c.in-Ok.step c.observe.result on.is on.gains c.observe.ensures.err
+
+pub returns-in-Err-clause-err : goal.returns-in-Err-clause-err
+returns-in-Err-clause-err g c =
+    let on = c.in-Err.ensures.err in
+    lost (client_ghosts {C = g.row.C.Denot} g.H.Health g.T.Trails) c.args.session.now c.next.new.self c.args.parts.now c.observe_drop.new.parts c.next.new.health on.items c.in-Err.dropped on.is on.gains c.observe_drop.ensures

@@ -1,0 +1,40 @@
+use Rattle.tko_client.specs.Steps.{client_ghosts}
+use Rattle.tko_client.proofs.CallLemmas.{asks_on, awaiting_at, out_at, took, took_awaits, took_began, took_lost, took_unrecorded}
+use Rattle.tko_route.specs.Calls.{Told}
+use Rattle.std.proofs.Common.{map}
+use Rattle.tko_client.proofs.calls.take_once.Goals as goal
+
+pub observe-requires : goal.observe-requires
+observe-requires g c =
+    let out = awaiting_at c.args.session.now.work c.requires.awaits in
+    let on = c.in-Ok.ensures.ok in
+    let sent = out_at c.args.parts.now.config c.args.session.now out.0 out.1 c.requires.ready in
+    record { began = took_began c.args.parts.now.config c.args.session.now c.in-Ok.step c.answered.new.self out.0 c.args.outcome (map Told on.items) sent (on.is out.0 out.1) }
+
+pub returns-in-Ok-clause-asks : goal.returns-in-Ok-clause-asks
+returns-in-Ok-clause-asks g c =
+    let out = awaiting_at c.args.session.now.work c.requires.awaits in
+    let on = c.in-Ok.ensures.ok in
+    let told = c.observe.ensures in
+    let sent = out_at c.args.parts.now.config c.args.session.now out.0 out.1 c.requires.ready in
+    asks_on c.in-Ok.step c.answered.new.self c.observe.new.session c.observe.result
+    (took_awaits c.args.parts.now.config c.args.session.now c.in-Ok.step c.answered.new.self out.0 c.args.outcome (map Told on.items) sent (on.is out.0 out.1)) told.went told.same
+
+pub returns-in-Ok-clause-ok : goal.returns-in-Ok-clause-ok
+returns-in-Ok-clause-ok g c =
+    let out = awaiting_at c.args.session.now.work c.requires.awaits in
+    let on = c.in-Ok.ensures.ok in
+    let told = c.observe.ensures in
+    took (client_ghosts {C = g.row.C.Denot} g.H.Health g.T.Trails) c.args.session.now c.answered.new.self c.observe.new.session c.args.parts.now c.observe.new.parts c.answered.new.health on.items c.in-Ok.step c.args.outcome out.0 c.observe.result out.1 on.is on.gains told.went told.ok told.same
+
+pub returns-in-Ok-clause-err : goal.returns-in-Ok-clause-err
+returns-in-Ok-clause-err g c =
+    let out = awaiting_at c.args.session.now.work c.requires.awaits in
+    let on = c.in-Ok.ensures.ok in
+    took_unrecorded (client_ghosts {C = g.row.C.Denot} g.H.Health g.T.Trails) c.args.session.now c.answered.new.self c.observe.new.session c.args.parts.now c.observe.new.parts c.answered.new.health on.items c.in-Ok.step c.args.outcome out.0 c.observe.result out.1 on.is on.gains c.observe.ensures.err
+
+pub returns-in-Err-clause-err : goal.returns-in-Err-clause-err
+returns-in-Err-clause-err g c =
+    let out = awaiting_at c.args.session.now.work c.requires.awaits in
+    let on = c.in-Err.ensures.err in
+    took_lost (client_ghosts {C = g.row.C.Denot} g.H.Health g.T.Trails) c.args.session.now c.answered.new.self c.args.parts.now c.observe_drop.new.parts c.answered.new.health on.items c.in-Err.dropped c.args.outcome out.0 out.1 on.is on.gains c.observe_drop.ensures

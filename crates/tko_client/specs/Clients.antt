@@ -1,0 +1,123 @@
+-- A client of an event-driven worker: how it stands, and what each call of it is to its life.
+use Rattle.std.specs.Prelude.{◌≡◌, ℕ, List, [], ◌∷◌, Option, Some, None, Result, flat_map, length, take}
+use Rattle.tko_model.specs.Records.{Gains}
+use Rattle.tko_links.specs.declared.links.NoMemory.{NoMemory}
+use Rattle.tko_links.specs.declared.links.Outcome.{Outcome}
+use Rattle.tko_pools.specs.Configs.{Configuration}
+use Rattle.tko_reply.specs.Ghosts.{PartsGhosts}
+use Rattle.tko_reply.specs.Interactions.{Interaction}
+use Rattle.tko_reply.specs.Standing.{Asking}
+use Rattle.tko_reply.specs.declared.parts.Parts.{Parts}
+use Rattle.tko_session.specs.Acts.{came_to}
+use Rattle.tko_session.specs.Clients.{Client, ClientPhase, IsClient, Life, Open, Over as PhaseOver, Short as PhaseShort, client, life}
+use Rattle.tko_session.specs.Driven.{IsAwaiting, IsReady}
+use Rattle.tko_session.specs.ManyClients.{ActsOn}
+use Rattle.tko_session.specs.Outgoing.{outgoing}
+use Rattle.tko_session.specs.Working.{Work}
+use Rattle.tko_session.specs.Working as work
+use Rattle.tko_text.specs.declared.request.Request.{Request}
+use Rattle.tko_worker.specs.Talks.{Dropped, Ended, Fed, NotFed, Sent, Talk, TalkItem, Took, Went}
+use Rattle.tko_worker.specs.declared.talking.Stage.{Stage}
+use Rattle.tko_worker.specs.declared.talking.Stage.TheVariants as stage
+use Rattle.tko_client.specs.declared.client.Course.{Course}
+use Rattle.tko_client.specs.declared.client.Course.TheVariants.{Ended as CourseEnded, Full, Going, NeedsInput, Over, Short}
+use Rattle.tko_client.specs.declared.client.EventClient.{EventClient}
+use Rattle.tko_client.specs.Comings.{result_of}
+
+abbrev pub stage_of : Course → Stage
+stage_of Going = stage.Going
+stage_of Full = stage.Full
+stage_of NeedsInput = stage.NeedsInput
+stage_of CourseEnded = stage.Over
+stage_of Over = stage.Over
+stage_of Short = stage.Over
+
+abbrev pub phase_at : Course → ClientPhase
+phase_at Going = Open
+phase_at Full = Open
+phase_at NeedsInput = Open
+phase_at CourseEnded = Open
+phase_at Over = PhaseOver
+phase_at Short = PhaseShort
+
+-- the client of a worker that this is
+abbrev pub client_of : EventClient → Client
+client_of it = client (phase_at it.course) it.session
+
+-- as its port sees it
+abbrev pub talk_of : EventClient → Talk
+talk_of it = record { stage = stage_of it.course; output = outgoing it.session }
+
+-- a client, and the parts that all share
+abbrev pub ClientOver : Type 0 → Type 0 → Type 0 → Type 0
+ClientOver H T C = Client × Parts H (List ℕ) T C
+
+module _ {H T C : Type 0} (ghosts : PartsGhosts H (List ℕ) T C) where
+  -- an act in which no bytes come or go
+  abbrev pub Does : Configuration → ClientOver H T C → List Interaction → ClientOver H T C → Type 0
+  Does config old done new = ActsOn ghosts config old (life [] [] done) new
+
+  -- acts in which no bytes come or go
+  pub record HasGone (old new : ClientOver H T C) : Type 0 where
+    pub calls : List (List Interaction)
+    pub gains : Gains (Does old.1.config) old calls new
+
+  -- an act in which this came of the send that was out, and then more was done
+  pub record HasTaken (result : Result Outcome NoMemory) (old new : ClientOver H T C) : Type 0
+    where
+      pub it : Asking
+      pub at : old.0.session.work ≡ work.Awaits it
+      pub then : List Interaction
+      pub act : Does old.1.config old (came_to it result ∷ then) new
+
+  -- what is done with a client is acts of its life: its session makes calls; memory runs out for
+  -- it; bytes come, or there is no memory for them; they end; replies are written; or what came of
+  -- its request is taken
+  abbrev pub DoesAs : TalkItem → ClientOver H T C → ClientOver H T C → Type 0
+  DoesAs (Went asked) old new = HasGone old new
+  DoesAs Dropped old new = HasGone old new × (new.0.phase ≡ PhaseShort)
+  DoesAs (Fed bytes) old new = ActsOn ghosts old.1.config old (life bytes [] []) new
+  DoesAs NotFed old new = new ≡ old
+  DoesAs Ended old new = new ≡ old
+  DoesAs (Sent count) old new =
+      ActsOn ghosts old.1.config old (life [] (take count old.0.session.outbox) []) new
+  DoesAs (Took came asked) old new = HasTaken (result_of came) old new
+
+-- it can be called over these parts, and while a send is out for it its session is open
+pub record IsReadyOver {H T C : Type 0} (servers : H → ℕ) (parts : Parts H (List ℕ) T C)
+    (it : EventClient) : Type 0 where
+  pub health : servers parts.backend.health ≡ length parts.config.addresses
+  pub links : length parts.backend.links ≡ length parts.config.addresses
+  pub session : IsReady parts.config it.session
+  pub going : IsAwaiting it.session.work → it.course ≡ Going
+
+-- the request that a send is out for
+abbrev pub asked_for : Work → Option Request
+asked_for work.Between = None
+asked_for (work.Read one) = None
+asked_for (work.Awaits it) = Some it.key.request
+asked_for (work.Ended one) = None
+
+-- the bytes that a call takes from the client
+abbrev pub bytes_in : TalkItem → List ℕ
+bytes_in (Fed bytes) = bytes
+bytes_in (Went asked) = []
+bytes_in Dropped = []
+bytes_in NotFed = []
+bytes_in Ended = []
+bytes_in (Sent count) = []
+bytes_in (Took came asked) = []
+
+-- a client's own call, over the parts as they are then
+pub record IsOwnTalk {H T C : Type 0} (ghosts : PartsGhosts H (List ℕ) T C)
+    (config : Configuration) (old : Client) (item : TalkItem) (new : Client) : Type 0 where
+  pub before : Parts H (List ℕ) T C
+  pub after : Parts H (List ℕ) T C
+  pub same : before.config ≡ config
+  pub does : DoesAs ghosts item (old, before) (new, after)
+
+-- a client has one session's life, in which these calls took what came
+pub record HasLife (config : Configuration) (items : List TalkItem) (now : Client) : Type 0 where
+  pub it : Life
+  pub is : IsClient config it now
+  pub bytes : it.bytes ≡ flat_map bytes_in items

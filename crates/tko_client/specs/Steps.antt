@@ -1,0 +1,119 @@
+-- A call of a client's session, and what is recorded after it, over the parts that all clients of a
+-- worker share.
+use Rattle.std.specs.Prelude.{◌≡◌, ℕ, List, ◌∷◌, IsSome, Option, Some, None, Ok, length, slice_index}
+use Rattle.tko_model.specs.Records.{Gains}
+use Rattle.tko_health.specs.declared.health.Health.{Ghosts as HealthGhosts}
+use Rattle.tko_links.specs.declared.links.Outcome.{Outcome}
+use Rattle.tko_reply.specs.Ghosts.{PartsGhosts}
+use Rattle.tko_reply.specs.Interactions.{Interaction, Interacts}
+use Rattle.tko_reply.specs.Standing.{Asking}
+use Rattle.tko_reply.specs.declared.parts.Parts.{Parts}
+use Rattle.tko_reply.specs.declared.trails.Trails.{Ghosts as TrailsGhosts}
+use Rattle.tko_session.specs.Acts.{IsLoss, IsSessionCall, IsToRecord, came_to, left_after}
+use Rattle.tko_session.specs.Clients.{ClientPhase, Open, Over as PhaseOver}
+use Rattle.tko_session.specs.Driven.{dropped}
+use Rattle.tko_session.specs.SessionState.{SessionState}
+use Rattle.tko_session.specs.Working.{Awaits, Work, read_in}
+use Rattle.tko_session.specs.declared.step.Progress.{Progress}
+use Rattle.tko_session.specs.declared.step.Progress.TheVariants as progress
+use Rattle.tko_session.specs.declared.step.Step.{Step}
+use Rattle.tko_session.specs.declared.step.Step.TheVariants as step
+use Rattle.tko_client.specs.declared.calls.Went.{Went}
+use Rattle.tko_client.specs.declared.calls.Went.TheVariants.{Asks, NeedsInput, On, Over}
+
+-- what the parts of an event-driven worker show to its sessions: the connections are not the
+-- sessions', so a send is seen by its count alone; and no clock is read
+abbrev pub client_ghosts : {H T C : Type 0} → HealthGhosts H → TrailsGhosts T
+    → PartsGhosts H (List ℕ) T C
+client_ghosts health trails = record {
+  backend = record {
+    steps = health.steps;
+    grants = health.grants;
+    exchanges = λ old item new. Unit {0};
+    sent = slice_index;
+    probed = λ counts server. 0;
+    reads = λ old moment new. ⊥;
+  };
+  records = trails.records;
+}
+
+-- what an item that was answered came to
+abbrev pub went_of : Progress → Went
+went_of progress.More = On
+went_of progress.NeedsInput = NeedsInput
+went_of progress.Quit = Over
+went_of progress.LineTooLong = Over
+
+-- what a call that said this came to
+abbrev pub went_from : Step → Went
+went_from step.Began = On
+went_from (step.Asks clear) = Asks clear
+went_from (step.Tried trail) = On
+went_from (step.At at) = went_of at
+
+-- the server that is asked
+abbrev pub asked_in : Went → Option ℕ
+asked_in (Asks server) = Some server
+asked_in On = None
+asked_in NeedsInput = None
+asked_in Over = None
+
+abbrev pub phase_of : Went → ClientPhase
+phase_of Over = PhaseOver
+phase_of (Asks server) = Open
+phase_of On = Open
+phase_of NeedsInput = Open
+
+-- a call that said that a request was read has it
+abbrev pub BeganAt : Step → Work → Type 0
+BeganAt step.Began at = IsSome (read_in at)
+BeganAt (step.Asks clear) at = Unit {0}
+BeganAt (step.Tried trail) at = Unit {0}
+BeganAt (step.At it) at = Unit {0}
+
+-- what calls of sessions leave of the parts, so that each other session can go on
+pub record HasStayed {H T C : Type 0} (servers : H → ℕ) (old new : Parts H (List ℕ) T C) : Type 0
+  where
+    pub config : new.config ≡ old.config
+    pub health : servers new.backend.health ≡ servers old.backend.health
+    pub links : length new.backend.links ≡ length old.backend.links
+
+-- a session at a moment, and the parts
+abbrev pub AtOver : Type 0 → Type 0 → Type 0 → Type 0
+AtOver H T C = SessionState × Parts H (List ℕ) T C
+
+module _ {H T C : Type 0} (ghosts : PartsGhosts H (List ℕ) T C) where
+  -- something could not be recorded after a call that said this
+  pub record IsUnrecorded (said : Step) (old new : AtOver H T C) : Type 0 where
+    pub some : IsToRecord said
+    pub state : new.0 ≡ dropped old.0
+    pub gains : Gains (Interacts ghosts) old.1 (left_after said) new.1
+
+  -- the session went on once, after which its client stands so
+  pub record IsStepped (phase : ClientPhase) (old new : AtOver H T C) : Type 0 where
+    pub done : List Interaction
+    pub call : IsSessionCall old.1.config old.0 done phase new.0
+    pub gains : Gains (Interacts ghosts) old.1 done new.1
+
+  -- memory ran out as it did
+  pub record IsLost (old new : AtOver H T C) : Type 0 where
+    pub done : List Interaction
+    pub loss : IsLoss old.1.config old.0 done new.0
+    pub gains : Gains (Interacts ghosts) old.1 done new.1
+
+  -- the session took what came of its send, which was counted before
+  pub record IsTaken (outcome : Outcome) (phase : ClientPhase) (old new : AtOver H T C) : Type 0
+    where
+      pub it : Asking
+      pub at : old.0.work ≡ Awaits it
+      pub then : List Interaction
+      pub call : IsSessionCall old.1.config old.0 (came_to it (Ok outcome) ∷ then) phase new.0
+      pub gains : Gains (Interacts ghosts) old.1 then new.1
+
+  -- memory ran out as it did
+  pub record IsLostTaking (outcome : Outcome) (old new : AtOver H T C) : Type 0 where
+    pub it : Asking
+    pub at : old.0.work ≡ Awaits it
+    pub then : List Interaction
+    pub loss : IsLoss old.1.config old.0 (came_to it (Ok outcome) ∷ then) new.0
+    pub gains : Gains (Interacts ghosts) old.1 then new.1
