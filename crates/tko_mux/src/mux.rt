@@ -17,7 +17,7 @@ use std::marker::Model;
 use tko_bytes::NoMemory;
 use tko_model::{Clear, Duty};
 use tko_pipe::{Asker, Fate};
-use tko_roster::{Driven, Roster};
+use tko_roster::{Driven, Roster, Visit};
 use tko_text::Request;
 
 /// The sessions by number, and for each server the connections that their requests go out on.
@@ -123,6 +123,21 @@ impl<P, S: Asking<P> + Drop> Mux<S, P> {
         let (asked, did) = self.roster.act(number, Given::Input(input))?;
         let stopped = self.send(alloc, number, asked, due);
         Some(Done { did, stopped })
+    }
+
+    /// Does something with the parts that all sessions share, which leaves them ready.
+    pub fn visit<V: Visit<P>>(&mut self, visit: V) -> V::Output
+        requires stays { (old new : P) → V.stays old new → S.stays old new }
+        requires ready { AreReady ⟦<Client<S> as Driven<P>>⟧.ready self.old.roster }
+        requires linked { AreLinked S.awaited self.old.roster.slots self.old.lines }
+        ensures does { V.does self.old.roster.parts result self.new.roster.parts }
+        ensures slots { self.new.roster.slots ≡ self.old.roster.slots }
+        ensures lines { self.new.lines ≡ self.old.lines }
+        ensures limit { self.new.limit ≡ self.old.limit }
+        ensures ready { AreReady ⟦<Client<S> as Driven<P>>⟧.ready self.new.roster }
+        ensures linked { AreLinked S.awaited self.new.roster.slots self.new.lines }
+    {
+        self.roster.visit(visit)
     }
 
     /// A probe of a server is to be sent, whose response is due at this moment.

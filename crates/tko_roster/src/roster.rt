@@ -2,7 +2,7 @@
 ghost use Rattle.std.specs.Prelude.{◌≡◌, ◌<◌, None, Some, IfNone, IfOk, IfSome, OnErr, length, option_copied};
 ghost use Rattle.tko_roster.specs.Rosters.{AreReady, IfHas, IsActed, IsAdmitted, IsNobody, IsReleased, IsSlotCall, nobody, session_at};
 
-use crate::Driven;
+use crate::{Driven, Visit};
 use std::alloc::Global;
 use std::marker::Model;
 use tko_bytes::NoMemory;
@@ -91,6 +91,17 @@ impl<P, S: Driven<P> + Drop> Roster<S, P> {
             return None;
         }
         act_in(&mut self.slots[number], &mut self.parts, input)
+    }
+
+    /// Does something with the parts, which leaves all sessions ready.
+    pub fn visit<V: Visit<P>>(&mut self, visit: V) -> V::Output
+        requires stays { (old new : P) → V.stays old new → S.stays old new }
+        requires ready { AreReady S.ready self.old }
+        ensures does { V.does self.old.parts result self.new.parts }
+        ensures slots { self.new.slots ≡ self.old.slots }
+        ensures ready { AreReady S.ready self.new }
+    {
+        visit.visit(&mut self.parts)
     }
 
     /// Takes the number from its session, if it has one. No request of it may be under way, so none

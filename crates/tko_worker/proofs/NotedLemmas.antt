@@ -13,7 +13,6 @@ use Rattle.tko_worker.specs.declared.guest.Event.TheVariants.{Ended, Leave, Read
 use Rattle.tko_worker.specs.declared.guest.Guest.{Guest}
 use Rattle.tko_worker.specs.declared.guest.Shared.{Shared}
 use Rattle.tko_worker.specs.declared.guest.Turned.{Turned}
-use Rattle.tko_worker.specs.declared.guest.Turned.TheVariants.{Noted}
 use Rattle.tko_worker.specs.Guests.{EventKeeps, GuestDoes, IsGuestCall, IsNotice, Seen, noting, presence_after}
 use Rattle.tko_worker.specs.Workers.{DropEnds, HasReached, IsNotedAt, Sight, kept, left, nobody, noted}
 

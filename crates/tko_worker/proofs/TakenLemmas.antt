@@ -1,5 +1,5 @@
 -- What came from a server, and where there is no response yet.
-use Rattle.std.proofs.Common.{◌≡◌, ◌⊎◌, ℕ, Bool, true, false, List, refl, sym, ap, subst, ◌∙◌, Option, Some, None}
+use Rattle.std.proofs.Common.{◌≡◌, ℕ, Bool, true, false, List, refl, sym, ap, subst, ◌∙◌, Option, Some, None}
 use Rattle.std.specs.Bool.{OnFalse, OnTrue}
 use Rattle.std.specs.Prelude.{not, Result, Ok, Err, slice_get}
 use Rattle.tko_text.specs.declared.request.Request.{Request}

@@ -1,5 +1,5 @@
 -- A server's socket and the line to it.
-use Rattle.std.proofs.Common.{arith, inl, inr, ◌≡◌, ◌≢◌, ◌<◌, ◌≤◌, ℕ, Bool, true, false, List, [], ◌∷◌, ◌++◌, refl, sym, ap, subst, ◌∙◌, length, take, drop, Option, Some, None}
+use Rattle.std.proofs.Common.{arith, inl, inr, ◌≡◌, ◌≢◌, ◌<◌, ◌≤◌, ℕ, Bool, true, false, List, [], ◌∷◌, ◌++◌, refl, sym, ap, ◌∙◌, length, take, drop, Option, Some, None}
 use Rattle.std.specs.Bool.{OnFalse, OnTrue}
 use Rattle.std.specs.Prelude.{◌==◌, not, IfSome, IsSome, slice_get}
 use Rattle.std.proofs.lemmas.List.{append_cancel_left, take-append-drop}

@@ -1,6 +1,6 @@
 -- The servers of a worker: what came from them, and when nothing can be done for them.
 use Rattle.std.specs.Prelude.{◌≡◌, ◌⊎◌, ℕ, List, [], Option, Some, None, Result, Ok, Err, slice_get}
-use Rattle.std.specs.Option.{option_and_then, option_map}
+use Rattle.std.specs.Option.{option_and_then}
 use Rattle.tko_text.specs.declared.request.Request.{Request}
 use Rattle.tko_text.specs.declared.response.fault.ReadFault.TheVariants as fault
 use Rattle.tko_text.specs.Responses.{ReadsResponse}
@@ -9,6 +9,7 @@ use Rattle.tko_pipe.specs.declared.link.Link.TheVariants.{Connected}
 use Rattle.tko_pipe.specs.declared.waiter.Waiter.{Waiter}
 use Rattle.tko_pipe.specs.Pipes.{PipeState}
 use Rattle.tko_roster.specs.Rosters.{RosterState}
+use Rattle.tko_mux.specs.declared.asking.Came.{Came}
 use Rattle.tko_mux.specs.declared.client.Client.{Client}
 use Rattle.tko_mux.specs.declared.mux.delivery.Delivery.{Delivery}
 use Rattle.tko_mux.specs.declared.mux.delivery.Delivery.TheVariants.{Probed, Reached}
@@ -54,10 +55,19 @@ abbrev pub delivery_in : Result (Option (Delivery Turned)) ShutCause → Option 
 delivery_in (Ok delivery) = delivery
 delivery_in (Err why) = None
 
+-- what came for a probe and was not fetched yet, after something was delivered
+abbrev pub probed_after : Delivery Turned → Option Came → Option Came
+probed_after (Reached number done) probed = probed
+probed_after (Probed it) probed = Some it
+
+abbrev pub probed_by : Option (Delivery Turned) → Option Came → Option Came
+probed_by None probed = probed
+probed_by (Some delivery) probed = probed_after delivery probed
+
 -- a response of a server was looked for; the client that it reached is to be served in this turn
 pub record HasTaken {L T P : Type 0} (sight : Sight L T) (asks_for : Guest L T → Option Request)
-    (old : WorkerState L T P) (server due : ℕ) (result : Result (Option (Delivery Turned)) ShutCause)
-    (new : WorkerState L T P) : Type 0 where
+    (old : WorkerState L T P) (server due : ℕ)
+    (result : Result (Option (Delivery Turned)) ShutCause) (new : WorkerState L T P) : Type 0 where
   pub mid : MuxState (Guest L T) (Shared P)
   pub read : IsRead (IsGuestCall sight.0 sight.1 sight.2) (λ guest. sight.0 guest.talk) asks_for
       old.mux server due result mid

@@ -2,6 +2,7 @@
 use Rattle.std.specs.Prelude.{◌≡◌, ◌≢◌, ◌<◌, ◌≤◌, nat_le, if◌then◌else◌, ℕ, false, List, Option, Some, None, slice_get}
 use Rattle.std.specs.Option.{option_and_then, option_map}
 use Rattle.tko_pipe.specs.declared.link.Link.TheVariants.{Connecting}
+use Rattle.tko_mux.specs.declared.asking.Came.{Came}
 use Rattle.tko_mux.specs.Lines.{LineState}
 use Rattle.tko_worker.specs.declared.servers.Peer.{Peer}
 use Rattle.tko_worker.specs.Ports.{PortState}
@@ -11,6 +12,10 @@ use Rattle.tko_worker.specs.Wires.{CannotRead, CannotWriteTo, IsOpen, first_at, 
 abbrev pub socket_at : {L : Type 0} → (L → PortState) → List (Peer L) → ℕ → Option PortState
 socket_at port peers server =
     option_and_then (λ peer. option_map port peer.socket) (slice_get peers server)
+
+-- what came for the probe of a server and was not fetched yet
+abbrev pub probed_at : {L : Type 0} → List (Peer L) → ℕ → Option Came
+probed_at peers server = option_and_then (λ peer. peer.probed) (slice_get peers server)
 
 -- nothing can be done for a server before its next event: nobody is left of a connection that was
 -- shut; nothing can be read; nothing can be written; and its first response is not late

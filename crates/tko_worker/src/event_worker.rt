@@ -5,7 +5,7 @@ ghost use Rattle.tko_roster.specs.Rosters.{AreReady};
 ghost use Rattle.tko_mux.specs.Linking.{AreLinked};
 ghost use Rattle.tko_mux.specs.Muxes.{line_at};
 ghost use Rattle.tko_worker.specs.Guests.{noting};
-ghost use Rattle.tko_worker.specs.Turns.{AreWritten, IsNextDue, IsWanted, OtherPeers, ServerRests, ServersRest, earlier, socket_at};
+ghost use Rattle.tko_worker.specs.Turns.{AreWritten, IsNextDue, IsWanted, OtherPeers, ServerRests, ServersRest, earlier, probed_at, socket_at};
 ghost use Rattle.tko_worker.specs.Wires.{HasConnected, HasFailed};
 ghost use Rattle.tko_worker.specs.Workers.{NobodyForgotten};
 
@@ -146,6 +146,8 @@ impl<P, L: Port + Drop, T: Talking<P> + Drop> EventWorker<L, T, P> {
 
     /// What came for the probe of a server, if that came.
     pub fn probed(&mut self, server: usize) -> Option<Came>
+        ensures came { result ≡ probed_at self.old.peers.items server }
+        ensures gone { probed_at self.new.peers.items server ≡ None }
         ensures clients { self.new.clients ≡ self.old.clients }
         ensures count { length self.new.peers.items ≡ length self.old.peers.items }
     {

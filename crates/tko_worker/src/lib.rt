@@ -6,12 +6,17 @@
 //! - `Talking`: a client's session as its port sees it; `Stage`: how far it is.
 //! - `settle`: serves a client until nothing can be done for it before its next event; `Settled`:
 //!   what that came to; `End`: why a client's session ended.
+//! - `Guest`: a client with its port, its session and its `Presence`; `Event`: what it is given;
+//!   `Shared`: what all clients share; `Turned`: what a call of a client came to.
+//! - `Worker`: the clients, and which of them are to be served.
+//! - `EventWorker`: the same with the servers; `Peer`: a server's socket.
 #![tactic(auto)]
 
 mod event_worker;
 mod guest;
 mod memory;
 mod port;
+mod rounds;
 mod servers;
 mod settling;
 mod talking;

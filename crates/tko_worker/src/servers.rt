@@ -5,7 +5,7 @@ ghost use Rattle.tko_roster.specs.Rosters.{AreReady};
 ghost use Rattle.tko_mux.specs.Linking.{AreLinked};
 ghost use Rattle.tko_mux.specs.Muxes.{HasNoneLeaving, line_at};
 ghost use Rattle.tko_worker.specs.Guests.{noting};
-ghost use Rattle.tko_worker.specs.Servers.{HasNoResponse};
+ghost use Rattle.tko_worker.specs.Servers.{HasNoResponse, delivery_in, probed_after, probed_by};
 ghost use Rattle.tko_worker.specs.Wires.{CannotRead, CannotWriteTo, HasConnected, HasExpired, HasFailed, HasReadOn, IsHeld, IsOpen, OtherLines, first_at, is_first_late};
 ghost use Rattle.tko_worker.specs.Workers.{NobodyForgotten};
 
@@ -16,13 +16,13 @@ use tko_mux::{Asking, Came, Client, Delivery};
 use tko_pipe::ShutCause;
 use tko_roster::Driven;
 
-/// How often a server is read from in one turn; how many of its responses are taken between two
-/// reads; and of how many that waited on a connection that was shut it is told what became of their
-/// requests. What is left is done in the next turn.
+/// How often a server is read from in one turn. What is left is read in the next turn.
 const READS: u32 = 16;
 
+/// How many of its responses are taken between two reads.
 const RESPONSES: u32 = 1_024;
 
+/// How many of those that waited on a connection that was shut leave in one turn.
 const LEAVES: u32 = 4_096;
 
 /// A server as its worker has it: the socket of the connection to it, if there is one, and what
@@ -46,7 +46,8 @@ impl<L: Drop> Peer<L> {
 
     /// Keeps what came, if it came for a probe.
     fn keep(&mut self, delivery: Delivery<Turned>)
-        ensures { self.new.socket ≡ self.old.socket }
+        ensures probed { self.new.probed ≡ probed_after delivery self.old.probed }
+        ensures socket { self.new.socket ≡ self.old.socket }
     {
         match delivery {
             Delivery::Reached(_, _) => {}
@@ -58,6 +59,7 @@ impl<L: Drop> Peer<L> {
     /// shut.
     fn keep_taken(&mut self, taken: Result<Option<Delivery<Turned>>, ShutCause>) -> bool
         ensures none { OnFalse result (taken ≡ Ok None) }
+        ensures probed { self.new.probed ≡ probed_by (delivery_in taken) self.old.probed }
         ensures socket { self.new.socket ≡ self.old.socket }
     {
         match taken {
@@ -192,7 +194,8 @@ impl<P, L: Port + Drop, T: Talking<P> + Drop> Worker<L, T, P> {
 
     /// Does for a server what can be done before the clients are served: those that waited on a
     /// connection that was shut leave; what its port has is read, and the responses reach their
-    /// clients; and a connection whose first response is late is shut. Returns whether that was all.
+    /// clients; and a connection whose first response is late is shut. Returns whether that was
+    /// all.
     pub(crate) fn serve_server(
         &mut self,
         alloc: Global,

@@ -1,8 +1,7 @@
 //! A server's socket: what is read from it, and what is written to it.
-ghost use Rattle.std.specs.Prelude.{◌≡◌, ◌≢◌, ◌<◌, ◌≤◌, [], Some, None, IfSome, IsSome, drop, length, option_map};
+ghost use Rattle.std.specs.Prelude.{◌≡◌, ◌≢◌, ◌<◌, ◌≤◌, [], Some, None, IfSome, drop, length, option_map};
 ghost use Rattle.std.specs.Bool.{OnFalse, OnTrue};
 ghost use Rattle.tko_pipe.specs.Pipes.{IsCause, PipeState};
-ghost use Rattle.tko_mux.specs.Lines.{link_on};
 ghost use Rattle.tko_mux.specs.Linking.{AreLinked};
 ghost use Rattle.tko_mux.specs.Muxes.{HasNoneLeaving, line_at};
 ghost use Rattle.tko_worker.specs.Turns.{due_at};

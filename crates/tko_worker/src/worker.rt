@@ -154,8 +154,8 @@ impl<P, L: Port + Drop, T: Talking<P> + Drop> Worker<L, T, P> {
         self.note(alloc, number, Event::Ended);
     }
 
-    /// A client is to leave: nothing is read from it or written to it any more. If a request of it is
-    /// under way, it keeps its number until it took what came of that.
+    /// A client is to leave: nothing is read from it or written to it any more. If a request of it
+    /// is under way, it keeps its number until it took what came of that.
     pub fn gone(&mut self, alloc: Global, number: usize)
         requires ready { AreReady ⟦<Client<Guest<L, T>> as Driven<Shared<P>>>⟧.ready
             self.old.mux.roster }

@@ -1,4 +1,3 @@
-use Rattle.std.proofs.Common.{rules}
 use Rattle.tko_worker.proofs.WireLemmas.{cause_line, other_lines, pipe_line, shut_link}
 use Rattle.tko_mux.specs.Muxes.{line_at}
 use Rattle.tko_worker.proofs.wire.give_up.Goals as goal

@@ -7,7 +7,8 @@ use Rattle.tko_worker.proofs.wire.write_piece.Goals as goal
 pub returns-then-is_empty-clause-writes : goal.returns-then-is_empty-clause-writes
 returns-then-is_empty-clause-writes g c =
     held (g.L.Port.port c.in-Some.port) (ap (option_map g.L.Port.port) c.in-Some.is)
-    (inl (no_text c.args.text.now (sym c.is_empty.ensures ∙ c.if-is_empty.true))) refl (sym (ap (option_map g.L.Port.port) c.in-Some.is))
+    (inl (no_text c.args.text.now (sym c.is_empty.ensures ∙ c.if-is_empty.true))) refl
+    (sym (ap (option_map g.L.Port.port) c.in-Some.is))
 
 pub returns-then-not-is_writable-clause-writes : goal.returns-then-not-is_writable-clause-writes
 returns-then-not-is_writable-clause-writes g c =

@@ -14,7 +14,8 @@ returns-clause-nobody g c =
     (g.T.Talking.awaited, g.T.Talking.talk, g.L.Port.port) w.mux.roster.slots w.touched w.spent)
     (sym c.self.view_is) c.requires.nobody)
     (admitted_others c.self.inside.mux.roster c.open.new.self.roster c.in_ok-number.number
-    (record { session = record { port = c.args.port; talk = c.args.talk; presence = Here } }) (search rules))
+    (record { session = record { port = c.args.port; talk = c.args.talk; presence = Here } })
+    (search rules))
     c.list.ensures.others c.list.ensures.listed
 
 pub returns-clause-ok : goal.returns-clause-ok

@@ -1,4 +1,3 @@
-use Rattle.std.proofs.Common.{◌≡◌}
 use Rattle.std.specs.Option.{option_map}
 use Rattle.tko_roster.specs.Rosters.{AreReady}
 use Rattle.tko_mux.specs.Linking.{AreLinked}
