@@ -1,7 +1,6 @@
 //! A connection that does not wait.
 ghost use Rattle.std.specs.Prelude.{◌≡◌, IfOk};
 ghost use Rattle.tko_socket.specs.Sockets.{port_of, unready, ready_port};
-ghost use Rattle.tko_worker.specs.Ports.{now_readable};
 ghost use Rattle.tko_socket.specs.Failures.{failed_read, failed_write};
 
 use crate::{Trace, calls};
@@ -70,14 +69,6 @@ impl Socket {
             Err(_) => Connecting::Failed,
         }
     }
-
-    /// An event said that the other side sends no more.
-    pub fn set_ended(&mut self)
-        ensures { port_of self.new ≡ now_readable (port_of self.old) }
-    {
-        self.ended = true;
-        self.readable = true;
-    }
 }
 
 /// Registers a connection, and has each of its writes sent at once.
@@ -130,6 +121,11 @@ impl Port for Socket {
 
     fn set_writable(&mut self) {
         self.writable = true;
+    }
+
+    fn set_ended(&mut self) {
+        self.ended = true;
+        self.readable = true;
     }
 
     fn read(&mut self, buffer: &mut [u8]) -> Read {
