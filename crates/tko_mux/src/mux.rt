@@ -1,5 +1,5 @@
 //! The sessions of a worker's clients, and the lines to the servers that they wait on.
-ghost use Rattle.std.specs.Prelude.{◌≡◌, ◌<◌, None, Some, IfNone, IfSome, IsSome, IfOk, OnErr, OnOk, length, replicate};
+ghost use Rattle.std.specs.Prelude.{◌≡◌, ◌<◌, ℕ, None, Some, IfNone, IfSome, IsSome, IfOk, OnErr, OnOk, length, replicate};
 ghost use Rattle.std.specs.Bool.{OnFalse, OnTrue};
 ghost use Rattle.tko_pipe.specs.Pipes.{pushing};
 ghost use Rattle.tko_roster.specs.Rosters.{AreReady, IfHas, IsAdmitted, IsReleased, session_at};
@@ -99,6 +99,23 @@ impl<P, S: Asking<P> + Drop> Mux<S, P> {
             Some(client) => client.session.awaited().is_none(),
             None => false,
         }
+    }
+
+    /// The parts that all sessions share.
+    pub fn parts(&self) -> &P
+        ensures { result.now ≡ self.now.roster.parts }
+    {
+        self.roster.parts()
+    }
+
+    /// Whether no number has a session.
+    pub fn is_empty(&self) -> bool
+        ensures none { OnTrue result ((number : ℕ) → number < length self.now.roster.slots
+            → session_at self.now.roster.slots number ≡ None) }
+        ensures some { OnFalse result
+            ((number : ℕ) × IsSome (session_at self.now.roster.slots number)) }
+    {
+        self.roster.is_empty()
     }
 
     /// Makes one call of the number's session, if it has one. If that asks a server, the response

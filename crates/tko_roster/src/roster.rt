@@ -1,5 +1,6 @@
 //! The sessions of a worker's clients, by number.
-ghost use Rattle.std.specs.Prelude.{◌≡◌, ◌<◌, None, Some, IfNone, IfOk, IfSome, OnErr, length, option_copied};
+ghost use Rattle.std.specs.Prelude.{◌≡◌, ◌<◌, ℕ, None, Some, IfNone, IfOk, IfSome, IsSome, OnErr, length, option_copied};
+ghost use Rattle.std.specs.Bool.{OnFalse, OnTrue};
 ghost use Rattle.tko_roster.specs.Rosters.{AreReady, IfHas, IsActed, IsAdmitted, IsNobody, IsReleased, IsSlotCall, nobody, session_at};
 
 use crate::{Driven, Visit};
@@ -76,6 +77,28 @@ impl<P, S: Driven<P> + Drop> Roster<S, P> {
             Some(Some(session)) => Some(session),
             _ => None,
         }
+    }
+
+    /// The parts that all sessions share.
+    pub fn parts(&self) -> &P
+        ensures { result.now ≡ self.now.parts }
+    {
+        &self.parts
+    }
+
+    /// Whether no number has a session.
+    pub fn is_empty(&self) -> bool
+        ensures none { OnTrue result ((number : ℕ) → number < length self.now.slots
+            → session_at self.now.slots number ≡ None) }
+        ensures some { OnFalse result
+            ((number : ℕ) × IsSome (session_at self.now.slots number)) }
+    {
+        for number in 0..self.slots.len() {
+            if self.get(number).is_some() {
+                return false;
+            }
+        }
+        true
     }
 
     /// Makes one call of the number's session, if it has one.

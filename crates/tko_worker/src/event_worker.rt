@@ -1,12 +1,12 @@
 //! A worker as a whole, from one turn of events to the next.
-ghost use Rattle.std.specs.Prelude.{◌≡◌, ◌<◌, [], None, Some, IfOk, length, option_map};
+ghost use Rattle.std.specs.Prelude.{◌≡◌, ◌≢◌, ◌<◌, [], None, Some, IfOk, length, option_copied, option_map};
 ghost use Rattle.std.specs.Bool.{OnFalse, OnTrue};
 ghost use Rattle.tko_roster.specs.Rosters.{AreReady};
 ghost use Rattle.tko_mux.specs.Linking.{AreLinked};
 ghost use Rattle.tko_mux.specs.Muxes.{line_at};
 ghost use Rattle.tko_worker.specs.Guests.{noting};
 ghost use Rattle.tko_worker.specs.Turns.{AreWritten, IsNextDue, IsWanted, OtherPeers, ServerRests, ServersRest, earlier, probed_at, socket_at};
-ghost use Rattle.tko_worker.specs.Wires.{HasConnected, HasFailed};
+ghost use Rattle.tko_worker.specs.Wires.{HasConnected, HasFailed, link_at};
 ghost use Rattle.tko_worker.specs.Workers.{NobodyForgotten};
 
 use crate::wire::{first_due, has_unwritten, is_connected, is_connecting, is_late, is_open};
@@ -14,6 +14,7 @@ use crate::{Event, Guest, Peer, Port, Shared, Talking, Worker};
 use std::alloc::Global;
 use tko_bytes::NoMemory;
 use tko_mux::{Asking, Came, Client, Mux};
+use tko_pipe::Link;
 use tko_roster::Driven;
 
 /// The clients of a worker, and the sockets to its servers. A turn of events begins by
@@ -128,6 +129,40 @@ impl<P, L: Port + Drop, T: Talking<P> + Drop> EventWorker<L, T, P> {
     {
         if server < self.peers.len() {
             self.clients.fail(&mut self.peers[server], server);
+        }
+    }
+
+    /// The socket of the connection to a server, if there is one.
+    pub fn socket(&self, server: usize) -> Option<&L>
+        ensures { option_map L.port (option_copied result)
+            ≡ socket_at L.port self.now.peers.items server }
+    {
+        match self.peers.get(server) {
+            Some(peer) => peer.socket(),
+            None => None,
+        }
+    }
+
+    /// Whether the connection to a server is being made, or is to be begun.
+    pub fn is_connecting(&self, server: usize) -> bool
+        ensures yes { OnTrue result
+            (link_at (line_at self.now.clients.mux server) ≡ Some Link.Connecting) }
+        ensures not { OnFalse result
+            (link_at (line_at self.now.clients.mux server) ≢ Some Link.Connecting) }
+    {
+        is_connecting(&self.clients.mux, server)
+    }
+
+    /// The connection to a server could not be made on this socket, which is closed. Those that
+    /// wait for it go on waiting, so another is to be begun.
+    pub fn again(&mut self, server: usize)
+        ensures closed { socket_at L.port self.new.peers.items server ≡ None }
+        ensures clients { self.new.clients ≡ self.old.clients }
+        ensures others { OtherPeers server self.old.peers.items self.new.peers.items }
+        ensures count { length self.new.peers.items ≡ length self.old.peers.items }
+    {
+        if server < self.peers.len() {
+            self.peers[server].hold(false);
         }
     }
 

@@ -1,5 +1,5 @@
 //! The servers of a worker, from one event to the next.
-ghost use Rattle.std.specs.Prelude.{◌≡◌, ◌≢◌, ◌<◌, None, Some, Ok, false, length, option_map};
+ghost use Rattle.std.specs.Prelude.{◌≡◌, ◌≢◌, ◌<◌, None, Some, Ok, false, length, option_copied, option_map};
 ghost use Rattle.std.specs.Bool.{OnFalse, OnTrue};
 ghost use Rattle.tko_roster.specs.Rosters.{AreReady};
 ghost use Rattle.tko_mux.specs.Linking.{AreLinked};
@@ -72,8 +72,15 @@ impl<L: Drop> Peer<L> {
         }
     }
 
+    /// The socket, if there is one.
+    pub(crate) fn socket(&self) -> Option<&L>
+        ensures { option_copied result ≡ self.now.socket }
+    {
+        self.socket.as_ref()
+    }
+
     /// Closes the socket, unless its connection is still there.
-    fn hold(&mut self, is_there: bool)
+    pub(crate) fn hold(&mut self, is_there: bool)
         ensures kept { OnTrue is_there (self.new ≡ self.old) }
         ensures gone { OnFalse is_there (self.new.socket ≡ None) }
     {

@@ -1,7 +1,7 @@
 //! One turn of events of a worker.
-ghost use Rattle.std.specs.Prelude.{◌≡◌, ◌<◌, [], None, Some, IfNone, IfOk, OnErr, length};
+ghost use Rattle.std.specs.Prelude.{◌≡◌, ◌<◌, ℕ, [], None, Some, IfNone, IfOk, IsSome, OnErr, length};
 ghost use Rattle.std.specs.Bool.{OnFalse, OnTrue};
-ghost use Rattle.tko_roster.specs.Rosters.{AreReady};
+ghost use Rattle.tko_roster.specs.Rosters.{AreReady, session_at};
 ghost use Rattle.tko_mux.specs.Linking.{AreLinked};
 ghost use Rattle.tko_mux.specs.Muxes.{HasNoneLeaving, line_at};
 ghost use Rattle.tko_worker.specs.Guests.{IsNotice};
@@ -92,6 +92,23 @@ impl<P, L: Port + Drop, T: Talking<P> + Drop> Worker<L, T, P> {
         let number = self.mux.open(guest)?;
         list(&mut self.mux, &mut self.touched, number);
         Ok(number)
+    }
+
+    /// The parts that all sessions share.
+    pub fn parts(&self) -> &P
+        ensures { result.now ≡ self.now.mux.roster.parts.parts }
+    {
+        &self.mux.parts().parts
+    }
+
+    /// Whether there is no client.
+    pub fn is_empty(&self) -> bool
+        ensures none { OnTrue result ((number : ℕ) → number < length self.now.mux.roster.slots
+            → session_at self.now.mux.roster.slots number ≡ None) }
+        ensures some { OnFalse result
+            ((number : ℕ) × IsSome (session_at self.now.mux.roster.slots number)) }
+    {
+        self.mux.is_empty()
     }
 
     /// An event said that a client's port is readable.
