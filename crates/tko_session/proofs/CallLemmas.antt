@@ -22,8 +22,8 @@ use Rattle.tko_session.specs.Driven.{KeyBegun, KeyDropped, OutcomeDropped, Outco
 use Rattle.tko_session.specs.SessionState.{SessionState}
 use Rattle.tko_session.specs.Working.{Work, key_in, key_work}
 use Rattle.tko_session.specs.Working as work
-use Rattle.tko_session.specs.declared.session.KeyStage.{KeyStage}
-use Rattle.tko_session.specs.declared.session.KeyStage.TheVariants as stage
+use Rattle.tko_session.specs.declared.session.KeyWait.{KeyWait}
+use Rattle.tko_session.specs.declared.session.KeyWait.TheVariants as wait
 use Rattle.tko_session.specs.declared.step.Step.{Step}
 
 module _ {H : Type 0} {steps : H → HealthItem → H → Type 0} {old new : H} {P Q : List Call → Type 0} where
@@ -46,24 +46,24 @@ module _ {H : Type 0} {steps : H → HealthItem → H → Type 0} {P : List Call
   going_none health is = record { items = []; gains = gains_none health; is = is }
 
 -- the key that is at work
-pub key_of_work : (key : OneKey) (at : KeyStage) → key_in (key_work key at) ≡ Some key
-key_of_work key stage.Read = refl
-key_of_work key (stage.Sent waiting) = refl
-key_of_work key stage.Tried = refl
+pub key_of_work : (key : OneKey) (at : KeyWait) → key_in (key_work key at) ≡ Some key
+key_of_work key wait.Read = refl
+key_of_work key (wait.Sent waiting) = refl
+key_of_work key wait.Tried = refl
 
 -- one send is out
 pub awaits_same : (it other : Asking) → work.Awaits it ≡ work.Awaits other → it ≡ other
 awaits_same it other same = cc
 
-pub read_work : (key : OneKey) (at : KeyStage) → IsSome (work.read_in (key_work key at)) → key_work key at ≡ work.Read key
-read_work key stage.Read some = refl
-read_work key (stage.Sent waiting) some = absurd (cc some)
-read_work key stage.Tried some = absurd (cc some)
+pub read_work : (key : OneKey) (at : KeyWait) → IsSome (work.read_in (key_work key at)) → key_work key at ≡ work.Read key
+read_work key wait.Read some = refl
+read_work key (wait.Sent waiting) some = absurd (cc some)
+read_work key wait.Tried some = absurd (cc some)
 
-pub ended_work : (key : OneKey) (at : KeyStage) → IsSome (work.ended_in (key_work key at)) → key_work key at ≡ work.Ended key
-ended_work key stage.Read some = absurd (cc some)
-ended_work key (stage.Sent waiting) some = absurd (cc some)
-ended_work key stage.Tried some = refl
+pub ended_work : (key : OneKey) (at : KeyWait) → IsSome (work.ended_in (key_work key at)) → key_work key at ≡ work.Ended key
+ended_work key wait.Read some = absurd (cc some)
+ended_work key (wait.Sent waiting) some = absurd (cc some)
+ended_work key wait.Tried some = refl
 
 -- the session after a call, field by field
 abbrev is_went : Stage → OneKey → Reading → List ℕ → ℕ → Bool → ℕ → List ℕ → SessionState

@@ -7,8 +7,8 @@ use Rattle.tko_session.specs.Outgoing.{AreOutgoing, AreOutgoingIn, outgoing, out
 use Rattle.tko_session.specs.SessionState.{SessionState}
 use Rattle.tko_session.specs.Working.{Work, key_work}
 use Rattle.tko_session.specs.Working as work
-use Rattle.tko_session.specs.declared.session.KeyStage.{KeyStage}
-use Rattle.tko_session.specs.declared.session.KeyStage.TheVariants as stage
+use Rattle.tko_session.specs.declared.session.KeyWait.{KeyWait}
+use Rattle.tko_session.specs.declared.session.KeyWait.TheVariants as wait
 
 -- between two requests all replies may be written
 pub outgoing_between : (state : SessionState) → state.work ≡ work.Between → outgoing state ≡ state.outbox
@@ -25,10 +25,10 @@ sent_between state count is =
 pub may_between : (state : SessionState) (count : ℕ) → state.work ≡ work.Between → AreOutgoing state count
 may_between state count is = subst (λ (w : Work). AreOutgoingIn w state.begin count) (sym is) tt
 
-pub outgoing_at : (begin : ℕ) (outbox : List ℕ) (key : OneKey) (at : KeyStage) → outgoing_in (key_work key at) begin outbox ≡ take begin outbox
-outgoing_at begin outbox key stage.Read = refl
-outgoing_at begin outbox key (stage.Sent waiting) = refl
-outgoing_at begin outbox key stage.Tried = refl
+pub outgoing_at : (begin : ℕ) (outbox : List ℕ) (key : OneKey) (at : KeyWait) → outgoing_in (key_work key at) begin outbox ≡ take begin outbox
+outgoing_at begin outbox key wait.Read = refl
+outgoing_at begin outbox key (wait.Sent waiting) = refl
+outgoing_at begin outbox key wait.Tried = refl
 
 -- of the first piece, so many bytes are of the first so many
 pub extends_taken : (n : ℕ) (xs ys : List ℕ) → Extends xs ys → Extends (take n xs) (take n ys)

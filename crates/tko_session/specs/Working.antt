@@ -4,8 +4,8 @@ use Rattle.tko_route.specs.declared.attempt.Attempt.{Attempt}
 use Rattle.tko_reply.specs.Standing.{Asking, asking}
 use Rattle.tko_reply.specs.declared.asking.OneKey.{OneKey}
 use Rattle.tko_session.specs.declared.session.KeyAtWork.{KeyAtWork}
-use Rattle.tko_session.specs.declared.session.KeyStage.{KeyStage}
-use Rattle.tko_session.specs.declared.session.KeyStage.TheVariants as stage
+use Rattle.tko_session.specs.declared.session.KeyWait.{KeyWait}
+use Rattle.tko_session.specs.declared.session.KeyWait.TheVariants as wait
 
 -- no request is being answered; this one was read, and is to be begun; what comes of a send is
 -- awaited; or the attempts at this key ended
@@ -15,15 +15,15 @@ pub data Work : Type 0 where
   Awaits : Asking → Work
   Ended : OneKey → Work
 
--- with this key, which is so far
-abbrev pub key_work : OneKey → KeyStage → Work
-key_work one stage.Read = Read one
-key_work one (stage.Sent waiting) = Awaits (asking waiting one)
-key_work one stage.Tried = Ended one
+-- with this key, where the session waits for this
+abbrev pub key_work : OneKey → KeyWait → Work
+key_work one wait.Read = Read one
+key_work one (wait.Sent waiting) = Awaits (asking waiting one)
+key_work one wait.Tried = Ended one
 
 abbrev pub work_at : Option KeyAtWork → Work
 work_at None = Between
-work_at (Some at) = key_work at.key at.stage
+work_at (Some at) = key_work at.key at.wait
 
 -- the key that is at work
 abbrev pub key_in : Work → Option OneKey

@@ -43,18 +43,18 @@ pub struct Session {
     targets: Vec<usize>,
 }
 
-/// A request, or a key of it, and how far that is. It stays where it is from the first key to the
-/// last.
+/// A request, or a key of it, and what the session waits for. It stays where it is from the first
+/// key to the last.
 #[derive(Drop)]
 struct KeyAtWork {
     key: OneKey,
-    stage: KeyStage,
+    wait: KeyWait,
 }
 
 /// What the session waits for before it goes on with a request or a key of it. How far the key is
 /// says the `Stage` of its routing; the session keeps only what its driver was not given of it.
 #[derive(Drop)]
-enum KeyStage {
+enum KeyWait {
     /// The record of the request, which was read and is to be begun.
     Read,
     /// What comes of its send.
@@ -127,10 +127,10 @@ impl Session {
         let Some(at) = &self.work else {
             return Ok(self.next_item()?);
         };
-        match &at.stage {
-            KeyStage::Read => self.begin_request(rt, alloc, health, config),
-            KeyStage::Tried => self.go_on(rt, alloc, health, config),
-            KeyStage::Sent(_) => unreachable!(),
+        match &at.wait {
+            KeyWait::Read => self.begin_request(rt, alloc, health, config),
+            KeyWait::Tried => self.go_on(rt, alloc, health, config),
+            KeyWait::Sent(_) => unreachable!(),
         }
     }
 
@@ -164,10 +164,10 @@ impl Session {
         ensures ready { OnOk result (IsReady config.now self.new) }
         ensures servers { H.servers health.new ≡ H.servers health.old }
     {
-        let Some(KeyAtWork { key, stage }) = &mut self.work else {
+        let Some(KeyAtWork { key, wait }) = &mut self.work else {
             unreachable!();
         };
-        let KeyStage::Sent(sent) = replace(stage, KeyStage::Tried) else {
+        let KeyWait::Sent(sent) = replace(wait, KeyWait::Tried) else {
             unreachable!();
         };
         let targets = self.targets.as_slice();
@@ -185,10 +185,10 @@ impl Session {
         ensures attempts { (it : Asking) → self.old.work ≡ Awaits it
             → result ≡ it.waiting.attempts }
     {
-        let Some(KeyAtWork { key: _, stage }) = &mut self.work else {
+        let Some(KeyAtWork { key: _, wait }) = &mut self.work else {
             unreachable!();
         };
-        let KeyStage::Sent(sent) = replace(stage, KeyStage::Tried) else {
+        let KeyWait::Sent(sent) = replace(wait, KeyWait::Tried) else {
             unreachable!();
         };
         self.drop_after(stop(sent, fault))

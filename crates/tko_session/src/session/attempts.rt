@@ -3,7 +3,7 @@ ghost use Rattle.std.specs.Prelude.{◌≡◌};
 ghost use Rattle.tko_session.specs.Awaiting.{awaited_in};
 ghost use Rattle.tko_session.specs.Working.{attempts_in};
 
-use super::{KeyAtWork, KeyStage, Session};
+use super::{KeyAtWork, KeyWait, Session};
 use tko_route::Attempt;
 
 impl Session {
@@ -15,7 +15,7 @@ impl Session {
             Some(
                 KeyAtWork {
                     key: _,
-                    stage: KeyStage::Sent(waiting),
+                    wait: KeyWait::Sent(waiting),
                 },
             ) => Some(waiting.server()),
             _ => None,
@@ -30,7 +30,7 @@ impl Session {
             Some(
                 KeyAtWork {
                     key: _,
-                    stage: KeyStage::Sent(waiting),
+                    wait: KeyWait::Sent(waiting),
                 },
             ) => waiting.attempts(),
             _ => &[],

@@ -7,7 +7,7 @@ ghost use Rattle.tko_session.specs.Driven.{ItemDropped, ItemRead, begun_at};
 ghost use Rattle.tko_session.specs.Working.{Between};
 ghost use Rattle.tko_session.specs.SessionState.{progress_after};
 
-use super::{KeyAtWork, KeyStage, Session};
+use super::{KeyAtWork, KeyWait, Session};
 use crate::step::{Progress, Step};
 use tko_bytes::NoMemory;
 use tko_reply::OneKey;
@@ -56,8 +56,8 @@ impl Session {
         self.owes = true;
         self.begin = self.outbox.len();
         let key = OneKey::whole(request);
-        let stage = KeyStage::Read;
-        self.work = Some(KeyAtWork { key, stage });
+        let wait = KeyWait::Read;
+        self.work = Some(KeyAtWork { key, wait });
         Step::Began
     }
 }

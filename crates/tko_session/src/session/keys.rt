@@ -6,7 +6,7 @@ ghost use Rattle.tko_session.specs.Driven.{IsReady, WasDropped, WentOn, dropped,
 ghost use Rattle.tko_session.specs.Working.{ended_in, key_in, key_work, read_in};
 ghost use Rattle.tko_session.specs.SessionState.{progress_of};
 
-use super::{KeyAtWork, KeyStage, Session};
+use super::{KeyAtWork, KeyWait, Session};
 use crate::step::{Progress, Step};
 use std::alloc::Global;
 use std::sync::Wait;
@@ -34,7 +34,7 @@ impl Session {
             (λ calls. WasDropped config.now self.old calls attempts self.new) health.new) }
         ensures servers { H.servers health.new ≡ H.servers health.old }
     {
-        let Some(KeyAtWork { key, stage: _ }) = &mut self.work else {
+        let Some(KeyAtWork { key, wait: _ }) = &mut self.work else {
             unreachable!();
         };
         let progress = progress_of(key.request());
@@ -69,7 +69,7 @@ impl Session {
             (λ calls. WasDropped config.now self.old calls attempts self.new) health.new) }
         ensures servers { H.servers health.new ≡ H.servers health.old }
     {
-        let Some(KeyAtWork { key, stage: _ }) = &mut self.work else {
+        let Some(KeyAtWork { key, wait: _ }) = &mut self.work else {
             unreachable!();
         };
         let Ok(keyed) = key.go_on(&mut self.outbox) else {
@@ -95,23 +95,23 @@ impl Session {
     {
         match stage {
             Stage::Away(clear, waiting) => {
-                self.set_stage(KeyStage::Sent(waiting));
+                self.set_wait(KeyWait::Sent(waiting));
                 Step::Asks(clear)
             }
             Stage::Done(trail) => {
-                self.set_stage(KeyStage::Tried);
+                self.set_wait(KeyWait::Tried);
                 Step::Tried(trail)
             }
         }
     }
 
     #[inline(always)]
-    fn set_stage(&mut self, stage: KeyStage)
+    fn set_wait(&mut self, wait: KeyWait)
         ensures { (one : OneKey) → key_in self.old.work ≡ Some one
-            → self.new ≡ record self.old { work = key_work one stage } }
+            → self.new ≡ record self.old { work = key_work one wait } }
     {
         if let Some(at) = &mut self.work {
-            at.stage = stage;
+            at.wait = wait;
         }
     }
 

@@ -14,7 +14,7 @@ use Rattle.tko_session.proofs.session.Session.begin_request.Goals as goal
 pub first-requires-clause-whole : goal.first-requires-clause-whole
 first-requires-clause-whole g c =
     let key = c.in-Some.field-0.key in
-    let at = c.in-Some.field-0.stage in
+    let at = c.in-Some.field-0.wait in
     let work = sym (ap (λ (s : SessionState). s.work) c.self.view_is) ∙ ap work_at c.in-Some.is in
     let is = work ∙ read_work key at (subst (λ w. IsSome (read_in w)) work c.requires.read) in
     let ready : IsRead c.args.self.now key = subst (IsReadyFor c.args.config.now c.args.self.now) is c.requires.ready in
@@ -24,7 +24,7 @@ pub returns-in_default-first-clause-err : goal.returns-in_default-first-clause-e
 returns-in_default-first-clause-err g c =
     let same = c.self.view_is in
     let key = c.in-Some.field-0.key in
-    let at = c.in-Some.field-0.stage in
+    let at = c.in-Some.field-0.wait in
     let work = sym (ap (λ (s : SessionState). s.work) same) ∙ ap work_at c.in-Some.is in
     let is = work ∙ read_work key at (subst (λ w. IsSome (read_in w)) work c.requires.read) in
     let ready : IsRead c.args.self.now key = subst (IsReadyFor c.args.config.now c.args.self.now) is c.requires.ready in
@@ -37,7 +37,7 @@ pub returns-then-not-keyed-clause-ok : goal.returns-then-not-keyed-clause-ok
 returns-then-not-keyed-clause-ok g c =
     let same = c.self.view_is in
     let key = c.in-Some.field-0.key in
-    let at = c.in-Some.field-0.stage in
+    let at = c.in-Some.field-0.wait in
     let work = sym (ap (λ (s : SessionState). s.work) same) ∙ ap work_at c.in-Some.is in
     let is = work ∙ read_work key at (subst (λ w. IsSome (read_in w)) work c.requires.read) in
     going c.in-Ok.ensures.ok (λ calls begins.
@@ -50,7 +50,7 @@ pub begin-requires-clause-front : goal.begin-requires-clause-front
 begin-requires-clause-front g c =
     let same = c.self.view_is in
     let key = c.in-Some.field-0.key in
-    let at = c.in-Some.field-0.stage in
+    let at = c.in-Some.field-0.wait in
     let work = sym (ap (λ (s : SessionState). s.work) same) ∙ ap work_at c.in-Some.is in
     let is = work ∙ read_work key at (subst (λ w. IsSome (read_in w)) work c.requires.read) in
     let ready : IsRead c.args.self.now key = subst (IsReadyFor c.args.config.now c.args.self.now) is c.requires.ready in
@@ -64,7 +64,7 @@ pub returns-in-Ok-begin-clause-ok : goal.returns-in-Ok-begin-clause-ok
 returns-in-Ok-begin-clause-ok g c =
     let same = c.self.view_is in
     let key = c.in-Some.field-0.key in
-    let at = c.in-Some.field-0.stage in
+    let at = c.in-Some.field-0.wait in
     let work = sym (ap (λ (s : SessionState). s.work) same) ∙ ap work_at c.in-Some.is in
     let is = work ∙ read_work key at (subst (λ w. IsSome (read_in w)) work c.requires.read) in
     going_then c.in-Ok.ensures.ok c.in-Ok-begin.ensures.ok (λ calls more begins goes.
@@ -79,7 +79,7 @@ pub returns-in-Err-clause-err : goal.returns-in-Err-clause-err
 returns-in-Err-clause-err g c =
     let same = c.self.view_is in
     let key = c.in-Some.field-0.key in
-    let at = c.in-Some.field-0.stage in
+    let at = c.in-Some.field-0.wait in
     let work = sym (ap (λ (s : SessionState). s.work) same) ∙ ap work_at c.in-Some.is in
     let is = work ∙ read_work key at (subst (λ w. IsSome (read_in w)) work c.requires.read) in
     let ready : IsRead c.args.self.now key = subst (IsReadyFor c.args.config.now c.args.self.now) is c.requires.ready in

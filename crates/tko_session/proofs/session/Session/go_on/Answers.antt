@@ -13,7 +13,7 @@ pub returns-in_default-go_on-clause-err : goal.returns-in_default-go_on-clause-e
 returns-in_default-go_on-clause-err g c =
     let same = c.self.view_is in
     let key = c.in-Some.field-0.key in
-    let at = c.in-Some.field-0.stage in
+    let at = c.in-Some.field-0.wait in
     let work = sym (ap (λ (s : SessionState). s.work) same) ∙ ap work_at c.in-Some.is in
     let is = work ∙ ended_work key at (subst (λ w. IsSome (ended_in w)) work c.requires.tried) in
     going_none c.args.health.now
@@ -24,7 +24,7 @@ pub returns-then-not-keyed-clause-ok : goal.returns-then-not-keyed-clause-ok
 returns-then-not-keyed-clause-ok g c =
     let same = c.self.view_is in
     let key = c.in-Some.field-0.key in
-    let at = c.in-Some.field-0.stage in
+    let at = c.in-Some.field-0.wait in
     let work = sym (ap (λ (s : SessionState). s.work) same) ∙ ap work_at c.in-Some.is in
     let is = work ∙ ended_work key at (subst (λ w. IsSome (ended_in w)) work c.requires.tried) in
     let goes = subst (λ (s : SessionState). Continues key s.outbox c.in-Ok.keyed c.go_on.new.self c.go_on.new.outbox) same c.in-Ok.ensures.ok in
@@ -37,7 +37,7 @@ pub begin-requires-clause-front : goal.begin-requires-clause-front
 begin-requires-clause-front g c =
     let same = c.self.view_is in
     let key = c.in-Some.field-0.key in
-    let at = c.in-Some.field-0.stage in
+    let at = c.in-Some.field-0.wait in
     let work = sym (ap (λ (s : SessionState). s.work) same) ∙ ap work_at c.in-Some.is in
     let is = work ∙ ended_work key at (subst (λ w. IsSome (ended_in w)) work c.requires.tried) in
     let ready : BeginsAt c.args.self.now.begin key.share c.args.self.now.outbox = subst (IsReadyFor c.args.config.now c.args.self.now) is c.requires.ready in
@@ -50,7 +50,7 @@ pub returns-in-Ok-begin-clause-ok : goal.returns-in-Ok-begin-clause-ok
 returns-in-Ok-begin-clause-ok g c =
     let same = c.self.view_is in
     let key = c.in-Some.field-0.key in
-    let at = c.in-Some.field-0.stage in
+    let at = c.in-Some.field-0.wait in
     let work = sym (ap (λ (s : SessionState). s.work) same) ∙ ap work_at c.in-Some.is in
     let is = work ∙ ended_work key at (subst (λ w. IsSome (ended_in w)) work c.requires.tried) in
     let goes = subst (λ (s : SessionState). Continues key s.outbox c.in-Ok.keyed c.go_on.new.self c.go_on.new.outbox) same c.in-Ok.ensures.ok in
@@ -65,7 +65,7 @@ pub returns-in-Err-clause-err : goal.returns-in-Err-clause-err
 returns-in-Err-clause-err g c =
     let same = c.self.view_is in
     let key = c.in-Some.field-0.key in
-    let at = c.in-Some.field-0.stage in
+    let at = c.in-Some.field-0.wait in
     let work = sym (ap (λ (s : SessionState). s.work) same) ∙ ap work_at c.in-Some.is in
     let is = work ∙ ended_work key at (subst (λ w. IsSome (ended_in w)) work c.requires.tried) in
     let ready : BeginsAt c.args.self.now.begin key.share c.args.self.now.outbox = subst (IsReadyFor c.args.config.now c.args.self.now) is c.requires.ready in

@@ -10,5 +10,5 @@ returns-in-Some-clause-front c =
     let outbox = c.self.inside.outbox in
     let out : outgoing c.args.self.now ≡ take begin outbox =
     ap outgoing (sym c.self.view_is) ∙ ap (λ o. outgoing_in (work_at o) begin outbox) c.in-Some.is
-    ∙ outgoing_at begin outbox c.in-Some.field-0.key c.in-Some.field-0.stage in
+    ∙ outgoing_at begin outbox c.in-Some.field-0.key c.in-Some.field-0.wait in
     rw (c.first_bytes.ensures, out) (extends_taken begin _ outbox c.front-front.ensures.front)
