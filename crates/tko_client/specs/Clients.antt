@@ -1,5 +1,5 @@
 -- A client of an event-driven worker: how it stands, and what each call of it is to its life.
-use Rattle.std.specs.Prelude.{◌≡◌, ℕ, List, [], ◌∷◌, Option, Some, None, Result, flat_map, length, take}
+use Rattle.std.specs.Prelude.{◌≡◌, ℕ, List, [], ◌∷◌, Option, Some, None, Result, flat_map, take}
 use Rattle.tko_model.specs.Records.{Gains}
 use Rattle.tko_links.specs.declared.links.NoMemory.{NoMemory}
 use Rattle.tko_links.specs.declared.links.Outcome.{Outcome}
@@ -83,12 +83,9 @@ module _ {H T C : Type 0} (ghosts : PartsGhosts H (List ℕ) T C) where
       ActsOn ghosts old.1.config old (life [] (take count old.0.session.outbox) []) new
   DoesAs (Took came asked) old new = HasTaken (result_of came) old new
 
--- it can be called over these parts, and while a send is out for it its session is open
-pub record IsReadyOver {H T C : Type 0} (servers : H → ℕ) (parts : Parts H (List ℕ) T C)
-    (it : EventClient) : Type 0 where
-  pub health : servers parts.backend.health ≡ length parts.config.addresses
-  pub links : length parts.backend.links ≡ length parts.config.addresses
-  pub session : IsReady parts.config it.session
+-- it can be called with this configuration, and while a send is out for it its session is open
+pub record IsReadyOver (config : Configuration) (it : EventClient) : Type 0 where
+  pub session : IsReady config it.session
   pub going : IsAwaiting it.session.work → it.course ≡ Going
 
 -- the request that a send is out for

@@ -1,6 +1,5 @@
 -- What calls of clients leave of the parts that all share.
-use Rattle.std.proofs.Common.{◌≡◌, ℕ, List, length, refl, sym, ap, subst, ◌∙◌}
-use Rattle.tko_pools.specs.Configs.{Configuration}
+use Rattle.std.proofs.Common.{◌≡◌, ℕ, List, length, refl, sym, subst, ◌∙◌}
 use Rattle.tko_reply.specs.declared.parts.Parts.{Parts}
 use Rattle.tko_session.specs.Driven.{IsReady}
 use Rattle.tko_client.specs.declared.client.EventClient.{EventClient}
@@ -12,7 +11,8 @@ module _ {H T C : Type 0} {servers : H → ℕ} where
   pub no_change : {parts : Parts H (List ℕ) T C} → HasStayed servers parts parts
   no_change = record { config = refl; health = refl; links = refl }
 
-  pub stayed_on : {one two three : Parts H (List ℕ) T C} → HasStayed servers one two → HasStayed servers two three → HasStayed servers one three
+  pub stayed_on : {one two three : Parts H (List ℕ) T C} → HasStayed servers one two
+      → HasStayed servers two three → HasStayed servers one three
   stayed_on first second = record {
     config = second.config ∙ first.config;
     health = second.health ∙ first.health;
@@ -20,11 +20,9 @@ module _ {H T C : Type 0} {servers : H → ℕ} where
   }
 
   -- other clients made calls
-  pub ready_stays : {it : EventClient} {old new : Parts H (List ℕ) T C} → HasStayed servers old new → IsReadyOver servers old it → IsReadyOver servers new it
-  ready_stays {it} {old} {new} stays ready =
-      let same : length old.config.addresses ≡ length new.config.addresses = ap (λ (c : Configuration). length c.addresses) (sym stays.config) in record {
-        health = stays.health ∙ ready.health ∙ same;
-        links = stays.links ∙ ready.links ∙ same;
-        session = subst (λ c. IsReady c it.session) (sym stays.config) ready.session;
-        going = ready.going;
-      }
+  pub ready_stays : {it : EventClient} {old new : Parts H (List ℕ) T C}
+      → HasStayed servers old new → IsReadyOver old.config it → IsReadyOver new.config it
+  ready_stays {it} stays ready = record {
+    session = subst (λ c. IsReady c it.session) (sym stays.config) ready.session;
+    going = ready.going;
+  }

@@ -2,7 +2,8 @@
 ghost use Rattle.std.specs.Prelude.{◌≡◌, None};
 ghost use Rattle.tko_session.specs.Awaiting.{awaited_in};
 ghost use Rattle.tko_session.specs.Clients.{new_client};
-ghost use Rattle.tko_client.specs.Clients.{client_of};
+ghost use Rattle.tko_pools.specs.Configs.{Configuration};
+ghost use Rattle.tko_client.specs.Clients.{IsReadyOver, client_of};
 
 use crate::Lent;
 use crate::calls::Went;
@@ -50,6 +51,7 @@ impl EventClient {
     pub fn new(alloc: Global) -> EventClient
         ensures client { client_of result ≡ new_client }
         ensures here { awaited_in result.session.work ≡ None }
+        ensures ready { (config : Configuration) → IsReadyOver config result }
     {
         EventClient {
             session: Session::new(alloc),
@@ -81,7 +83,7 @@ impl<'r, R: IoRuntime, H: Health, T: Trails, C> Talking<Lent<'r, R, H, T, C>> fo
     ghost does = { λ old item new. DoesAs (client_ghosts H.Health T.Trails) item
         (client_of old.0, old.1.parts) (client_of new.0, new.1.parts) };
 
-    ghost ready = { λ lent it. IsReadyOver H.servers lent.parts it };
+    ghost ready = { λ lent it. IsReadyOver lent.parts.config it };
 
     ghost stays = { λ old new. HasStayed H.servers old.parts new.parts };
 

@@ -56,11 +56,7 @@ fn two_clients<'r, R: Wait + Net<Stream = TcpStream> + Clock>(
     room: usize,
 ) -> Result<MemoryMux<'r, R>, Fail> {
     let shared = Shared {
-        parts: Lent {
-            rt,
-            alloc,
-            parts: parts(alloc)?,
-        },
+        parts: Lent::new(rt, alloc, parts(alloc)?),
         buffer: vec![in alloc; 0; 64]?,
     };
     let mut mux = Mux::new(alloc, shared, 2, 100)?;
