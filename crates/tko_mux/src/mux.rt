@@ -142,6 +142,20 @@ impl<P, S: Asking<P> + Drop> Mux<S, P> {
         Some(Done { did, stopped })
     }
 
+    /// The parts that all sessions shared, once none is called any more. The sessions and the
+    /// connections are dropped.
+    pub fn into_parts(self) -> P
+        ensures { result ≡ self.roster.parts }
+    {
+        let Mux {
+            roster,
+            lines,
+            limit: _,
+        } = self;
+        drop(lines);
+        roster.into_parts()
+    }
+
     /// Does something with the parts that all sessions share, which leaves them ready.
     pub fn visit<V: Visit<P>>(&mut self, visit: V) -> V::Output
         requires stays { (old new : P) → V.stays old new → S.stays old new }

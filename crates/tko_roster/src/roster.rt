@@ -69,6 +69,16 @@ impl<P, S: Driven<P> + Drop> Roster<S, P> {
         }
     }
 
+    /// The parts, once no session is called any more. The sessions are dropped.
+    pub fn into_parts(self) -> P
+        ensures { result ≡ self.parts }
+    {
+        let Roster { parts, slots, free } = self;
+        drop(slots);
+        drop(free);
+        parts
+    }
+
     /// The session of a number, if it has one.
     pub fn get(&self, number: usize) -> Option<&S>
         ensures { option_copied result ≡ session_at self.now.slots number }

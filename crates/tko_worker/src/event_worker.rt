@@ -200,6 +200,15 @@ impl<P, L: Port + Drop, T: Talking<P> + Drop> EventWorker<L, T, P> {
         next_due(&self.clients.mux, self.peers.len())
     }
 
+    /// The parts that all sessions shared, at the end. The clients and all sockets are dropped.
+    pub fn into_parts(self) -> P
+        ensures { result ≡ self.clients.mux.roster.parts.parts }
+    {
+        let EventWorker { clients, peers } = self;
+        drop(peers);
+        clients.into_parts()
+    }
+
     /// A turn of events begins.
     pub fn begin_turn(&mut self)
         requires { NobodyForgotten (T.awaited, T.talk, L.port)

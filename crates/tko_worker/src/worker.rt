@@ -287,6 +287,23 @@ impl<P, L: Port + Drop, T: Talking<P> + Drop> Worker<L, T, P> {
         self.spent.as_slice()
     }
 
+    /// The parts that all sessions shared, at the end. The clients are dropped, and their ports with
+    /// them.
+    pub fn into_parts(self) -> P
+        ensures { result ≡ self.mux.roster.parts.parts }
+    {
+        let Worker {
+            mux,
+            touched,
+            spent,
+        } = self;
+        drop(touched);
+        drop(spent);
+        let Shared { parts, buffer } = mux.into_parts();
+        drop(buffer);
+        parts
+    }
+
     /// The next turn begins: those that were left for it are to be served.
     pub fn begin_turn(&mut self)
         requires { NobodyForgotten (T.awaited, T.talk, L.port)
