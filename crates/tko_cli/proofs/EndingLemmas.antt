@@ -1,9 +1,10 @@
 -- The fault of a server after its notices.
-use Rattle.std.proofs.Common.{◌≡◌, ℕ, List, IfErr, IfOk, Result, Ok, Err, subst}
+use Rattle.std.proofs.Common.{◌≡◌, ℕ, List, IfErr, IfOk, Result, Ok, Err, subst, sym}
 use Rattle.tko_options.specs.Asked.{IsReadFrom, IsRefusal}
 use Rattle.tko_options.specs.declared.asked.Asked.{Asked}
 use Rattle.tko_options.specs.declared.refusal.Refusal.{Refusal}
-use Rattle.tko_commands.specs.FaultLines.{IsFaultWritten}
+use Rattle.tko_commands.proofs.FaultLineLemmas.{told_as}
+use Rattle.tko_commands.specs.FaultLines.{IsFaultWritten, IsReasonTold}
 use Rattle.tko_commands.specs.Reasons.{LeftOut}
 use Rattle.tko_commands.specs.declared.fault.Fault.{Fault}
 use Rattle.tko_cli.specs.Endings.{IsFaultTold, AfterReason, AfterNotices}
@@ -11,13 +12,32 @@ use Rattle.tko_cli.specs.Serving.{IsSilentOrNoted, Silent, WithNotices}
 
 -- the line of a fault after what a server noted
 pub fault_told : {O F : Type 0} (takes : O → List ℕ → O → Type 0) (failures : O → ℕ) (notes : F → List ℕ → F → Type 0)
-    (faults : F → ℕ) (reason : Fault) (from to : O) (old middle new : F)
+    (faults : F → ℕ) (came : Fault → Type 0) (reason : Fault) (from to : O) (old middle new : F) → came reason
     → IsSilentOrNoted takes failures notes faults from to old middle
-    → IsFaultWritten notes faults reason middle new → IsFaultTold takes failures notes faults from to old new
-fault_told takes failures notes faults reason from to old middle new (Silent same) told =
-    AfterReason (record { middle = middle; fault = reason; reason = LeftOut same; line = told })
-fault_told takes failures notes faults reason from to old middle new (WithNotices failed noted) told =
-    AfterNotices middle reason failed noted told
+    → IsFaultWritten notes faults reason middle new → IsFaultTold takes failures notes faults came from to old new
+fault_told takes failures notes faults came reason from to old middle new known (Silent same) told =
+    AfterReason (record { middle = middle; fault = reason; known = known; reason = LeftOut same; line = told })
+fault_told takes failures notes faults came reason from to old middle new known (WithNotices failed noted) told =
+    AfterNotices middle reason known failed noted told
+
+-- the line of a fault after the one that says why
+pub told_why : {O F : Type 0} (takes : O → List ℕ → O → Type 0) (failures : O → ℕ) (notes : F → List ℕ → F → Type 0)
+    (faults : F → ℕ) (came : Fault → Type 0) (reason : Fault) (from to : O) (old middle new : F) → came reason
+    → middle ≡ old → IsReasonTold notes faults (λ it. it ≡ reason) middle new
+    → IsFaultTold takes failures notes faults came from to old new
+told_why takes failures notes faults came reason from to old middle new known same told =
+    AfterReason (rw same at
+    (told_as notes faults (λ it. it ≡ reason) came middle new (λ it is. subst came (sym is) known) told))
+
+-- what is known of the fault says more
+pub fault_as : {O F : Type 0} (takes : O → List ℕ → O → Type 0) (failures : O → ℕ) (notes : F → List ℕ → F → Type 0)
+    (faults : F → ℕ) (came other : Fault → Type 0) (from to : O) (old new : F)
+    → ((fault : Fault) → came fault → other fault) → IsFaultTold takes failures notes faults came from to old new
+    → IsFaultTold takes failures notes faults other from to old new
+fault_as takes failures notes faults came other from to old new next (AfterReason told) =
+    AfterReason (told_as notes faults came other old new next told)
+fault_as takes failures notes faults came other from to old new next (AfterNotices middle reason known failed noted told) =
+    AfterNotices middle reason (next reason known) failed noted told
 
 -- what was read from the words, where a command was
 pub asked_of : (result : Result Asked Refusal) (words : List (List ℕ)) (asked : Asked) → result ≡ Ok asked

@@ -1,14 +1,16 @@
 -- What a command did, by how it ended.
-use Rattle.std.specs.Prelude.{ℕ, ◌≡◌, List, Option, Some, None, string_bytes}
+use Rattle.std.specs.Prelude.{ℕ, ◌≡◌, ◌<◌, List, Option, Some, None, string_bytes}
 use Rattle.tko_io.specs.declared.io.Inlet.{Ghosts as InletGhosts}
 use Rattle.tko_io.specs.declared.io.Outlet.{Ghosts as OutletGhosts}
 use Rattle.tko_commands.specs.Done.{HasCheckedAll, HasDried}
 use Rattle.tko_commands.specs.FaultLines.{IsFaultWritten, IsReasonTold}
-use Rattle.tko_commands.specs.Reasons.{IsLoadedServer}
-use Rattle.tko_commands.specs.Replays.{Replays}
+use Rattle.tko_commands.specs.NotDone.{HasNotChecked, HasNotDried}
+use Rattle.tko_commands.specs.Reasons.{IsFileFault, IsLoadedServer}
+use Rattle.tko_commands.specs.Replays.{ReplayFails, Replays}
 use Rattle.tko_commands.specs.declared.fault.Fault.{Fault}
+use Rattle.tko_commands.specs.declared.fault.Fault.TheVariants as fault
 use Rattle.tko_cli.specs.Notices.{HasNotices}
-use Rattle.tko_cli.specs.Serving.{HasFailed, HasServed}
+use Rattle.tko_cli.specs.Serving.{HasFailed, HasServed, ServeFails}
 use Rattle.tko_options.specs.Asked.{IsReadFrom, IsRefusal}
 use Rattle.tko_options.specs.declared.asked.Asked.TheVariants as asked
 use Rattle.tko_options.specs.declared.check_options.CheckOptions.{CheckOptions}
@@ -60,12 +62,47 @@ pub data IsDone {I O F : Type 0} (inlet : InletGhosts I) (outlet : OutletGhosts 
       → outlet.takes old.output text new.output → new.input ≡ old.input
       → new.faults ≡ old.faults → IsDone inlet outlet notes words old new
 
--- the line of one fault was written, and nothing else but a line that says why, or the notices of a
--- server that was ready to run
+-- by this fault a server of these options ended: the file of their configuration cannot be read, or
+-- it failed with the text of that file
+pub data HasNotServed {O : Type 0} (takes : O → List ℕ → O → Type 0) (failures : O → ℕ)
+    (options : ServeOptions) (from to : O) (reason : Fault) : Type 0 where
+  NoServerFile : IsFileFault reason → to ≡ from
+      → HasNotServed takes failures options from to reason
+  NotServed : (loaded : ServeOptions) → IsLoadedServer options loaded
+      → ServeFails takes failures loaded from to reason
+      → HasNotServed takes failures options from to reason
+
+-- by this fault the command that these words ask for ended; or the text that was to be shown in
+-- place of one could not be written, or there was no memory to read the words
+pub data IsNotDone {I O : Type 0} (inlet : InletGhosts I) (outlet : OutletGhosts O)
+    (words : List (List ℕ)) (old new : I × O) (reason : Fault) : Type 0 where
+  NotDriedFor : (options : DryOptions) → IsReadFrom words (asked.Dry options)
+      → HasNotDried inlet outlet options old new reason
+      → IsNotDone inlet outlet words old new reason
+  NotReplayed : IsReadFrom words asked.Replay
+      → ReplayFails inlet.gives inlet.is_ended inlet.failures outlet.failures
+      old.0 new.0 old.1 new.1 reason → IsNotDone inlet outlet words old new reason
+  NotServedFor : (options : ServeOptions) → IsReadFrom words (asked.Serve options)
+      → HasNotServed outlet.takes outlet.failures options old.1 new.1 reason
+      → new.0 ≡ old.0 → IsNotDone inlet outlet words old new reason
+  NotCheckedFor : (options : CheckOptions) → IsReadFrom words (asked.Check options)
+      → HasNotChecked outlet.failures options old.1 new.1 reason
+      → new.0 ≡ old.0 → IsNotDone inlet outlet words old new reason
+  NotShown : (shown : Refusal) (text : List ℕ) → IsRefusal words shown
+      → answer_in shown ≡ Some text → reason ≡ fault.Write
+      → outlet.failures old.1 < outlet.failures new.1 → new.0 ≡ old.0
+      → IsNotDone inlet outlet words old new reason
+  NotRead : IsRefusal words refusal.Memory → reason ≡ fault.Memory → new ≡ old
+      → IsNotDone inlet outlet words old new reason
+
+-- a fault came, of which this is known; its line was written, and nothing else but a line that says
+-- why, or the notices of a server that was ready to run
 pub data IsFaultTold {O F : Type 0} (takes : O → List ℕ → O → Type 0) (failures : O → ℕ)
-    (notes : F → List ℕ → F → Type 0) (faults : F → ℕ) (from to : O) (old new : F) : Type 0 where
-  AfterReason : IsReasonTold notes faults old new
-      → IsFaultTold takes failures notes faults from to old new
-  AfterNotices : (middle : F) (reason : Fault) → HasFailed takes failures from to
-      → HasNotices notes faults old middle → IsFaultWritten notes faults reason middle new
-      → IsFaultTold takes failures notes faults from to old new
+    (notes : F → List ℕ → F → Type 0) (faults : F → ℕ) (came : Fault → Type 0)
+    (from to : O) (old new : F) : Type 0
+  where
+    AfterReason : IsReasonTold notes faults came old new
+        → IsFaultTold takes failures notes faults came from to old new
+    AfterNotices : (middle : F) (reason : Fault) → came reason → HasFailed takes failures from to
+        → HasNotices notes faults old middle → IsFaultWritten notes faults reason middle new
+        → IsFaultTold takes failures notes faults came from to old new

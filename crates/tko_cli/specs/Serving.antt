@@ -1,5 +1,5 @@
 -- What `serve` writes, and why it fails.
-use Rattle.std.specs.Prelude.{◌≡◌, ◌<◌, ◌⊎◌, ℕ, true, List, Option, is_some}
+use Rattle.std.specs.Prelude.{◌≡◌, ◌<◌, ◌⊎◌, ℕ, true, IfSome, List, Option, bytes_eq, codes, is_some, string_bytes}
 use Rattle.tko_cli.specs.Announcements.{ready_text}
 use Rattle.tko_cli.specs.Notices.{HasNotices}
 use Rattle.tko_cli.specs.Planned.{IsPlanned, IsServerOf, NoPlan}
@@ -11,6 +11,7 @@ use Rattle.tko_commands.specs.declared.listen_fault.ListenFault.TheVariants as l
 use Rattle.tko_cli.specs.declared.planned.Plan.{Plan}
 use Rattle.tko_cli.specs.declared.serving.Prepared.{Prepared}
 use Rattle.tko_model.specs.Ranges.{IsWithinRanges}
+use Rattle.tko_server.specs.Beside.{IsLogOf, IsMeterOf}
 use Rattle.tko_server.specs.Closing.{HasEnded}
 use Rattle.tko_server.specs.Runs.{tracker_settings}
 use Rattle.tko_server.specs.declared.run_fault.RunFault.{RunFault}
@@ -30,6 +31,14 @@ pub record IsNamed (options : ServeOptions) (server : Server) : Type 0 where
   pub planned : IsPlanned options plan
   pub open_files : Option ℕ
   pub of_plan : IsServerOf plan options open_files server
+
+-- what is to run beside the server: an event log and metrics, each exactly where the options ask
+-- for it, and of this server
+pub record HasBeside (options : ServeOptions) (prepared : Prepared) : Type 0 where
+  pub logs : is_some prepared.logging ≡ bytes_eq (string_bytes options.log) (codes "stderr")
+  pub log_of : IfSome prepared.logging (IsLogOf (string_bytes options.listen) prepared.server)
+  pub meters : is_some prepared.metering ≡ is_some options.metrics
+  pub meter_of : IfSome prepared.metering (IsMeterOf prepared.server)
 
 -- this server ran to its end: `ready` went out, and then the lines of its totals
 pub record HasTotals {O : Type 0} (takes : O → List ℕ → O → Type 0) (server : Server)

@@ -1,8 +1,8 @@
 //! From the arguments to the status.
-ghost use Rattle.std.specs.Prelude.{◌≡◌, ◌≤◌, OnOk, map, string_bytes};
-ghost use Rattle.tko_cli.specs.Endings.{HasServedFor, IsDone, IsFaultTold, ends};
+ghost use Rattle.std.specs.Prelude.{◌≡◌, ◌<◌, ◌≤◌, IfErr, OnOk, map, string_bytes};
+ghost use Rattle.tko_cli.specs.Endings.{HasNotServed, HasServedFor, IsDone, IsFaultTold, IsNotDone, ends};
 ghost use Rattle.tko_cli.specs.Notices.{HasNotices};
-ghost use Rattle.tko_cli.specs.Serving.{HasServed};
+ghost use Rattle.tko_cli.specs.Serving.{HasServed, ServeFails};
 
 use crate::serving::serve;
 use std::alloc::Global;
@@ -38,6 +38,8 @@ pub fn command<
     ensures done { result ≡ 0 → IsDone I.Inlet O.Outlet F.Outlet (map string_bytes words.now)
         (ends input.old output.old faults.old) (ends input.new output.new faults.new) }
     ensures fault { result ≡ 1 → IsFaultTold O.takes O.failures F.takes F.failures
+        (IsNotDone I.Inlet O.Outlet (map string_bytes words.now)
+        (input.old, output.old) (input.new, output.new))
         output.old output.new faults.old faults.new }
     ensures refused { result ≡ 2 → (input.new ≡ input.old) × (output.new ≡ output.old) }
 {
@@ -72,6 +74,7 @@ fn run_server<
     ensures done { result ≡ 0 → HasServedFor O.Outlet F.Outlet options
         (output.old, faults.old) (output.new, faults.new) }
     ensures fault { result ≡ 1 → IsFaultTold O.takes O.failures F.takes F.failures
+        (HasNotServed O.takes O.failures options output.old output.new)
         output.old output.new faults.old faults.new }
 {
     match loaded_server(rt, alloc, options, faults) {
@@ -97,6 +100,7 @@ fn serve_loaded<
     ensures done { result ≡ 0 → HasServed O.takes options.now output.old output.new }
     ensures noted { result ≡ 0 → HasNotices F.takes F.failures faults.old faults.new }
     ensures fault { result ≡ 1 → IsFaultTold O.takes O.failures F.takes F.failures
+        (ServeFails O.takes O.failures options.now output.old output.new)
         output.old output.new faults.old faults.new }
 {
     match serve(rt, alloc, options, output, faults) {
@@ -122,7 +126,9 @@ fn refuse<R: IoRuntime, F: Outlet>(rt: &R, faults: &mut F, text: &str) -> u8
 
 /// Writes the help or the version.
 fn show<R: IoRuntime, O: Outlet>(rt: &R, outlet: &mut O, text: &str) -> Result<(), Fault>
-    ensures { OnOk result (O.takes outlet.old text.now outlet.new) }
+    ensures ok { OnOk result (O.takes outlet.old text.now outlet.new) }
+    ensures err { IfErr result (λ fault. (fault ≡ Fault.Write)
+        × (O.failures outlet.old < O.failures outlet.new)) }
 {
     write_text(rt, outlet, text.as_bytes())?;
     Ok(())

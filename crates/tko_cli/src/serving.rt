@@ -1,9 +1,10 @@
 //! The command `serve`: a server over TCP, and its totals.
-ghost use Rattle.std.specs.Prelude.{◌≡◌, IfOk, OnOk, IfErr, OnErr, bytes_eq, codes, is_some, string_bytes};
+ghost use Rattle.std.specs.Prelude.{◌≡◌, IfOk, IfSome, OnOk, IfErr, OnErr, bytes_eq, codes, is_some, string_bytes};
 ghost use Rattle.tko_cli.specs.Announcements.{IsReadyWritten};
 ghost use Rattle.tko_cli.specs.Notices.{HasNotices};
-ghost use Rattle.tko_cli.specs.Serving.{HasNoListener, HasNoMetrics, HasServed, HasTotals, IsExplained, IsNamed, IsRunnable, IsSilentOrNoted, IsUnprepared, PreparedFails, ServeFails, TotalsFail, fault_of_server};
+ghost use Rattle.tko_cli.specs.Serving.{HasBeside, HasNoListener, HasNoMetrics, HasServed, HasTotals, IsExplained, IsNamed, IsRunnable, IsSilentOrNoted, IsUnprepared, PreparedFails, ServeFails, TotalsFail, fault_of_server};
 ghost use Rattle.tko_cli.specs.Totals.{totals_text};
+ghost use Rattle.tko_server.specs.Beside.{IsLogOf, IsMeterOf};
 ghost use Rattle.tko_server.specs.Closing.{HasEnded};
 
 use crate::announcement::{Announcement, give_back};
@@ -74,6 +75,7 @@ fn prepare<R: IoRuntime<Listener = TcpListener> + Files<File = File>>(
     options: &ServeOptions,
 ) -> Result<Prepared, Fault>
     ensures ok { IfOk result (λ prepared. IsNamed options.now prepared.server) }
+    ensures beside { IfOk result (HasBeside options.now) }
     ensures err { IfErr result (IsUnprepared options.now) }
 {
     let plan = plan_of(alloc, options)?;
@@ -201,8 +203,10 @@ fn logging_of<R: IoRuntime>(
     options: &ServeOptions,
     server: &tko_server::Options,
 ) -> Result<Option<Logging>, AllocError>
-    ensures { IfOk result (λ logging.
+    ensures asked { IfOk result (λ logging.
         is_some logging ≡ bytes_eq (string_bytes options.now.log) (codes "stderr")) }
+    ensures of { IfOk result (λ logging.
+        IfSome logging (IsLogOf (string_bytes options.now.listen) server.now)) }
 {
     if !options.has_log() {
         return Ok(None);
@@ -218,7 +222,8 @@ fn metering_of<R: IoRuntime<Listener = TcpListener> + Files<File = File>>(
     options: &ServeOptions,
     server: &tko_server::Options,
 ) -> Result<Option<Metering>, Fault>
-    ensures ok { IfOk result (λ metering. is_some metering ≡ is_some options.now.metrics) }
+    ensures asked { IfOk result (λ metering. is_some metering ≡ is_some options.now.metrics) }
+    ensures of { IfOk result (λ metering. IfSome metering (IsMeterOf server.now)) }
     ensures err { IfErr result (HasNoMetrics options.now) }
 {
     let Some(address) = &options.metrics else {

@@ -1,5 +1,5 @@
 -- What was written for a fault.
-use Rattle.std.proofs.Common.{◌≡◌, ℕ, ◌<◌, List, refl, IsOk, OnErr, OnOk, Result, Ok, Err}
+use Rattle.std.proofs.Common.{◌≡◌, ℕ, ◌<◌, List, refl, subst, IfErr, IsOk, OnErr, OnOk, Result, Ok, Err}
 use Rattle.tko_commands.specs.declared.fault.Fault.{Fault}
 use Rattle.tko_commands.specs.FaultLines.{IsReasonTold, IsFaultWritten, Written, Failed, HasLine}
 use Rattle.tko_commands.specs.Reasons.{HasLineOf, LeftOut}
@@ -15,9 +15,34 @@ on_err (Ok value) holds = tt
 on_err (Err error) holds = holds
 
 -- the line of a fault alone
-pub told_alone : {F : Type 0} (notes : F → List ℕ → F → Type 0) (faults : F → ℕ) (reason : Fault) (old new : F)
-    → IsFaultWritten notes faults reason old new → IsReasonTold notes faults old new
-told_alone notes faults reason old new told = record { middle = old; fault = reason; reason = LeftOut refl; line = told }
+pub told_alone : {F : Type 0} (notes : F → List ℕ → F → Type 0) (faults : F → ℕ) (came : Fault → Type 0)
+    (reason : Fault) (old new : F) → came reason → IsFaultWritten notes faults reason old new
+    → IsReasonTold notes faults came old new
+told_alone notes faults came reason old new known told =
+    record { middle = old; fault = reason; known = known; reason = LeftOut refl; line = told }
+
+-- what is known of the fault says more
+pub told_as : {F : Type 0} (notes : F → List ℕ → F → Type 0) (faults : F → ℕ) (came other : Fault → Type 0)
+    (old new : F) → ((fault : Fault) → came fault → other fault) → IsReasonTold notes faults came old new
+    → IsReasonTold notes faults other old new
+told_as notes faults came other old new next told = record {
+  middle = told.middle;
+  fault = told.fault;
+  known = next told.fault told.known;
+  reason = told.reason;
+  line = told.line;
+}
+
+-- the same fault ended it
+pub err_as : {T : Type 0} (result : Result T Fault) (cause fault : Fault) → result ≡ Err cause → fault ≡ cause
+    → result ≡ Err fault
+err_as result cause fault is same = rw same is
+
+-- what holds where it is Err, of one that is
+pub of_err : {T E : Type 0} (P : E → Type 0) (result : Result T E) (error : E) → result ≡ Err error
+    → IfErr result P → P error
+of_err P (Ok value) error is holds = absurd (cc)
+of_err P (Err cause) error is holds = let same : cause ≡ error = cc in subst P same holds
 
 pub is_fault_written : {O T E : Type 0} (takes : O → List ℕ → O → Type 0) (failures : O → ℕ) (reason : Fault) (old new : O)
     (result : Result T E) → OnOk result (HasLine takes reason old new) → OnErr result (failures old < failures new)

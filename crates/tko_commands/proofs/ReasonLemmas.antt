@@ -47,8 +47,9 @@ listen_reason takes failures cause address old new it =
     (λ line good. (address, good)) it
 
 -- the reason and then the fault
-pub told_with : {F : Type 0} (notes : F → List ℕ → F → Type 0) (faults : F → ℕ) (reason : Fault) (old middle new : F)
+pub told_with : {F : Type 0} (notes : F → List ℕ → F → Type 0) (faults : F → ℕ) (came : Fault → Type 0)
+    (reason : Fault) (old middle new : F) → came reason
     → HasLineOf notes faults (IsReasonFor reason) old middle → IsFaultWritten notes faults reason middle new
-    → IsReasonTold notes faults old new
-told_with notes faults reason old middle new why line =
-    record { middle = middle; fault = reason; reason = why; line = line }
+    → IsReasonTold notes faults came old new
+told_with notes faults came reason old middle new known why line =
+    record { middle = middle; fault = reason; known = known; reason = why; line = line }

@@ -21,10 +21,12 @@ pub data IsFaultWritten {O : Type 0} (takes : O → List ℕ → O → Type 0) (
   Written : HasLine takes reason old new → IsFaultWritten takes failures reason old new
   Failed : failures old < failures new → IsFaultWritten takes failures reason old new
 
--- a line may say why there is this fault, and then its line was written, and nothing else
+-- a fault came, of which this is known; a line may say why, and then the line of that fault was
+-- written, and nothing else
 pub record IsReasonTold {O : Type 0} (takes : O → List ℕ → O → Type 0) (failures : O → ℕ)
-    (old new : O) : Type 0 where
+    (came : Fault → Type 0) (old new : O) : Type 0 where
   pub middle : O
   pub fault : Fault
+  pub known : came fault
   pub reason : HasLineOf takes failures (IsReasonFor fault) old middle
   pub line : IsFaultWritten takes failures fault middle new

@@ -1,8 +1,9 @@
 //! Commands run to their status. Their faults are reported.
-ghost use Rattle.std.specs.Prelude.{◌≡◌, ◌≤◌, ◌<◌, IsOk, OnOk, OnErr};
+ghost use Rattle.std.specs.Prelude.{◌≡◌, ◌≤◌, ◌<◌, Err, IsOk, OnOk, OnErr};
 ghost use Rattle.tko_commands.specs.Done.{HasCheckedAll, HasDried};
 ghost use Rattle.tko_commands.specs.FaultLines.{HasLine, IsFaultWritten, IsReasonTold};
-ghost use Rattle.tko_commands.specs.Replays.{Replays};
+ghost use Rattle.tko_commands.specs.NotDone.{HasNotChecked, HasNotDried};
+ghost use Rattle.tko_commands.specs.Replays.{ReplayFails, Replays};
 
 use crate::checking::check;
 use crate::dry::dry;
@@ -35,7 +36,9 @@ pub fn run_dry<R: IoRuntime + Files, I: Inlet, O: Outlet, F: Outlet>(
     ensures dry { result ≡ 0 → HasDried I.Inlet O.Outlet options
         (input.old, output.old) (input.new, output.new) }
     ensures done { result ≡ 0 → faults.new ≡ faults.old }
-    ensures fault { result ≡ 1 → IsReasonTold F.takes F.failures faults.old faults.new }
+    ensures fault { result ≡ 1 → IsReasonTold F.takes F.failures
+        (HasNotDried I.Inlet O.Outlet options (input.old, output.old) (input.new, output.new))
+        faults.old faults.new }
 {
     match loaded_dry(rt, alloc, options, faults) {
         Ok(options) => {
@@ -66,7 +69,9 @@ pub fn run_replay<R: IoRuntime, I: Inlet, O: Outlet, F: Outlet>(
     ensures replay { result ≡ 0 → Replays I.gives I.is_ended O.takes
         input.old output.old input.new output.new }
     ensures done { result ≡ 0 → faults.new ≡ faults.old }
-    ensures fault { result ≡ 1 → IsReasonTold F.takes F.failures faults.old faults.new }
+    ensures fault { result ≡ 1 → IsReasonTold F.takes F.failures
+        (ReplayFails I.gives I.is_ended I.failures O.failures
+        input.old input.new output.old output.new) faults.old faults.new }
 {
     let done = replay(rt, alloc, input, output);
     status_of(rt, alloc, faults, done)
@@ -83,7 +88,8 @@ pub fn run_check<R: IoRuntime + Files, O: Outlet, F: Outlet>(
     ensures status { result ≤ 1 }
     ensures check { result ≡ 0 → HasCheckedAll O.takes options output.old output.new }
     ensures done { result ≡ 0 → faults.new ≡ faults.old }
-    ensures fault { result ≡ 1 → IsReasonTold F.takes F.failures faults.old faults.new }
+    ensures fault { result ≡ 1 → IsReasonTold F.takes F.failures
+        (HasNotChecked O.failures options output.old output.new) faults.old faults.new }
 {
     match loaded_check(rt, alloc, options, faults) {
         Ok(options) => {
@@ -105,7 +111,8 @@ pub fn status_of<R: IoRuntime, F: Outlet>(
     ensures status { result ≤ 1 }
     ensures ok { result ≡ 0 → IsOk done }
     ensures done { result ≡ 0 → faults.new ≡ faults.old }
-    ensures fault { result ≡ 1 → IsReasonTold F.takes F.failures faults.old faults.new }
+    ensures fault { result ≡ 1 → IsReasonTold F.takes F.failures
+        (λ fault. done ≡ Err fault) faults.old faults.new }
 {
     match done {
         Ok(()) => DONE,
@@ -125,7 +132,8 @@ fn status_over<R: IoRuntime, F: Outlet>(
     ensures status { result ≤ 1 }
     ensures ok { result ≡ 0 → IsOk done }
     ensures done { result ≡ 0 → faults.new ≡ faults.old }
-    ensures fault { result ≡ 1 → IsReasonTold F.takes F.failures faults.old faults.new }
+    ensures fault { result ≡ 1 → IsReasonTold F.takes F.failures
+        (λ fault. done ≡ Err fault) faults.old faults.new }
 {
     match done {
         Err(Fault::Config(cause)) => refuse_config(rt, alloc, faults, json, cause),
@@ -142,7 +150,8 @@ pub fn refuse_config<R: IoRuntime, F: Outlet>(
     cause: ConfigFault,
 ) -> u8
     ensures status { result ≡ 1 }
-    ensures fault { IsReasonTold F.takes F.failures faults.old faults.new }
+    ensures fault { IsReasonTold F.takes F.failures (λ fault. fault ≡ Fault.Config cause)
+        faults.old faults.new }
 {
     write_config_reason(rt, alloc, faults, json, &cause);
     fail(rt, alloc, faults, Fault::Config(cause))
@@ -157,7 +166,8 @@ pub fn refuse_listen<R: IoRuntime, F: Outlet>(
     cause: ListenFault,
 ) -> u8
     ensures status { result ≡ 1 }
-    ensures fault { IsReasonTold F.takes F.failures faults.old faults.new }
+    ensures fault { IsReasonTold F.takes F.failures (λ fault. fault ≡ Fault.Listen cause)
+        faults.old faults.new }
 {
     write_listen_reason(rt, alloc, faults, address, &cause);
     fail(rt, alloc, faults, Fault::Listen(cause))

@@ -1,4 +1,7 @@
-use Rattle.tko_commands.proofs.FaultLineLemmas.{of_ok}
+use Rattle.std.proofs.Common.{◌≡◌, Err, refl}
+use Rattle.tko_commands.specs.Checks.{CheckFails}
+use Rattle.tko_commands.specs.NotDone.{HasNotChecked, NoCheckFile, NotChecked}
+use Rattle.tko_commands.proofs.FaultLineLemmas.{of_err, of_ok, told_as}
 use Rattle.tko_commands.proofs.ReasonLemmas.{told_with}
 use Rattle.tko_commands.proofs.status.run_check.Goals as goal
 
@@ -13,5 +16,20 @@ returns-in-Ok-clause-check g c = λ is. record {
 
 pub returns-in-Err-clause-fault : goal.returns-in-Err-clause-fault
 returns-in-Err-clause-fault g c =
-    λ is. told_with g.F.Outlet.takes g.F.Outlet.failures c.in-Err.fault c.args.faults.now c.loaded_check.new.faults
-    c.fail.new.faults c.in-Err.ensures.told c.fail.ensures.fault
+    λ is. told_with g.F.Outlet.takes g.F.Outlet.failures
+    (HasNotChecked g.O.Outlet.failures c.args.options c.args.output.now c.args.output.now)
+    c.in-Err.fault c.args.faults.now c.loaded_check.new.faults
+    c.fail.new.faults (NoCheckFile c.in-Err.ensures.err refl) c.in-Err.ensures.told c.fail.ensures.fault
+
+pub returns-in-Ok-clause-fault : goal.returns-in-Ok-clause-fault
+returns-in-Ok-clause-fault g c = λ is.
+    let to = c.check-done.new.output in
+    rw c.in-Ok.ensures.kept at
+    (told_as g.F.Outlet.takes g.F.Outlet.failures (λ fault. c.check-done.result ≡ Err fault)
+    (HasNotChecked g.O.Outlet.failures c.args.options c.args.output.now to)
+    c.loaded_check.new.faults c.status_over.new.faults
+    (λ fault came. NotChecked c.in-Ok.options c.in-Ok.ensures.ok
+    (rw (c.as_str-json.ensures.value) at
+    (of_err (CheckFails g.O.Outlet.failures c.as_str-json.result.now c.args.output.now to)
+    c.check-done.result fault came c.check-done.ensures.err)))
+    (c.status_over.ensures.fault is))
