@@ -13,7 +13,7 @@ use Rattle.tko_session.specs.Outgoing.{AreOutgoing, AreOutgoingIn, outgoing, out
 use Rattle.tko_session.specs.SessionState.{SessionState, fed_state}
 use Rattle.tko_session.specs.Working.{Work, key_in}
 use Rattle.tko_session.specs.Working as work
-use Rattle.tko_worker.specs.declared.talking.Stage.TheVariants as stage
+use Rattle.tko_port.specs.declared.talking.Stage.TheVariants as stage
 use Rattle.tko_client.specs.declared.client.Course.{Course}
 use Rattle.tko_client.specs.declared.client.Course.TheVariants as course
 use Rattle.tko_client.specs.Clients.{asked_for, phase_at, stage_of}

@@ -9,7 +9,7 @@ use Rattle.tko_session.specs.Acts.{IsAct, came_to}
 use Rattle.tko_session.specs.Clients.{Client, IsClient, Life, life, lived, new_client, no_life}
 use Rattle.tko_session.proofs.ActLemmas.{acted}
 use Rattle.tko_session.proofs.LifeLemmas.{begins}
-use Rattle.tko_worker.specs.Talks.{Dropped, Ended, Fed, NotFed, Sent, TalkItem, Took, Went}
+use Rattle.tko_port.specs.Talks.{Dropped, Ended, Fed, NotFed, Sent, TalkItem, Took, Went}
 use Rattle.tko_client.specs.Comings.{result_of}
 use Rattle.tko_client.specs.Clients.{ClientOver, Does, DoesAs, HasLife, IsOwnTalk, bytes_in}
 

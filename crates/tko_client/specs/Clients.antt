@@ -16,9 +16,9 @@ use Rattle.tko_session.specs.Outgoing.{outgoing}
 use Rattle.tko_session.specs.Working.{Work}
 use Rattle.tko_session.specs.Working as work
 use Rattle.tko_text.specs.declared.request.Request.{Request}
-use Rattle.tko_worker.specs.Talks.{Dropped, Ended, Fed, NotFed, Sent, Talk, TalkItem, Took, Went}
-use Rattle.tko_worker.specs.declared.talking.Stage.{Stage}
-use Rattle.tko_worker.specs.declared.talking.Stage.TheVariants as stage
+use Rattle.tko_port.specs.Talks.{Dropped, Ended, Fed, NotFed, Sent, Talk, TalkItem, Took, Went}
+use Rattle.tko_port.specs.declared.talking.Stage.{Stage}
+use Rattle.tko_port.specs.declared.talking.Stage.TheVariants as stage
 use Rattle.tko_client.specs.declared.client.Course.{Course}
 use Rattle.tko_client.specs.declared.client.Course.TheVariants.{Ended as CourseEnded, Full, Going, NeedsInput, Over, Short}
 use Rattle.tko_client.specs.declared.client.EventClient.{EventClient}

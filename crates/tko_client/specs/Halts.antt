@@ -1,8 +1,8 @@
 -- Why a session does not go on.
 use Rattle.std.specs.Prelude.{ℕ, Option, Some, None}
 use Rattle.tko_session.specs.Clients.{ClientPhase, Open}
-use Rattle.tko_worker.specs.declared.talking.Stage.{Stage}
-use Rattle.tko_worker.specs.declared.talking.Stage.TheVariants.{Going}
+use Rattle.tko_port.specs.declared.talking.Stage.{Stage}
+use Rattle.tko_port.specs.declared.talking.Stage.TheVariants.{Going}
 use Rattle.tko_client.specs.declared.going.Halt.{Halt}
 use Rattle.tko_client.specs.declared.going.Halt.TheVariants.{Asks, At}
 use Rattle.tko_client.specs.Clients.{phase_at, stage_of}

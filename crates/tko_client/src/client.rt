@@ -15,10 +15,10 @@ use tko_links::Outcome;
 use tko_model::Clear;
 use tko_mux::Came;
 use tko_pipe::Fate;
+use tko_port::{Stage, Talking};
 use tko_route::Health;
 use tko_session::{Session, Trails};
 use tko_text::Request;
-use tko_worker::{Stage, Talking};
 
 /// How a client stands.
 #[derive(Clone, Copy, Debug, PartialEq, Eq)]

@@ -8,7 +8,7 @@ ghost use Rattle.tko_session.specs.Clients.{Open, Short, client};
 ghost use Rattle.tko_session.specs.Driven.{IsAwaiting, IsReady};
 ghost use Rattle.tko_session.specs.Outgoing.{outgoing};
 ghost use Rattle.tko_session.specs.Working.{Between};
-ghost use Rattle.tko_worker.specs.Talks.{HasReplies};
+ghost use Rattle.tko_port.specs.Talks.{HasReplies};
 ghost use Rattle.tko_client.specs.Clients.{HasGone, HasTaken};
 ghost use Rattle.tko_client.specs.Halts.{asked_at, phase_in, stage_in};
 ghost use Rattle.tko_client.specs.Steps.{HasStayed, asked_in, client_ghosts, phase_of};

@@ -2,7 +2,7 @@
 ghost use Rattle.std.specs.Prelude.{List};
 ghost use Rattle.tko_model.specs.Records.{Gains};
 ghost use Rattle.tko_session.specs.Clients.{Client, new_client};
-ghost use Rattle.tko_worker.specs.Talks.{TalkItem};
+ghost use Rattle.tko_port.specs.Talks.{TalkItem};
 ghost use Rattle.tko_client.specs.Clients.{HasLife, IsOwnTalk};
 ghost use Rattle.tko_client.specs.Steps.{client_ghosts};
 

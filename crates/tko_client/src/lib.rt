@@ -1,7 +1,7 @@
 //! A client of an event-driven worker: its session, driven from one event to the next. There is no
 //! socket and no clock here.
 //!
-//! - `EventClient`: a client's session as its port sees it (`Talking` of tko_worker). It asks
+//! - `EventClient`: a client's session as its port sees it (`Talking` of tko_port). It asks
 //!   servers and does not wait for them.
 //! - `Lent`: what all clients of a worker share: the health of the servers, the configuration, the
 //!   observer, and how often each server was sent to (`Sends`).

@@ -11,10 +11,10 @@ use tko_model::{OneGroup, Plain};
 use tko_mux::{Delivery, Mux};
 use tko_pipe::ShutCause;
 use tko_pools::Config;
+use tko_port::{Event, Guest, MemoryPort, Shared, Turned};
 use tko_prober::{Backend, Delays, Probers};
 use tko_route::PlainHealth;
 use tko_session::{Kept, Parts};
-use tko_worker::{Event, Guest, MemoryPort, Shared, Turned};
 
 /// The first failure marks a server.
 const SETTINGS: OneGroup = OneGroup {

@@ -2,8 +2,8 @@
 use Rattle.std.specs.Prelude.{ℕ, Option, Some, None}
 use Rattle.std.specs.declared.io.ErrorKind.{ErrorKind}
 use Rattle.std.specs.declared.io.ErrorKind.TheVariants.{WouldBlock}
-use Rattle.tko_worker.specs.declared.port.Read.{Read}
-use Rattle.tko_worker.specs.declared.port.Read.TheVariants.{Fault, Nothing}
+use Rattle.tko_port.specs.declared.port.Read.{Read}
+use Rattle.tko_port.specs.declared.port.Read.TheVariants.{Fault, Nothing}
 
 abbrev pub failed_read : ErrorKind → Read
 failed_read WouldBlock = Nothing

@@ -1,6 +1,6 @@
 -- A socket, as a port of a worker.
 use Rattle.std.specs.Prelude.{true, false, []}
-use Rattle.tko_worker.specs.Ports.{PortState}
+use Rattle.tko_port.specs.Ports.{PortState}
 use Rattle.tko_socket.specs.declared.socket.Socket.{Socket}
 
 abbrev pub port_of : Socket → PortState

@@ -9,7 +9,7 @@ use mio::{Interest, Registry, Token};
 use std::io::ErrorKind;
 use std::net::{Net, SocketAddr};
 use std::{io, net};
-use tko_worker::{Port, Read};
+use tko_port::{Port, Read};
 
 /// How far a connection is that is being made.
 #[derive(Clone, Copy, Debug, PartialEq, Eq)]

@@ -7,7 +7,7 @@ use std::io::{Read as _, Write as _};
 use std::net::{Ipv4Addr, Net, Shutdown, SocketAddr, TcpListener, TcpStream};
 use std::test::Fail;
 use std::time::Duration;
-use tko_worker::{Port, Read};
+use tko_port::{Port, Read};
 
 /// A poll, a connection at it, and the other side of that.
 #[derive(Drop)]

@@ -1,6 +1,4 @@
 mod NotedLemmas
-mod PortLemmas
 mod ReachLemmas
 mod RestLemmas
 mod TakenLemmas
-mod WireLemmas

@@ -8,12 +8,12 @@ use Rattle.tko_mux.specs.declared.mux.delivery.Done.{Done}
 use Rattle.tko_mux.specs.Asks.{IsAsking}
 use Rattle.tko_mux.specs.Linking.{IsKept}
 use Rattle.tko_mux.specs.Muxes.{IsMade, MuxState, SendEnds}
-use Rattle.tko_worker.specs.declared.guest.Event.{Event}
-use Rattle.tko_worker.specs.declared.guest.Event.TheVariants.{Ended, Leave, Readable, Serve, Writable}
-use Rattle.tko_worker.specs.declared.guest.Guest.{Guest}
-use Rattle.tko_worker.specs.declared.guest.Shared.{Shared}
-use Rattle.tko_worker.specs.declared.guest.Turned.{Turned}
-use Rattle.tko_worker.specs.Guests.{EventKeeps, GuestDoes, IsGuestCall, IsNotice, Seen, noting, presence_after}
+use Rattle.tko_port.specs.declared.guest.Event.{Event}
+use Rattle.tko_port.specs.declared.guest.Event.TheVariants.{Ended, Leave, Readable, Serve, Writable}
+use Rattle.tko_port.specs.declared.guest.Guest.{Guest}
+use Rattle.tko_port.specs.declared.guest.Shared.{Shared}
+use Rattle.tko_port.specs.declared.guest.Turned.{Turned}
+use Rattle.tko_port.specs.Guests.{EventKeeps, GuestDoes, IsGuestCall, IsNotice, Seen, noting, presence_after}
 use Rattle.tko_worker.specs.Workers.{DropEnds, HasReached, IsNotedAt, Sight, kept, left, nobody, noted}
 
 asks_nobody : (asked old new : Option ℕ) → new ≡ old → IsAsking asked old new → asked ≡ None

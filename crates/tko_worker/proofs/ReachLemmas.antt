@@ -11,10 +11,10 @@ use Rattle.tko_mux.specs.declared.asking.Came.{Came}
 use Rattle.tko_mux.specs.declared.mux.delivery.Delivery.{Delivery}
 use Rattle.tko_mux.specs.declared.mux.delivery.Delivery.TheVariants.{Probed, Reached}
 use Rattle.tko_mux.specs.Muxes.{IsDelivered, IsRead, LeaveEnds, MuxState, Reaches}
-use Rattle.tko_worker.specs.declared.guest.Guest.{Guest}
-use Rattle.tko_worker.specs.declared.guest.Shared.{Shared}
-use Rattle.tko_worker.specs.declared.guest.Turned.{Turned}
-use Rattle.tko_worker.specs.Guests.{IsGuestCall}
+use Rattle.tko_port.specs.declared.guest.Guest.{Guest}
+use Rattle.tko_port.specs.declared.guest.Shared.{Shared}
+use Rattle.tko_port.specs.declared.guest.Turned.{Turned}
+use Rattle.tko_port.specs.Guests.{IsGuestCall}
 use Rattle.tko_worker.specs.Workers.{IsIn, IsListedFor, NobodyForgotten, OthersStayFor, RestAt, Rests, Sight}
 use Rattle.tko_worker.proofs.RestLemmas.{made_others, one_listed}
 

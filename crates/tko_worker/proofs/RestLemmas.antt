@@ -12,17 +12,17 @@ use Rattle.tko_mux.specs.declared.mux.delivery.Done.{Done}
 use Rattle.tko_mux.specs.Asks.{AskingActs, IsAsking}
 use Rattle.tko_mux.specs.Linking.{IsKept, awaited_at}
 use Rattle.tko_mux.specs.Muxes.{IsMade, MuxState, SendEnds}
-use Rattle.tko_worker.specs.declared.guest.Event.TheVariants.{Serve}
-use Rattle.tko_worker.specs.declared.guest.Guest.{Guest}
-use Rattle.tko_worker.specs.declared.guest.Presence.{Presence}
-use Rattle.tko_worker.specs.declared.guest.Presence.TheVariants.{Here, Leaving}
-use Rattle.tko_worker.specs.declared.guest.Shared.{Shared}
-use Rattle.tko_worker.specs.declared.guest.Turned.{Turned}
-use Rattle.tko_worker.specs.declared.guest.Turned.TheVariants as turned
-use Rattle.tko_worker.specs.Guests.{AsksIf, IsGuestCall, RestsBy, Seen, ServedAs, ServesAs, seen}
-use Rattle.tko_worker.specs.Ports.{PortState}
-use Rattle.tko_worker.specs.Rests.{AtRest, RestsAt}
-use Rattle.tko_worker.specs.Talks.{Talk}
+use Rattle.tko_port.specs.declared.guest.Event.TheVariants.{Serve}
+use Rattle.tko_port.specs.declared.guest.Guest.{Guest}
+use Rattle.tko_port.specs.declared.guest.Presence.{Presence}
+use Rattle.tko_port.specs.declared.guest.Presence.TheVariants.{Here, Leaving}
+use Rattle.tko_port.specs.declared.guest.Shared.{Shared}
+use Rattle.tko_port.specs.declared.guest.Turned.{Turned}
+use Rattle.tko_port.specs.declared.guest.Turned.TheVariants as turned
+use Rattle.tko_port.specs.Guests.{AsksIf, IsGuestCall, RestsBy, Seen, ServedAs, ServesAs, seen}
+use Rattle.tko_port.specs.Ports.{PortState}
+use Rattle.tko_port.specs.Rests.{AtRest, RestsAt}
+use Rattle.tko_port.specs.Talks.{Talk}
 use Rattle.tko_worker.specs.Workers.{IsIn, IsListed, IsServed, NobodyForgotten, OthersStay, RestAt, Rests, Sight, WasServed}
 
 awaits_rest : (awaited : Option ℕ) (talk : Talk) (port : PortState) → IsSome awaited

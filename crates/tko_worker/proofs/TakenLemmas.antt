@@ -16,13 +16,14 @@ use Rattle.tko_mux.specs.declared.mux.delivery.Delivery.{Delivery}
 use Rattle.tko_mux.specs.Asks.{AskingActs}
 use Rattle.tko_mux.specs.Lines.{LineState, first_on, line_by}
 use Rattle.tko_mux.specs.Muxes.{IsOnLine, IsRead, LeaveEnds, MuxState, Reaches, ReadsFirst, ReadsOn}
-use Rattle.tko_worker.specs.declared.guest.Guest.{Guest}
-use Rattle.tko_worker.specs.declared.guest.Shared.{Shared}
-use Rattle.tko_worker.specs.declared.guest.Turned.{Turned}
-use Rattle.tko_worker.specs.Guests.{IsGuestCall}
-use Rattle.tko_worker.specs.Servers.{AwaitsMore, HasLeftNext, HasNoResponse, HasTaken, ListsReached, delivery_in, pipe_at}
+use Rattle.tko_port.specs.Peers.{delivery_in}
+use Rattle.tko_port.specs.declared.guest.Guest.{Guest}
+use Rattle.tko_port.specs.declared.guest.Shared.{Shared}
+use Rattle.tko_port.specs.declared.guest.Turned.{Turned}
+use Rattle.tko_port.specs.Guests.{IsGuestCall}
+use Rattle.tko_worker.specs.Servers.{AwaitsMore, HasLeftNext, HasNoResponse, HasTaken, ListsReached, pipe_at}
 use Rattle.tko_worker.specs.Workers.{Sight, WorkerState}
-use Rattle.tko_worker.proofs.WireLemmas.{this_line}
+use Rattle.tko_port.proofs.WireLemmas.{this_line}
 
 -- the connection of a line is the one that the line was made of
 live_of : (link : Link) (it pipe : PipeState) → (line_by link it).pipe ≡ Some pipe → it ≡ pipe

@@ -15,10 +15,11 @@ use Rattle.tko_mux.specs.declared.mux.delivery.Delivery.{Delivery}
 use Rattle.tko_mux.specs.declared.mux.delivery.Delivery.TheVariants.{Probed, Reached}
 use Rattle.tko_mux.specs.Lines.{LineState}
 use Rattle.tko_mux.specs.Muxes.{IsLent, IsRead, LeaveEnds, MuxState}
-use Rattle.tko_worker.specs.declared.guest.Guest.{Guest}
-use Rattle.tko_worker.specs.declared.guest.Shared.{Shared}
-use Rattle.tko_worker.specs.declared.guest.Turned.{Turned}
-use Rattle.tko_worker.specs.Guests.{IsGuestCall}
+use Rattle.tko_port.specs.Peers.{delivery_in}
+use Rattle.tko_port.specs.declared.guest.Guest.{Guest}
+use Rattle.tko_port.specs.declared.guest.Shared.{Shared}
+use Rattle.tko_port.specs.declared.guest.Turned.{Turned}
+use Rattle.tko_port.specs.Guests.{IsGuestCall}
 use Rattle.tko_worker.specs.Workers.{ListEnds, Sight, WorkerState}
 
 -- no whole response of a connection is unread, where this request is the first that waits
@@ -50,19 +51,6 @@ ListsReached awaited old None numbers new now = (new ≡ old) × (now ≡ number
 ListsReached awaited old (Some (Reached number done)) numbers new now =
     ListEnds awaited old number numbers new now
 ListsReached awaited old (Some (Probed it)) numbers new now = (new ≡ old) × (now ≡ numbers)
-
-abbrev pub delivery_in : Result (Option (Delivery Turned)) ShutCause → Option (Delivery Turned)
-delivery_in (Ok delivery) = delivery
-delivery_in (Err why) = None
-
--- what came for a probe and was not fetched yet, after something was delivered
-abbrev pub probed_after : Delivery Turned → Option Came → Option Came
-probed_after (Reached number done) probed = probed
-probed_after (Probed it) probed = Some it
-
-abbrev pub probed_by : Option (Delivery Turned) → Option Came → Option Came
-probed_by None probed = probed
-probed_by (Some delivery) probed = probed_after delivery probed
 
 -- a response of a server was looked for; the client that it reached is to be served in this turn
 pub record HasTaken {L T P : Type 0} (sight : Sight L T) (asks_for : Guest L T → Option Request)

@@ -4,9 +4,9 @@ use Rattle.std.specs.Option.{option_and_then, option_map}
 use Rattle.tko_pipe.specs.declared.link.Link.TheVariants.{Connecting}
 use Rattle.tko_mux.specs.declared.asking.Came.{Came}
 use Rattle.tko_mux.specs.Lines.{LineState}
-use Rattle.tko_worker.specs.declared.servers.Peer.{Peer}
-use Rattle.tko_worker.specs.Ports.{PortState}
-use Rattle.tko_worker.specs.Wires.{CannotRead, CannotWriteTo, IsOpen, first_at, is_first_late, link_at}
+use Rattle.tko_port.specs.declared.peer.Peer.{Peer}
+use Rattle.tko_port.specs.Ports.{PortState}
+use Rattle.tko_port.specs.Wires.{CannotRead, CannotWriteTo, IsOpen, due_at, first_at, is_first_late, link_at}
 
 -- the port of the socket to a server, if there is one
 abbrev pub socket_at : {L : Type 0} → (L → PortState) → List (Peer L) → ℕ → Option PortState
@@ -41,10 +41,6 @@ AreWritten port lines peers count = (server : ℕ) → server < count → IsOpen
 abbrev pub OtherPeers : {L : Type 0} → ℕ → List (Peer L) → List (Peer L) → Type 0
 OtherPeers server old new =
     (other : ℕ) → other ≢ server → slice_get new other ≡ slice_get old other
-
--- when the first response of a server is due, if one is awaited
-abbrev pub due_at : List LineState → ℕ → Option ℕ
-due_at lines server = option_map (λ first. first.due) (first_at (slice_get lines server))
 
 -- the first moment at which a response of so many servers is due, if any is awaited
 abbrev pub IsNextDue : List LineState → ℕ → Option ℕ → Type 0

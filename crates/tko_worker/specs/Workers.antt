@@ -9,15 +9,15 @@ use Rattle.tko_mux.specs.declared.mux.delivery.Done.{Done}
 use Rattle.tko_mux.specs.Linking.{IsKept}
 use Rattle.tko_mux.specs.Muxes.{IsMade, MuxState}
 use Rattle.tko_text.specs.declared.request.Request.{Request}
-use Rattle.tko_worker.specs.declared.guest.Event.{Event}
-use Rattle.tko_worker.specs.declared.guest.Event.TheVariants.{Serve}
-use Rattle.tko_worker.specs.declared.guest.Presence.TheVariants.{Here}
-use Rattle.tko_worker.specs.declared.guest.Guest.{Guest}
-use Rattle.tko_worker.specs.declared.guest.Turned.{Turned}
-use Rattle.tko_worker.specs.declared.guest.Shared.{Shared}
-use Rattle.tko_worker.specs.Guests.{IsGuestCall, IsResting, noting, presence_after, seen}
-use Rattle.tko_worker.specs.Ports.{PortState}
-use Rattle.tko_worker.specs.Talks.{Talk}
+use Rattle.tko_port.specs.declared.guest.Event.{Event}
+use Rattle.tko_port.specs.declared.guest.Event.TheVariants.{Serve}
+use Rattle.tko_port.specs.declared.guest.Presence.TheVariants.{Here}
+use Rattle.tko_port.specs.declared.guest.Guest.{Guest}
+use Rattle.tko_port.specs.declared.guest.Turned.{Turned}
+use Rattle.tko_port.specs.declared.guest.Shared.{Shared}
+use Rattle.tko_port.specs.Guests.{IsGuestCall, IsResting, noting, presence_after, seen}
+use Rattle.tko_port.specs.Ports.{PortState}
+use Rattle.tko_port.specs.Talks.{Talk}
 
 -- the clients and their servers; the numbers of clients that are to be served in this turn; and of
 -- those that are served again in the next

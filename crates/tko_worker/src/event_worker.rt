@@ -4,17 +4,20 @@ ghost use Rattle.std.specs.Bool.{OnFalse, OnTrue};
 ghost use Rattle.tko_roster.specs.Rosters.{AreReady};
 ghost use Rattle.tko_mux.specs.Linking.{AreLinked};
 ghost use Rattle.tko_mux.specs.Muxes.{line_at};
-ghost use Rattle.tko_worker.specs.Guests.{noting};
+ghost use Rattle.tko_port.specs.Guests.{noting};
 ghost use Rattle.tko_worker.specs.Turns.{AreWritten, IsNextDue, IsWanted, OtherPeers, ServerRests, ServersRest, earlier, probed_at, socket_at};
-ghost use Rattle.tko_worker.specs.Wires.{HasConnected, HasFailed, link_at};
+ghost use Rattle.tko_port.specs.Wires.{HasConnected, HasFailed, link_at};
 ghost use Rattle.tko_worker.specs.Workers.{NobodyForgotten};
 
-use crate::wire::{first_due, has_unwritten, is_connected, is_connecting, is_late, is_open};
-use crate::{Event, Guest, Peer, Port, Shared, Talking, Worker};
+use crate::Worker;
 use std::alloc::Global;
 use tko_bytes::NoMemory;
 use tko_mux::{Asking, Came, Client, Mux};
 use tko_pipe::Link;
+use tko_port::{
+    Event, Guest, Peer, Port, Shared, Talking, first_due, has_unwritten, is_connected,
+    is_connecting, is_late, is_open,
+};
 use tko_roster::Driven;
 
 /// The clients of a worker, and the sockets to its servers. A turn of events begins by

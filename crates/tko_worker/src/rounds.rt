@@ -7,12 +7,13 @@ ghost use Rattle.tko_mux.specs.Linking.{AreLinked};
 ghost use Rattle.tko_mux.specs.Muxes.{IsOnLine};
 ghost use Rattle.tko_worker.specs.Workers.{NobodyForgotten};
 
-use crate::{Guest, Port, Shared, Talking, Worker};
+use crate::Worker;
 use std::alloc::Global;
 use tko_bytes::NoMemory;
 use tko_model::Duty;
 use tko_mux::{Asking, Client};
 use tko_pipe::Asker;
+use tko_port::{Guest, Port, Shared, Talking};
 use tko_roster::{Driven, Visit};
 use tko_text::Request;
 

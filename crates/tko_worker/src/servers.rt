@@ -4,16 +4,18 @@ ghost use Rattle.std.specs.Bool.{OnFalse, OnTrue};
 ghost use Rattle.tko_roster.specs.Rosters.{AreReady};
 ghost use Rattle.tko_mux.specs.Linking.{AreLinked};
 ghost use Rattle.tko_mux.specs.Muxes.{HasNoneLeaving, line_at};
-ghost use Rattle.tko_worker.specs.Guests.{noting};
-ghost use Rattle.tko_worker.specs.Servers.{HasNoResponse, delivery_in, probed_after, probed_by};
-ghost use Rattle.tko_worker.specs.Wires.{CannotRead, CannotWriteTo, HasConnected, HasExpired, HasFailed, HasReadOn, IsHeld, IsOpen, OtherLines, first_at, is_first_late};
+ghost use Rattle.tko_worker.specs.Servers.{HasNoResponse};
+ghost use Rattle.tko_port.specs.Wires.{CannotRead, CannotWriteTo, HasConnected, HasExpired, HasFailed, HasReadOn, IsHeld, IsOpen, OtherLines, first_at, is_first_late};
 ghost use Rattle.tko_worker.specs.Workers.{NobodyForgotten};
 
-use crate::wire::{is_connecting, is_late, is_open, read_wire, write_wire};
-use crate::{Event, Guest, Port, Shared, Talking, Turned, Worker};
+use crate::Worker;
 use std::alloc::Global;
-use tko_mux::{Asking, Came, Client, Delivery};
+use tko_mux::{Asking, Client};
 use tko_pipe::ShutCause;
+use tko_port::{
+    Event, Guest, Peer, Port, Shared, Talking, is_connecting, is_late, is_open, read_wire,
+    write_wire,
+};
 use tko_roster::Driven;
 
 /// How often a server is read from in one turn. What is left is read in the next turn.
@@ -24,123 +26,6 @@ const RESPONSES: u32 = 1_024;
 
 /// How many of those that waited on a connection that was shut leave in one turn.
 const LEAVES: u32 = 4_096;
-
-/// A server as its worker has it: the socket of the connection to it, if there is one, and what
-/// came for a probe of it.
-#[derive(Drop)]
-pub struct Peer<L> {
-    pub(crate) socket: Option<L>,
-    pub(crate) probed: Option<Came>,
-}
-
-impl<L: Drop> Peer<L> {
-    /// There is no connection.
-    pub(crate) fn new() -> Peer<L>
-        ensures { result.socket ≡ None }
-    {
-        Peer {
-            socket: None,
-            probed: None,
-        }
-    }
-
-    /// Keeps what came, if it came for a probe.
-    fn keep(&mut self, delivery: Delivery<Turned>)
-        ensures probed { self.new.probed ≡ probed_after delivery self.old.probed }
-        ensures socket { self.new.socket ≡ self.old.socket }
-    {
-        match delivery {
-            Delivery::Reached(_, _) => {}
-            Delivery::Probed(came) => self.probed = Some(came),
-        }
-    }
-
-    /// The same of what a look for a response gave. Returns whether one came, or the connection was
-    /// shut.
-    fn keep_taken(&mut self, taken: Result<Option<Delivery<Turned>>, ShutCause>) -> bool
-        ensures none { OnFalse result (taken ≡ Ok None) }
-        ensures probed { self.new.probed ≡ probed_by (delivery_in taken) self.old.probed }
-        ensures socket { self.new.socket ≡ self.old.socket }
-    {
-        match taken {
-            Ok(Some(delivery)) => {
-                self.keep(delivery);
-                true
-            }
-            Ok(None) => false,
-            Err(_) => true,
-        }
-    }
-
-    /// The socket, if there is one.
-    pub(crate) fn socket(&self) -> Option<&L>
-        ensures { option_copied result ≡ self.now.socket }
-    {
-        self.socket.as_ref()
-    }
-
-    /// Closes the socket, unless its connection is still there.
-    pub(crate) fn hold(&mut self, is_there: bool)
-        ensures kept { OnTrue is_there (self.new ≡ self.old) }
-        ensures gone { OnFalse is_there (self.new.socket ≡ None) }
-    {
-        if !is_there {
-            self.socket = None;
-        }
-    }
-}
-
-impl<L: Port + Drop> Peer<L> {
-    /// Whether there is no socket.
-    pub(crate) fn is_closed(&self) -> bool
-        ensures none { OnTrue result (option_map L.port self.now.socket ≡ None) }
-        ensures some { OnFalse result (option_map L.port self.now.socket ≢ None) }
-    {
-        match &self.socket {
-            Some(_) => false,
-            None => true,
-        }
-    }
-
-    /// A connection was begun on this socket.
-    pub(crate) fn begin(&mut self, port: L)
-        ensures { option_map L.port self.new.socket ≡ Some (L.port port) }
-    {
-        self.socket = Some(port);
-    }
-
-    /// An event came for the socket.
-    pub(crate) fn note(&mut self, event: Event)
-        ensures { option_map L.port self.new.socket
-            ≡ option_map (noting event) (option_map L.port self.old.socket) }
-    {
-        if let Some(port) = &mut self.socket {
-            note_at(port, event);
-        }
-    }
-
-    /// What came for a probe.
-    pub(crate) fn take_probed(&mut self) -> Option<Came>
-        ensures socket { self.new.socket ≡ self.old.socket }
-        ensures came { result ≡ self.old.probed }
-        ensures none { self.new.probed ≡ None }
-    {
-        self.probed.take()
-    }
-}
-
-/// Notes an event at a port.
-fn note_at<L: Port>(port: &mut L, event: Event)
-    ensures { L.port port.new ≡ noting event (L.port port.old) }
-{
-    match event {
-        Event::Readable => port.set_readable(),
-        Event::Writable => port.set_writable(),
-        Event::Ended => port.set_ended(),
-        Event::Leave => {}
-        Event::Serve => {}
-    }
-}
 
 impl<P, L: Port + Drop, T: Talking<P> + Drop> Worker<L, T, P> {
     /// The connection to a server was made, if one was begun. Its port is writable.

@@ -1,15 +1,13 @@
 //! Clients that are served until they rest, and whole turns with a server.
 ghost use Rattle.std.specs.Prelude.{◌≡◌, None, Some, IfOk};
 
-use crate::{
-    End, Event, EventWorker, MemoryPort, Port, Read, Settled, Shared, Stage, Talking, Worker,
-    settle,
-};
+use crate::{EventWorker, Worker};
 use std::alloc::Global;
 use std::test::Fail;
 use tko_bytes::NoMemory;
 use tko_model::{Clear, Look, Mark};
 use tko_mux::Came;
+use tko_port::{End, Event, MemoryPort, Port, Read, Settled, Shared, Stage, Talking, settle};
 use tko_text::{Key, Keys, Request};
 
 /// A session that replies with what it was sent, at most so many bytes at a time, and asks no

@@ -4,17 +4,17 @@ ghost use Rattle.std.specs.Bool.{OnFalse, OnTrue};
 ghost use Rattle.tko_roster.specs.Rosters.{AreReady, session_at};
 ghost use Rattle.tko_mux.specs.Linking.{AreLinked};
 ghost use Rattle.tko_mux.specs.Muxes.{HasNoneLeaving, line_at};
-ghost use Rattle.tko_worker.specs.Guests.{IsNotice};
+ghost use Rattle.tko_port.specs.Guests.{IsNotice};
 ghost use Rattle.tko_worker.specs.Servers.{HasLeftNext, HasTaken, ListsReached};
 ghost use Rattle.tko_worker.specs.Workers.{DropEnds, IsListed, IsListedFor, IsNoted, IsOpened, IsServed, ListEnds, NobodyForgotten, OthersStay, OthersStayFor, RestAt, WasServed};
 
-use crate::{Event, Guest, Port, Presence, Shared, Talking, Turned};
 use std::alloc::Global;
 use std::marker::Model;
 use std::mem::swap;
 use tko_bytes::NoMemory;
 use tko_mux::{Asking, Client, Delivery, Mux};
 use tko_pipe::ShutCause;
+use tko_port::{Event, Guest, Port, Presence, Shared, Talking, Turned};
 use tko_roster::Driven;
 
 /// The clients of a worker, and which of them are to be served.
@@ -287,8 +287,8 @@ impl<P, L: Port + Drop, T: Talking<P> + Drop> Worker<L, T, P> {
         self.spent.as_slice()
     }
 
-    /// The parts that all sessions shared, at the end. The clients are dropped, and their ports with
-    /// them.
+    /// The parts that all sessions shared, at the end. The clients are dropped, and their ports
+    /// with them.
     pub fn into_parts(self) -> P
         ensures { result ≡ self.mux.roster.parts.parts }
     {

@@ -1,4 +1,4 @@
-use Rattle.tko_worker.proofs.WireLemmas.{none_spent}
+use Rattle.tko_port.proofs.WireLemmas.{none_spent}
 use Rattle.tko_worker.proofs.event_worker.is_at_rest.Goals as goal
 
 pub returns-clause-spent : goal.returns-clause-spent

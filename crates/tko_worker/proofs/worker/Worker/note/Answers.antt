@@ -1,6 +1,6 @@
 use Rattle.std.proofs.Common.{refl, subst, sym}
 use Rattle.tko_mux.specs.declared.asking.Given.TheVariants.{Input}
-use Rattle.tko_worker.specs.Guests.{IsGuestCall}
+use Rattle.tko_port.specs.Guests.{IsGuestCall}
 use Rattle.tko_worker.specs.Workers.{IsNoted, NobodyForgotten, WorkerState}
 use Rattle.tko_worker.proofs.NotedLemmas.{event_reached}
 use Rattle.tko_worker.proofs.RestLemmas.{act_others, one_listed}

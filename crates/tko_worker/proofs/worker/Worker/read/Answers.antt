@@ -1,6 +1,6 @@
 use Rattle.std.proofs.Common.{subst}
 use Rattle.std.specs.Option.{option_map}
-use Rattle.tko_worker.specs.Wires.{HasRead}
+use Rattle.tko_port.specs.Wires.{HasRead}
 use Rattle.tko_worker.specs.Workers.{WorkerState}
 use Rattle.tko_worker.proofs.worker.Worker.read.Goals as goal
 

@@ -2,7 +2,7 @@ use Rattle.std.specs.Option.{option_map}
 use Rattle.tko_roster.specs.Rosters.{AreReady}
 use Rattle.tko_mux.specs.Linking.{AreLinked}
 use Rattle.tko_mux.specs.Muxes.{line_at}
-use Rattle.tko_worker.specs.Wires.{IsHeld}
+use Rattle.tko_port.specs.Wires.{IsHeld}
 use Rattle.tko_worker.specs.Workers.{NobodyForgotten}
 use Rattle.tko_worker.proofs.worker.Worker.take_all.Given as goal
 

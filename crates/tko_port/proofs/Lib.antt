@@ -1,0 +1,2 @@
+pub mod WireLemmas
+mod PortLemmas

@@ -1,0 +1,133 @@
+-- A client, its port and its session together, as it is called.
+use Rattle.std.specs.Prelude.{◌≡◌, ℕ, [], Option, None, IsSome}
+use Rattle.tko_mux.specs.declared.asking.Given.{Given}
+use Rattle.tko_mux.specs.declared.asking.Given.TheVariants.{Input, Outcome}
+use Rattle.tko_port.specs.declared.guest.Event.{Event}
+use Rattle.tko_port.specs.declared.guest.Event.TheVariants.{Ended, Leave, Readable, Serve, Writable}
+use Rattle.tko_port.specs.declared.guest.Guest.{Guest}
+use Rattle.tko_port.specs.declared.guest.Presence.{Presence}
+use Rattle.tko_port.specs.declared.guest.Presence.TheVariants.{Here, Leaving}
+use Rattle.tko_port.specs.declared.guest.Shared.{Shared}
+use Rattle.tko_port.specs.declared.guest.Turned.{Turned}
+use Rattle.tko_port.specs.declared.guest.Turned.TheVariants.{Asks, Ends, Noted, Rests, Spent, Took}
+use Rattle.tko_port.specs.declared.settling.End.TheVariants.{Finished, Left, Memory, ReadFault, WriteFault}
+use Rattle.tko_port.specs.declared.talking.Stage.TheVariants.{Over}
+use Rattle.tko_port.specs.Ports.{PortState, now_readable, now_writable}
+use Rattle.tko_port.specs.Rests.{AtRest, RestsAt}
+use Rattle.tko_port.specs.Talks.{Talk}
+
+-- it can be served only while no request of it is under way; an event can always be noted
+abbrev pub MayServe : Event → Option ℕ → Type 0
+MayServe Readable awaited = Unit {0}
+MayServe Writable awaited = Unit {0}
+MayServe Ended awaited = Unit {0}
+MayServe Leave awaited = Unit {0}
+MayServe Serve awaited = awaited ≡ None
+
+-- it asks a server exactly if it says so
+abbrev pub AsksIf : Turned → Option ℕ → Type 0
+AsksIf Asks asked = IsSome asked
+AsksIf Rests asked = asked ≡ None
+AsksIf Spent asked = asked ≡ None
+AsksIf (Ends why) asked = asked ≡ None
+AsksIf Noted asked = asked ≡ None
+AsksIf Took asked = Unit {0}
+
+-- what serving it came to
+abbrev pub ServedAs : Turned → Talk → PortState → Type 0
+ServedAs Asks talk port = Unit {0}
+ServedAs Rests talk port = RestsAt talk.stage talk.output port
+ServedAs Spent talk port = Unit {0}
+ServedAs (Ends Finished) talk port = (talk.stage ≡ Over) × (talk.output ≡ [])
+ServedAs (Ends Memory) talk port = Unit {0}
+ServedAs (Ends ReadFault) talk port = Unit {0}
+ServedAs (Ends WriteFault) talk port = Unit {0}
+ServedAs (Ends Left) talk port = ⊥
+ServedAs Noted talk port = ⊥
+ServedAs Took talk port = ⊥
+
+-- a client as it is seen: whom it awaits, its session and its port, and whether it is still served
+pub record Seen : Type 0 where
+  pub awaited : Option ℕ
+  pub talk : Talk
+  pub port : PortState
+  pub presence : Presence
+
+abbrev pub seen : {L T : Type 0} → (T → Option ℕ) → (T → Talk) → (L → PortState) → Guest L T → Seen
+seen awaited talk port guest = record {
+  awaited = awaited guest.talk;
+  talk = talk guest.talk;
+  port = port guest.port;
+  presence = guest.presence;
+}
+
+-- this only says what came, and does not serve the client
+abbrev pub IsNotice : Event → Type 0
+IsNotice Readable = Unit {0}
+IsNotice Writable = Unit {0}
+IsNotice Ended = Unit {0}
+IsNotice Leave = Unit {0}
+IsNotice Serve = ⊥
+
+-- what that does to the client's port
+abbrev pub noting : Event → PortState → PortState
+noting Readable port = now_readable port
+noting Writable port = now_writable port
+noting Ended port = now_readable port
+noting Leave port = port
+noting Serve port = port
+
+-- whether the client is still served after it
+abbrev pub presence_after : Event → Presence → Presence
+presence_after Readable presence = presence
+presence_after Writable presence = presence
+presence_after Ended presence = presence
+presence_after Leave presence = Leaving
+presence_after Serve presence = presence
+
+-- what serving it does: one that leaves ends, and nothing is read from it or written to it
+abbrev pub ServesAs : Presence → Option ℕ → Turned → Seen → Seen → Type 0
+ServesAs Here asked did old new =
+    ServedAs did new.talk new.port × AsksIf did asked × (new.presence ≡ Here)
+ServesAs Leaving asked did old new = (did ≡ Ends Left) × (asked ≡ None) × (new ≡ old)
+
+-- what a call does to it: an event is noted at its port, and its session stays; or it is served; or
+-- its session takes what came, and its port stays
+abbrev pub GuestDoes : Given Event → Option ℕ → Turned → Seen → Seen → Type 0
+GuestDoes (Input Readable) asked did old new =
+    (did ≡ Noted) × (new ≡ record old { port = now_readable old.port })
+GuestDoes (Input Writable) asked did old new =
+    (did ≡ Noted) × (new ≡ record old { port = now_writable old.port })
+GuestDoes (Input Ended) asked did old new =
+    (did ≡ Noted) × (new ≡ record old { port = now_readable old.port })
+GuestDoes (Input Leave) asked did old new =
+    (did ≡ Noted) × (new ≡ record old { presence = Leaving })
+GuestDoes (Input Serve) asked did old new = ServesAs old.presence asked did old new
+GuestDoes (Outcome came) asked did old new =
+    (did ≡ Took) × (new.port ≡ old.port) × (new.presence ≡ old.presence)
+
+-- an event leaves the session as it is, and what all clients share
+abbrev pub EventKeeps : {L T P : Type 0} → Given Event → Guest L T × Shared P → Guest L T × Shared P
+    → Type 0
+EventKeeps (Input Readable) old new = (new.0.talk ≡ old.0.talk) × (new.1 ≡ old.1)
+EventKeeps (Input Writable) old new = (new.0.talk ≡ old.0.talk) × (new.1 ≡ old.1)
+EventKeeps (Input Ended) old new = (new.0.talk ≡ old.0.talk) × (new.1 ≡ old.1)
+EventKeeps (Input Leave) old new = (new.0.talk ≡ old.0.talk) × (new.1 ≡ old.1)
+EventKeeps (Input Serve) old new = Unit {0}
+EventKeeps (Outcome came) old new = Unit {0}
+
+pub record IsGuestCall {L T P : Type 0} (awaited : T → Option ℕ) (talk : T → Talk)
+    (port : L → PortState) (old : Guest L T × Shared P) (call : Given Event × (Option ℕ × Turned))
+    (new : Guest L T × Shared P) : Type 0 where
+  pub did : GuestDoes call.0 call.1.0 call.1.1 (seen awaited talk port old.0)
+      (seen awaited talk port new.0)
+  pub kept : EventKeeps call.0 old new
+
+-- nothing can be done for a client before its next event; one that leaves rests only as long as a
+-- request of it is under way
+abbrev pub RestsBy : Presence → Seen → Type 0
+RestsBy Here it = AtRest it.awaited it.talk it.port
+RestsBy Leaving it = IsSome it.awaited
+
+abbrev pub IsResting : Seen → Type 0
+IsResting it = RestsBy it.presence it

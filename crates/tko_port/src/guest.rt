@@ -1,0 +1,150 @@
+//! A client: its port and its session, as the multiplexer calls them.
+ghost use Rattle.std.specs.Prelude.{◌≡◌, None};
+ghost use Rattle.tko_port.specs.Guests.{AsksIf, ServedAs};
+
+use crate::{End, Port, Settled, Talking, settle};
+use tko_model::Clear;
+use tko_mux::{Asking, Came};
+use tko_text::Request;
+
+/// What all clients of a worker share: the parts of their sessions, and the buffer for what is
+/// read.
+#[derive(Drop)]
+pub struct Shared<P> {
+    pub parts: P,
+    /// It is not empty.
+    pub buffer: Vec<u8>,
+}
+
+/// What a client is given.
+#[derive(Clone, Copy, Debug, PartialEq, Eq)]
+pub enum Event {
+    /// An event said that its port is readable.
+    Readable,
+    /// An event said that its port is writable.
+    Writable,
+    /// An event said that the client sends no more.
+    Ended,
+    /// It is to leave.
+    Leave,
+    /// It is to be served.
+    Serve,
+}
+
+/// Whether a client is still served.
+#[derive(Clone, Copy, Debug, PartialEq, Eq)]
+pub enum Presence {
+    Here,
+    /// It leaves as soon as no request of it is under way. Nothing is read from it or written to it
+    /// any more.
+    Leaving,
+}
+
+/// What that came to.
+#[derive(Clone, Copy, Debug, PartialEq, Eq)]
+pub enum Turned {
+    /// The event was noted.
+    Noted,
+    /// It took what came of its request.
+    Took,
+    /// It asks a server.
+    Asks,
+    /// Nothing can be done for it before its next event.
+    Rests,
+    /// More can be done for it in the next turn.
+    Spent,
+    /// Its session ended.
+    Ends(End),
+}
+
+/// A client: its port and its session.
+#[derive(Drop)]
+pub struct Guest<L, T> {
+    pub port: L,
+    pub talk: T,
+    pub presence: Presence,
+}
+
+impl<P, L: Port, T: Talking<P>> Asking<Shared<P>> for Guest<L, T> {
+    ghost use Rattle.tko_port.specs.Guests.{IsGuestCall, MayServe};
+
+    type Input = Event;
+
+    type Output = Turned;
+
+    ghost acts = { λ old call new. IsGuestCall T.awaited T.talk L.port old call new };
+
+    ghost may = { λ guest event. MayServe event (T.awaited guest.talk) };
+
+    ghost ready = { λ shared guest. T.ready shared.parts guest.talk };
+
+    ghost stays = { λ old new. T.stays old.parts new.parts };
+
+    ghost awaited = { λ guest. T.awaited guest.talk };
+
+    ghost asks_for = { λ guest. T.asks_for guest.talk };
+
+    ghost stay_ready = { λ guest old new. T.stay_ready guest.talk old.parts new.parts };
+
+    fn act(&mut self, shared: &mut Shared<P>, event: Event) -> (Option<Clear>, Turned) {
+        match event {
+            Event::Readable => {
+                self.port.set_readable();
+                (None, Turned::Noted)
+            }
+            Event::Writable => {
+                self.port.set_writable();
+                (None, Turned::Noted)
+            }
+            Event::Ended => {
+                self.port.set_ended();
+                (None, Turned::Noted)
+            }
+            Event::Leave => {
+                self.presence = Presence::Leaving;
+                (None, Turned::Noted)
+            }
+            Event::Serve => match self.presence {
+                Presence::Here => serve(&mut self.port, &mut self.talk, shared),
+                Presence::Leaving => (None, Turned::Ends(End::Left)),
+            },
+        }
+    }
+
+    fn take(&mut self, shared: &mut Shared<P>, came: Came) -> (Option<Clear>, Turned) {
+        (self.talk.take(&mut shared.parts, came), Turned::Took)
+    }
+
+    fn awaited(&self) -> Option<usize> {
+        self.talk.awaited()
+    }
+
+    fn request(&self) -> &Request {
+        self.talk.request()
+    }
+}
+
+/// Serves a client.
+fn serve<P, L: Port, T: Talking<P>>(
+    port: &mut L,
+    talk: &mut T,
+    shared: &mut Shared<P>,
+) -> (Option<Clear>, Turned)
+    requires ready { T.ready shared.old.parts talk.old }
+    requires here { T.awaited talk.old ≡ None }
+    ensures ends { ServedAs result.1 (T.talk talk.new) (L.port port.new) }
+    ensures asks { T.awaited talk.new ≡ result.0 }
+    ensures asked { AsksIf result.1 result.0 }
+    ensures ready { T.ready shared.new.parts talk.new }
+    ensures stays { T.stays shared.old.parts shared.new.parts }
+{
+    if shared.buffer.is_empty() {
+        return (None, Turned::Ends(End::Memory));
+    }
+    match settle(port, talk, &mut shared.parts, &mut shared.buffer) {
+        Settled::Asks(clear) => (Some(clear), Turned::Asks),
+        Settled::Rests => (None, Turned::Rests),
+        Settled::Spent => (None, Turned::Spent),
+        Settled::Ends(why) => (None, Turned::Ends(why)),
+    }
+}

@@ -1,0 +1,194 @@
+//! A client, from one event to the next.
+ghost use Rattle.std.specs.Prelude.{◌≡◌, ◌<◌, ◌≢◌, [], None, true, IfSome, IfNone, length};
+ghost use Rattle.std.specs.Bool.{OnFalse, OnTrue};
+ghost use Rattle.tko_port.specs.Rests.{CannotWrite, SettledAs, asked_as};
+ghost use Rattle.tko_port.specs.Talks.{HasReplies};
+
+use crate::{Port, Read, Stage, Talking};
+use tko_model::Clear;
+
+/// How often a client is read from or written to in one turn. What is left then is done in the next
+/// turn, after the other clients.
+const ROUNDS: u32 = 16;
+
+/// Why a client's session ended.
+#[derive(Clone, Copy, Debug, PartialEq, Eq)]
+pub enum End {
+    /// It took all its input, and its replies were written.
+    Finished,
+    /// Memory ran out for it.
+    Memory,
+    ReadFault,
+    WriteFault,
+    /// It was to leave, and no request of it was under way any more.
+    Left,
+}
+
+/// What serving a client came to.
+#[derive(Debug, Drop)]
+pub enum Settled {
+    /// It asks the server that the permission names.
+    Asks(Clear),
+    /// Nothing can be done for it before its next event.
+    Rests,
+    /// More can be done for it in the next turn.
+    Spent,
+    Ends(End),
+}
+
+/// Serves a client until nothing can be done for it before its next event, or as much as is done
+/// for one client in a turn.
+pub fn settle<P, L: Port, T: Talking<P>>(
+    port: &mut L,
+    talk: &mut T,
+    parts: &mut P,
+    buffer: &mut [u8],
+) -> Settled
+    requires ready { T.ready parts.old talk.old }
+    requires here { T.awaited talk.old ≡ None }
+    requires room { 0 < length buffer.old }
+    ensures ends { SettledAs result (T.talk talk.new) (L.port port.new) }
+    ensures asks { T.awaited talk.new ≡ asked_as result }
+    ensures ready { T.ready parts.new talk.new }
+    ensures stays { T.stays parts.old parts.new }
+{
+    for _ in 0..ROUNDS {
+        if let Some(settled) = serve(port, talk, parts, buffer) {
+            return settled;
+        }
+    }
+    Settled::Spent
+}
+
+/// Goes on once, and then writes or reads once. Returns what it came to, if that is all.
+fn serve<P, L: Port, T: Talking<P>>(
+    port: &mut L,
+    talk: &mut T,
+    parts: &mut P,
+    buffer: &mut [u8],
+) -> Option<Settled>
+    requires ready { T.ready parts.old talk.old }
+    requires here { T.awaited talk.old ≡ None }
+    requires room { 0 < length buffer.old }
+    ensures ends { IfSome result (λ settled.
+        SettledAs settled (T.talk talk.new) (L.port port.new)) }
+    ensures asks { IfSome result (λ settled. T.awaited talk.new ≡ asked_as settled) }
+    ensures here { IfNone result (T.awaited talk.new ≡ None) }
+    ensures ready { T.ready parts.new talk.new }
+    ensures stays { T.stays parts.old parts.new }
+{
+    match talk.go_on(parts) {
+        Ok(Some(clear)) => Some(Settled::Asks(clear)),
+        Ok(None) => serve_here(port, talk, parts, buffer),
+        Err(_) => Some(Settled::Ends(End::Memory)),
+    }
+}
+
+/// The same, once it went on and asks nobody.
+fn serve_here<P, L: Port, T: Talking<P>>(
+    port: &mut L,
+    talk: &mut T,
+    parts: &mut P,
+    buffer: &mut [u8],
+) -> Option<Settled>
+    requires ready { T.ready parts.old talk.old }
+    requires here { T.awaited talk.old ≡ None }
+    requires replies { HasReplies (T.talk talk.old).stage (T.talk talk.old).output }
+    requires room { 0 < length buffer.old }
+    ensures ends { IfSome result (λ settled.
+        SettledAs settled (T.talk talk.new) (L.port port.new)) }
+    ensures asks { IfSome result (λ settled. T.awaited talk.new ≡ asked_as settled) }
+    ensures here { IfNone result (T.awaited talk.new ≡ None) }
+    ensures ready { T.ready parts.new talk.new }
+    ensures stays { T.stays parts.old parts.new }
+{
+    if can_write::<P, _, _>(port, talk) {
+        return write_out(port, talk, parts);
+    }
+    match talk.stage() {
+        Stage::Going => Some(Settled::Spent),
+        Stage::Full => Some(Settled::Rests),
+        Stage::NeedsInput => read_in(port, talk, parts, buffer),
+        Stage::Over if has_output::<P, _>(talk) => Some(Settled::Rests),
+        Stage::Over => Some(Settled::Ends(End::Finished)),
+    }
+}
+
+/// Whether replies wait, and can be written.
+fn can_write<P, L: Port, T: Talking<P>>(port: &L, talk: &T) -> bool
+    ensures can { OnTrue result ((L.port port.now).writable ≡ true) }
+    ensures not { OnFalse result (CannotWrite (T.talk talk.now).output (L.port port.now)) }
+{
+    if !port.is_writable() {
+        return false;
+    }
+    has_output::<P, _>(talk)
+}
+
+/// Whether replies wait.
+fn has_output<P, T: Talking<P>>(talk: &T) -> bool
+    ensures some { OnTrue result ((T.talk talk.now).output ≢ []) }
+    ensures none { OnFalse result ((T.talk talk.now).output ≡ []) }
+{
+    !talk.output().is_empty()
+}
+
+/// Writes what waits, once.
+fn write_out<P, L: Port, T: Talking<P>>(
+    port: &mut L,
+    talk: &mut T,
+    parts: &mut P,
+) -> Option<Settled>
+    requires ready { T.ready parts.old talk.old }
+    requires here { T.awaited talk.old ≡ None }
+    requires writable { (L.port port.old).writable ≡ true }
+    ensures ends { IfSome result (λ settled. settled ≡ Settled.Ends End.WriteFault) }
+    ensures asks { IfSome result (λ settled. T.awaited talk.new ≡ None) }
+    ensures here { IfNone result (T.awaited talk.new ≡ None) }
+    ensures ready { T.ready parts.new talk.new }
+    ensures stays { T.stays parts.old parts.new }
+{
+    match port.write(talk.output()) {
+        Some(count) => {
+            talk.sent(parts, count);
+            None
+        }
+        None => Some(Settled::Ends(End::WriteFault)),
+    }
+}
+
+/// Reads what is there, once.
+fn read_in<P, L: Port, T: Talking<P>>(
+    port: &mut L,
+    talk: &mut T,
+    parts: &mut P,
+    buffer: &mut [u8],
+) -> Option<Settled>
+    requires ready { T.ready parts.old talk.old }
+    requires here { T.awaited talk.old ≡ None }
+    requires needs { (T.talk talk.old).stage ≡ Stage.NeedsInput }
+    requires cannot { CannotWrite (T.talk talk.old).output (L.port port.old) }
+    requires room { 0 < length buffer.old }
+    ensures ends { IfSome result (λ settled.
+        SettledAs settled (T.talk talk.new) (L.port port.new)) }
+    ensures asks { IfSome result (λ settled. T.awaited talk.new ≡ asked_as settled) }
+    ensures here { IfNone result (T.awaited talk.new ≡ None) }
+    ensures ready { T.ready parts.new talk.new }
+    ensures stays { T.stays parts.old parts.new }
+{
+    if !port.is_readable() {
+        return Some(Settled::Rests);
+    }
+    match port.read(buffer) {
+        Read::Bytes(count) => match talk.feed(parts, &buffer[..count]) {
+            Ok(()) => None,
+            Err(_) => Some(Settled::Ends(End::Memory)),
+        },
+        Read::Nothing => Some(Settled::Rests),
+        Read::Ended => {
+            talk.end(parts);
+            None
+        }
+        Read::Fault => Some(Settled::Ends(End::ReadFault)),
+    }
+}
