@@ -1,0 +1,290 @@
+//! Loops over the loopback.
+
+use crate::{Addresses, Arrival, EventLoop, Greeter, Handover, Turn};
+use std::alloc::Global;
+use std::io::{Read as _, Write as _};
+use std::net::{Ipv4Addr, Net, Shutdown, SocketAddr, TcpListener, TcpStream};
+use std::test::Fail;
+use tko_bytes::NoMemory;
+use tko_io::IoRuntime;
+use tko_model::{Clear, Look, Mark};
+use tko_mux::Came;
+use tko_pipe::Fate;
+use tko_port::{Stage, Talking};
+use tko_text::Request;
+
+/// A session that replies with each piece that it was sent, after it asked server 0 its version
+/// where a piece begins with `?`; then it replies `came`, or why nothing did.
+#[derive(Drop)]
+struct Talk {
+    request: Request,
+    unread: Vec<u8>,
+    output: Vec<u8>,
+    awaits: Option<usize>,
+    is_ended: bool,
+    stage: Stage,
+}
+
+/// The permission to ask a server that is up.
+fn clear_of(server: usize) -> Option<Clear>
+    ensures { result ≡ Some server }
+{
+    match Look::of(server, Mark::Up(0)) {
+        Look::Up(_, clear) => Some(clear),
+        Look::Marked(_) => None,
+    }
+}
+
+impl Talking<()> for Talk {
+    ghost use Rattle.std.specs.Prelude.{None, Some};
+
+    ghost talk = { λ it. record { stage = it.stage; output = it.output.items } };
+
+    ghost awaited = { λ it. it.awaits };
+
+    ghost asks_for = { λ it. Some it.request };
+
+    ghost does = { λ _ _ _. Unit {0} };
+
+    ghost ready = { λ _ _. Unit {0} };
+
+    ghost stays = { λ _ _. Unit {0} };
+
+    ghost stay_ready = { λ _ _ _ _ _. tt };
+
+    ghost stay = { λ _ _ _ _ _. tt };
+
+    ghost same_stays = { λ _. tt };
+
+    fn go_on(&mut self, _parts: &mut ()) -> Result<Option<Clear>, NoMemory> {
+        self.stage = if self.is_ended {
+            Stage::Over
+        } else {
+            Stage::NeedsInput
+        };
+        if self.unread.first() == Some(&b'?') {
+            self.unread.clear();
+            self.awaits = Some(0);
+            return Ok(clear_of(0));
+        }
+        self.output.extend_from_slice(self.unread.as_slice())?;
+        self.unread.clear();
+        Ok(None)
+    }
+
+    fn stage(&self) -> Stage {
+        self.stage
+    }
+
+    fn output(&self) -> &[u8] {
+        self.output.as_slice()
+    }
+
+    fn sent(&mut self, _parts: &mut (), count: usize) {
+        self.output.drain(..count);
+    }
+
+    fn feed(&mut self, _parts: &mut (), piece: &[u8]) -> Result<(), NoMemory> {
+        self.stage = Stage::Going;
+        self.unread.extend_from_slice(piece)?;
+        Ok(())
+    }
+
+    fn end(&mut self, _parts: &mut ()) {
+        self.is_ended = true;
+        self.stage = Stage::Over;
+    }
+
+    fn take(&mut self, _parts: &mut (), came: Came) -> Option<Clear> {
+        self.awaits = None;
+        let word = match came {
+            Came::Response(_) => b"came".as_slice(),
+            Came::Fate(Fate::Refused) => b"refused".as_slice(),
+            Came::Fate(Fate::Timeout) => b"late".as_slice(),
+            Came::Fate(_) => b"failed".as_slice(),
+        };
+        let _ = self.output.extend_from_slice(word);
+        None
+    }
+
+    fn awaited(&self) -> Option<usize> {
+        self.awaits
+    }
+
+    fn request(&self) -> &Request {
+        &self.request
+    }
+}
+
+/// Makes such sessions.
+#[derive(Drop)]
+struct Greets {
+    alloc: Global,
+}
+
+impl Greeter<(), Talk> for Greets {
+    fn greet(&mut self, _parts: &()) -> Result<Talk, NoMemory> {
+        Ok(Talk {
+            request: Request::Version,
+            unread: Vec::new(self.alloc),
+            output: Vec::new(self.alloc),
+            awaits: None,
+            is_ended: false,
+            stage: Stage::Going,
+        })
+    }
+}
+
+type TestLoop = EventLoop<Talk, (), u8>;
+
+/// A loop with one server, whose response is due so many milliseconds after its request.
+fn new_loop<R: IoRuntime>(
+    rt: &R,
+    alloc: Global,
+    addresses: Vec<SocketAddr>,
+    limit: u64,
+) -> Result<(TestLoop, Handover<u8>), Fail> {
+    let mut servers = Vec::new(alloc);
+    servers.push(Addresses::new(addresses))?;
+    Ok(EventLoop::new(rt, alloc, (), servers, limit, 16)?)
+}
+
+/// A listener at the loopback.
+fn listener<N: Net<Listener = TcpListener, Stream = TcpStream>>(
+    net: &N,
+) -> Result<TcpListener, Fail> {
+    Ok(TcpListener::bind(net, SocketAddr::from((Ipv4Addr::LOCALHOST, 0)))?)
+}
+
+/// A client of the loop: the other side of a connection that was handed over.
+fn client<R: IoRuntime + Net<Listener = TcpListener, Stream = TcpStream>>(
+    rt: &R,
+    handover: &Handover<u8>,
+) -> Result<TcpStream, Fail> {
+    let listener = listener(rt)?;
+    let other = TcpStream::connect(rt, listener.local_addr()?)?;
+    let (stream, _) = listener.accept()?;
+    if !handover.send(rt, Arrival { stream, ticket: 1 }) {
+        return Err("no loop".into());
+    }
+    other.set_nonblocking(true)?;
+    Ok(other)
+}
+
+/// Makes turns until the client was sent this, and says whether that came.
+fn comes<R: IoRuntime>(
+    rt: &R,
+    alloc: Global,
+    it: &mut TestLoop,
+    client: &mut TcpStream,
+    text: &[u8],
+) -> Result<bool, Fail> {
+    let mut greets = Greets { alloc };
+    let mut buffer = [0u8; 64];
+    for _ in 0..200 {
+        it.turn(rt, alloc, &mut greets)?;
+        if let Ok(count) = client.read(&mut buffer) {
+            return Ok(&buffer[..count] == text);
+        }
+    }
+    Ok(false)
+}
+
+#[test]
+fn clients_get_their_own_replies(rt: HostRuntime) -> Result<(), Fail> {
+    let alloc = rt.alloc();
+    let (mut it, handover) = new_loop(&rt, alloc, Vec::new(alloc), 1_000)?;
+    let mut one = client(&rt, &handover)?;
+    let mut two = client(&rt, &handover)?;
+    one.write_all(b"one")?;
+    two.write_all(b"two")?;
+    assert!(rt; comes(&rt, alloc, &mut it, &mut one, b"one".as_slice())?);
+    assert!(rt; comes(&rt, alloc, &mut it, &mut two, b"two".as_slice())?);
+    drop(one);
+    it.turn(&rt, alloc, &mut Greets { alloc })?;
+    let mut three = client(&rt, &handover)?;
+    three.write_all(b"three")?;
+    assert!(rt; comes(&rt, alloc, &mut it, &mut three, b"three".as_slice())?);
+    two.write_all(b"again")?;
+    assert!(rt; comes(&rt, alloc, &mut it, &mut two, b"again".as_slice())?);
+    Ok(())
+}
+
+#[test]
+fn a_loop_ends_once_no_client_is_left_and_none_can_come(rt: HostRuntime) -> Result<(), Fail> {
+    let alloc = rt.alloc();
+    let (mut it, handover) = new_loop(&rt, alloc, Vec::new(alloc), 1_000)?;
+    let mut one = client(&rt, &handover)?;
+    one.write_all(b"last")?;
+    one.shutdown(Shutdown::Write)?;
+    drop(handover);
+    it.run(&rt, alloc, &mut Greets { alloc })?;
+    let mut buffer = [0u8; 64];
+    assert_eq!(rt; one.read(&mut buffer)?, 4);
+    assert_eq!(rt; one.read(&mut buffer)?, 0);
+    Ok(())
+}
+
+#[test]
+fn a_request_gets_the_response_of_its_server(rt: HostRuntime) -> Result<(), Fail> {
+    let alloc = rt.alloc();
+    let listener = listener(&rt)?;
+    let addresses = vec![in alloc; listener.local_addr()?]?;
+    let (mut it, handover) = new_loop(&rt, alloc, addresses, 10_000)?;
+    let mut one = client(&rt, &handover)?;
+    one.write_all(b"?")?;
+    let mut greets = Greets { alloc };
+    for _ in 0..5 {
+        it.turn(&rt, alloc, &mut greets)?;
+    }
+    let (mut server, _) = listener.accept()?;
+    let mut buffer = [0u8; 64];
+    let count = server.read(&mut buffer)?;
+    assert_eq!(rt; &buffer[..count], b"version\r\n".as_slice());
+    server.write_all(b"VERSION 1\r\n")?;
+    assert!(rt; comes(&rt, alloc, &mut it, &mut one, b"came".as_slice())?);
+    Ok(())
+}
+
+#[test]
+fn a_server_that_refuses_fails_once_all_its_addresses_did(rt: HostRuntime) -> Result<(), Fail> {
+    let alloc = rt.alloc();
+    let gone = listener(&rt)?.local_addr()?;
+    let (mut it, handover) = new_loop(&rt, alloc, vec![in alloc; gone; 2]?, 10_000)?;
+    let mut one = client(&rt, &handover)?;
+    one.write_all(b"?")?;
+    assert!(rt; comes(&rt, alloc, &mut it, &mut one, b"refused".as_slice())?);
+    Ok(())
+}
+
+#[test]
+fn the_next_address_is_tried_where_one_refuses(rt: HostRuntime) -> Result<(), Fail> {
+    let alloc = rt.alloc();
+    let gone = listener(&rt)?.local_addr()?;
+    let listener = listener(&rt)?;
+    let addresses = vec![in alloc; gone, listener.local_addr()?]?;
+    let (mut it, handover) = new_loop(&rt, alloc, addresses, 10_000)?;
+    let mut one = client(&rt, &handover)?;
+    one.write_all(b"?")?;
+    let mut greets = Greets { alloc };
+    for _ in 0..8 {
+        it.turn(&rt, alloc, &mut greets)?;
+    }
+    let (mut server, _) = listener.accept()?;
+    server.write_all(b"VERSION 1\r\n")?;
+    assert!(rt; comes(&rt, alloc, &mut it, &mut one, b"came".as_slice())?);
+    Ok(())
+}
+
+#[test]
+fn a_server_that_is_silent_is_late(rt: HostRuntime) -> Result<(), Fail> {
+    let alloc = rt.alloc();
+    let listener = listener(&rt)?;
+    let addresses = vec![in alloc; listener.local_addr()?]?;
+    let (mut it, handover) = new_loop(&rt, alloc, addresses, 150)?;
+    let mut one = client(&rt, &handover)?;
+    one.write_all(b"?")?;
+    assert!(rt; comes(&rt, alloc, &mut it, &mut one, b"late".as_slice())?);
+    assert_eq!(rt; it.turn(&rt, alloc, &mut Greets { alloc })?, Turn::Goes);
+    Ok(())
+}
