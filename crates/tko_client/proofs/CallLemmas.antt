@@ -12,12 +12,11 @@ use Rattle.tko_route.specs.declared.attempt.Attempt.{Attempt}
 use Rattle.tko_route.specs.declared.routing.Stage.{Stage}
 use Rattle.tko_route.specs.declared.routing.Stage.TheVariants as stage
 use Rattle.tko_text.specs.declared.request.Request.{Request}
-use Rattle.tko_reply.specs.Asking.{Course, Goes, Settles}
+use Rattle.tko_reply.specs.Asking.{Course, Goes}
 use Rattle.tko_reply.specs.Ghosts.{PartsGhosts}
 use Rattle.tko_reply.specs.Interactions.{Interacts, Made, with_health, with_noted}
 use Rattle.tko_reply.specs.Sends.{IsSent}
-use Rattle.tko_reply.specs.Standing.{Asking, Standing, answer_state}
-use Rattle.tko_reply.specs.Standing as standing
+use Rattle.tko_reply.specs.Standing.{Asking}
 use Rattle.tko_reply.specs.declared.asking.OneKey.{OneKey}
 use Rattle.tko_reply.specs.declared.parts.Parts.{Parts}
 use Rattle.tko_reply.proofs.InteractionLemmas.{gains_told}
@@ -57,25 +56,24 @@ at_asks : {said : Step} (at : Progress) → said ≡ step.At at → asked_in (we
 at_asks at is = ap (λ s. asked_in (went_from s)) is ∙ none_asked at
 
 -- where a send is out, the permission names its server
-abbrev pub NamesAt : Standing → Type 0
-NamesAt (standing.Asks clear it) = it.waiting.server ≡ clear
-NamesAt (standing.Tried trail one) = Unit {0}
+abbrev pub NamesAt : Stage → Type 0
+NamesAt (stage.Away clear waiting) = waiting.server ≡ clear
+NamesAt (stage.Done trail) = Unit {0}
 
-settled_names : (at : Standing) (outbox outbox' : List ℕ) (targets : List ℕ) (form : ℕ → Request) (calls : List Call) (to : Stage) (one : OneKey)
-    → Reached targets form calls to → Settles to one outbox (answer_state at outbox') → NamesAt at
-settled_names at outbox outbox' targets form calls (stage.Away clear waiting) one reached (is, same) = subst NamesAt (sym is) (sym reached.1)
-settled_names at outbox outbox' targets form calls (stage.Done routed) one reached ends = subst NamesAt (sym ends.at) tt
+reached_names : (at : Stage) (targets : List ℕ) (form : ℕ → Request) (calls : List Call) → Reached targets form calls at → NamesAt at
+reached_names (stage.Away clear waiting) targets form calls (awaited, names, found) = sym names
+reached_names (stage.Done trail) targets form calls reached = tt
 
-goes_names : {course : Course} {calls : List Call} {outbox outbox' : List ℕ} {at : Standing} → Goes course calls outbox (answer_state at outbox') → NamesAt at
-goes_names {course} {calls} {outbox} {outbox'} {at} goes = settled_names at outbox outbox' course.targets course.form calls goes.stage _ goes.reached goes.settles
+goes_names : {course : Course} {calls : List Call} {outbox outbox' : List ℕ} {at : Stage} {one : OneKey} → Goes course calls outbox at one outbox' → NamesAt at
+goes_names {course} {calls} {at = at} goes = reached_names at course.targets course.form calls goes.reached
 
-names_awaits : (at : Standing) → NamesAt at → awaited_in (work_of at) ≡ asked_in (went_from (step_of at))
-names_awaits (standing.Asks clear it) names = ap Some names
-names_awaits (standing.Tried trail one) names = refl
+names_awaits : (at : Stage) (one : OneKey) → NamesAt at → awaited_in (work_of at one) ≡ asked_in (went_from (step_of at))
+names_awaits (stage.Away clear waiting) one names = ap Some names
+names_awaits (stage.Done trail) one names = refl
 
-keyed_began : (at : Standing) (w : Work) → BeganAt (step_of at) w
-keyed_began (standing.Asks clear it) w = tt
-keyed_began (standing.Tried trail one) w = tt
+stage_began : (at : Stage) (w : Work) → BeganAt (step_of at) w
+stage_began (stage.Away clear waiting) w = tt
+stage_began (stage.Done trail) w = tt
 
 -- a call that said this leaves the session so
 abbrev LeavesAt : Step → Work → Type 0
@@ -88,8 +86,8 @@ module _ {config : Configuration} where
   key_leaves : {one : OneKey} {old : SessionState} {calls : List Call} {said : Step} {new : SessionState} → KeyBegun config one old calls said new → LeavesAt said new.work
   key_leaves {said = said} {new} is =
       let to = ap (λ (s : SessionState). s.work) is.state in (
-        ap awaited_in to ∙ names_awaits is.at (goes_names is.goes) ∙ ap (λ s. asked_in (went_from s)) (sym is.says),
-        subst (λ s. BeganAt s new.work) (sym is.says) (keyed_began is.at new.work),
+        ap awaited_in to ∙ names_awaits is.at is.key (goes_names is.goes) ∙ ap (λ s. asked_in (went_from s)) (sym is.says),
+        subst (λ s. BeganAt s new.work) (sym is.says) (stage_began is.at new.work),
       )
 
   key_lost : {one : OneKey} {old : SessionState} {calls : List Call} {attempts : List Attempt} {new : SessionState} → KeyDropped config one old calls attempts new → new.work ≡ work.Between
@@ -135,8 +133,8 @@ module _ (config : Configuration) (old : SessionState) (said : Step) (new : Sess
   taken_leaves : (it : Asking) (outcome : Outcome) (calls : List Call) → IsSent config old.targets it → OutcomeTaken config it outcome old calls said new → LeavesAt said new.work
   taken_leaves it outcome calls sent is =
       let to = ap (λ (s : SessionState). s.work) is.state in (
-        ap awaited_in to ∙ names_awaits is.at (goes_names (is.goes sent.original sent.calls sent.form sent.found)) ∙ ap (λ s. asked_in (went_from s)) (sym is.says),
-        subst (λ s. BeganAt s new.work) (sym is.says) (keyed_began is.at new.work),
+        ap awaited_in to ∙ names_awaits is.at is.key (goes_names (is.goes sent.original sent.calls sent.form sent.found)) ∙ ap (λ s. asked_in (went_from s)) (sym is.says),
+        subst (λ s. BeganAt s new.work) (sym is.says) (stage_began is.at new.work),
       )
 
   pub took_awaits : (it : Asking) (outcome : Outcome) (calls : List Call) → IsSent config old.targets it → OutcomeTaken config it outcome old calls said new

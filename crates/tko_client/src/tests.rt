@@ -11,7 +11,7 @@ use tko_model::{OneGroup, Plain};
 use tko_mux::{Delivery, Mux};
 use tko_pipe::ShutCause;
 use tko_pools::Config;
-use tko_port::{Event, Guest, MemoryPort, Shared, Turned};
+use tko_port::{Event, Guest, MemoryPort, Presence, Shared, Turned};
 use tko_prober::{Backend, Delays, Probers};
 use tko_route::PlainHealth;
 use tko_session::{Kept, Parts};
@@ -64,6 +64,7 @@ fn two_clients<'r, R: Wait + Net<Stream = TcpStream> + Clock>(
         mux.open(Guest {
             port: MemoryPort::new(alloc, input.to_vec(alloc)?, room),
             talk: EventClient::new(alloc),
+            presence: Presence::Here,
         })?;
     }
     Ok(mux)
