@@ -81,7 +81,8 @@ impl Entrance {
         patience: Patience,
         log: Log,
     ) -> Entrance
-        ensures { result.has_worker ≡ true }
+        ensures worker { result.has_worker ≡ true }
+        ensures patience { result.patience ≡ patience }
     {
         Entrance {
             room,
