@@ -42,11 +42,19 @@ mark_sample metric address mark number =
     sample_front metric address ++ (codes ",mark=\"" ++ mark ++ codes "\"} ")
     ++ (decimal number ++ codes "\n")
 
+-- how many milliseconds a second has
+abbrev pub second : ℕ
+second = 1000
+
+-- a number below 1,000 as three digits
+abbrev pub three_digits : ℕ → List ℕ
+three_digits number =
+    decimal (number / 100) ++ decimal (number / 10 % 10) ++ decimal (number % 10)
+
 -- milliseconds as seconds, with three digits behind the point
 unfoldable pub seconds_text : ℕ → List ℕ
 seconds_text moment =
-    decimal (moment / 1000) ++ codes "." ++ decimal (moment / 100 % 10)
-    ++ decimal (moment / 10 % 10) ++ decimal (moment % 10)
+    decimal (moment / second) ++ codes "." ++ three_digits (moment % second)
 
 -- a sample of a server that is a moment, in milliseconds
 unfoldable pub moment_sample : Metric → List ℕ → ℕ → List ℕ

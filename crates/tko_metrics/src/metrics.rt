@@ -43,6 +43,10 @@ impl Kind {
     }
 }
 
+/// The help text of `Metric::Dropped`.
+const DROPPED: &str =
+    "Connections that were closed as they were accepted: no memory, or a socket's fault.";
+
 impl Metric {
     pub(crate) fn name(self) -> &'static str
         ensures { result.now ≡ name_of self }
@@ -76,9 +80,7 @@ impl Metric {
         match self {
             Metric::Connected => "Clients that are connected, served or waiting for a worker.",
             Metric::Accepted => "Clients that were accepted and set up.",
-            Metric::Dropped => {
-                "Connections that were closed as they were accepted: no memory, or a socket's fault."
-            }
+            Metric::Dropped => DROPPED,
             Metric::Sessions => "Sessions of clients that have ended.",
             Metric::Faults => "Sessions that ended by a fault.",
             Metric::Requests => "Requests that were read.",

@@ -1,11 +1,14 @@
 //! The text format of Prometheus.
 ghost use Rattle.std.specs.Prelude.{◌≡◌, ◌++◌, OnOk, decimal};
-ghost use Rattle.tko_metrics.specs.Samples.{escaped_byte, head_of, kind_sample, mark_sample, moment_sample, sample_front, seconds_text, server_sample, single};
+ghost use Rattle.tko_metrics.specs.Samples.{escaped_byte, head_of, kind_sample, mark_sample, moment_sample, sample_front, seconds_text, server_sample, single, three_digits};
 
 use crate::metrics::Metric;
 use crate::worker_meter::Ending;
 use itoa::Buffer;
 use tko_bytes::{NoMemory, append};
+
+/// How many milliseconds a second has.
+const SECOND: u64 = 1_000;
 
 /// Appends the lines before a metric's samples.
 #[tactic(auto, unfolding(crate::specs::Samples::head_of))]
@@ -111,11 +114,18 @@ pub(crate) fn add_of_moment(
 fn add_seconds(out: &mut Vec<u8>, moment: u64) -> Result<(), NoMemory>
     ensures { OnOk result (out.new.items ≡ out.old.items ++ seconds_text moment) }
 {
-    add_digits(out, moment / 1000)?;
+    add_digits(out, moment / SECOND)?;
     append(out, &[b"."])?;
-    add_digits(out, moment / 100 % 10)?;
-    add_digits(out, moment / 10 % 10)?;
-    add_digits(out, moment % 10)
+    add_three_digits(out, moment % SECOND)
+}
+
+/// Appends a number below 1,000 as three digits.
+fn add_three_digits(out: &mut Vec<u8>, number: u64) -> Result<(), NoMemory>
+    ensures { OnOk result (out.new.items ≡ out.old.items ++ three_digits number) }
+{
+    add_digits(out, number / 100)?;
+    add_digits(out, number / 10 % 10)?;
+    add_digits(out, number % 10)
 }
 
 fn add_digits(out: &mut Vec<u8>, number: u64) -> Result<(), NoMemory>
