@@ -1,5 +1,5 @@
 //! The sessions of a worker's clients, and the lines to the servers that they wait on.
-ghost use Rattle.std.specs.Prelude.{◌≡◌, ◌<◌, ℕ, None, Some, IfNone, IfSome, IsSome, IfOk, OnErr, OnOk, length, replicate};
+ghost use Rattle.std.specs.Prelude.{◌≡◌, ◌<◌, ℕ, None, Some, IfErr, IfNone, IfSome, IsSome, IfOk, OnErr, OnOk, length, option_copied, option_map, replicate};
 ghost use Rattle.std.specs.Bool.{OnFalse, OnTrue};
 ghost use Rattle.tko_pipe.specs.Pipes.{pushing};
 ghost use Rattle.tko_roster.specs.Rosters.{AreReady, IfHas, IsAdmitted, IsReleased, session_at};
@@ -38,16 +38,21 @@ impl<S, P> Model for Mux<S, P> {
 }
 
 impl<P: Drop, S: Asking<P> + Drop> Mux<S, P> {
-    /// Nobody has a number, and there is no connection to any of so many servers.
-    pub fn new(alloc: Global, parts: P, servers: usize, limit: u64) -> Result<Mux<S, P>, NoMemory>
+    /// Nobody has a number, and there is no connection to any of so many servers. If memory runs
+    /// out, the parts come back.
+    pub fn new(alloc: Global, parts: P, servers: usize, limit: u64) -> Result<Mux<S, P>, P>
         ensures state { IfOk result (λ mux. mux ≡ begun_with limit parts servers) }
+        ensures err { IfErr result (λ back. back ≡ parts) }
         ensures ready { IfOk result (λ mux. AreReady ⟦<Client<S> as Driven<P>>⟧.ready mux.roster) }
         ensures linked { IfOk result (λ mux. AreLinked S.awaited mux.roster.slots mux.lines) }
     {
+        let Ok(lines) = idle_lines(alloc, servers) else {
+            return Err(parts);
+        };
         Ok(Mux {
             limit,
             roster: Roster::new(alloc, parts),
-            lines: idle_lines(alloc, servers)?,
+            lines,
         })
     }
 }
@@ -98,6 +103,24 @@ impl<P, S: Asking<P> + Drop> Mux<S, P> {
         match self.roster.get(number) {
             Some(client) => client.session.awaited().is_none(),
             None => false,
+        }
+    }
+
+    /// Each number that has a session is below this one.
+    pub fn numbers(&self) -> usize
+        ensures { result ≡ length self.now.roster.slots }
+    {
+        self.roster.numbers()
+    }
+
+    /// The session of a number.
+    pub fn get(&self, number: usize) -> Option<&S>
+        ensures { option_copied result
+            ≡ option_map (λ client. client.session) (session_at self.now.roster.slots number) }
+    {
+        match self.roster.get(number) {
+            Some(client) => Some(&client.session),
+            None => None,
         }
     }
 
@@ -161,7 +184,7 @@ impl<P, S: Asking<P> + Drop> Mux<S, P> {
         requires stays { (old new : P) → V.stays old new → S.stays old new }
         requires ready { AreReady ⟦<Client<S> as Driven<P>>⟧.ready self.old.roster }
         requires linked { AreLinked S.awaited self.old.roster.slots self.old.lines }
-        ensures does { V.does self.old.roster.parts result self.new.roster.parts }
+        ensures does { V.does visit self.old.roster.parts result self.new.roster.parts }
         ensures slots { self.new.roster.slots ≡ self.old.roster.slots }
         ensures lines { self.new.lines ≡ self.old.lines }
         ensures limit { self.new.limit ≡ self.old.limit }

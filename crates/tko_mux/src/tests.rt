@@ -111,7 +111,9 @@ fn two_wait(alloc: Global) -> Result<Mux<Caller, ()>, Fail>
     ensures linked { IfOk result (λ mux.
         AreLinked ⟦<Caller as Asking<()>>⟧.awaited mux.roster.slots mux.lines) }
 {
-    let mut mux = Mux::new(alloc, (), 2, 100)?;
+    let Ok(mut mux) = Mux::new(alloc, (), 2, 100) else {
+        return Err("no memory".into());
+    };
     come(alloc, &mut mux)?;
     come(alloc, &mut mux)?;
     Ok(mux)

@@ -79,6 +79,13 @@ impl<P, S: Driven<P> + Drop> Roster<S, P> {
         parts
     }
 
+    /// Each number that has a session is below this one.
+    pub fn numbers(&self) -> usize
+        ensures { result ≡ length self.now.slots }
+    {
+        self.slots.len()
+    }
+
     /// The session of a number, if it has one.
     pub fn get(&self, number: usize) -> Option<&S>
         ensures { option_copied result ≡ session_at self.now.slots number }
@@ -130,7 +137,7 @@ impl<P, S: Driven<P> + Drop> Roster<S, P> {
     pub fn visit<V: Visit<P>>(&mut self, visit: V) -> V::Output
         requires stays { (old new : P) → V.stays old new → S.stays old new }
         requires ready { AreReady S.ready self.old }
-        ensures does { V.does self.old.parts result self.new.parts }
+        ensures does { V.does visit self.old.parts result self.new.parts }
         ensures slots { self.new.slots ≡ self.old.slots }
         ensures ready { AreReady S.ready self.new }
     {

@@ -4,13 +4,13 @@
 pub trait Visit<P> {
     type Output;
 
-    /// What it does to the parts, and what it returns.
-    ghost does: { P → Self.Output → P → Type 0 };
+    /// What this visit does to the parts, and what it returns.
+    ghost does: { Self → P → Self.Output → P → Type 0 };
 
     /// What it leaves of the parts.
     ghost stays: { P → P → Type 0 };
 
     fn visit(self, parts: &mut P) -> Self::Output
-        ensures does { does parts.old result parts.new }
+        ensures does { does self parts.old result parts.new }
         ensures stays { stays parts.old parts.new };
 }
