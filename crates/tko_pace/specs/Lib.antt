@@ -1,0 +1,3 @@
+pub mod ClientTimes
+pub mod Pacing
+pub mod Silence
