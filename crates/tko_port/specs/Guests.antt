@@ -10,8 +10,8 @@ use Rattle.tko_port.specs.declared.guest.Presence.TheVariants.{Here, Leaving}
 use Rattle.tko_port.specs.declared.guest.Shared.{Shared}
 use Rattle.tko_port.specs.declared.guest.Turned.{Turned}
 use Rattle.tko_port.specs.declared.guest.Turned.TheVariants.{Asks, Ends, Noted, Rests, Spent, Took}
-use Rattle.tko_port.specs.declared.settling.End.TheVariants.{Finished, Left, Memory, ReadFault, WriteFault}
-use Rattle.tko_port.specs.declared.talking.Stage.TheVariants.{Over}
+use Rattle.tko_port.specs.declared.settling.End.TheVariants.{Finished, LineTooLong, Memory, ReadFailed, WriteFailed}
+use Rattle.tko_port.specs.declared.talking.Stage.TheVariants.{Over, TooLong}
 use Rattle.tko_port.specs.Ports.{PortState, now_readable, now_writable}
 use Rattle.tko_port.specs.Rests.{AtRest, RestsAt}
 use Rattle.tko_port.specs.Talks.{Talk}
@@ -21,7 +21,7 @@ abbrev pub MayServe : Event → Option ℕ → Type 0
 MayServe Readable awaited = Unit {0}
 MayServe Writable awaited = Unit {0}
 MayServe Ended awaited = Unit {0}
-MayServe Leave awaited = Unit {0}
+MayServe (Leave why) awaited = Unit {0}
 MayServe Serve awaited = awaited ≡ None
 
 -- it asks a server exactly if it says so
@@ -39,10 +39,10 @@ ServedAs Asks talk port = Unit {0}
 ServedAs Rests talk port = RestsAt talk.stage talk.output port
 ServedAs Spent talk port = Unit {0}
 ServedAs (Ends Finished) talk port = (talk.stage ≡ Over) × (talk.output ≡ [])
+ServedAs (Ends LineTooLong) talk port = (talk.stage ≡ TooLong) × (talk.output ≡ [])
 ServedAs (Ends Memory) talk port = Unit {0}
-ServedAs (Ends ReadFault) talk port = Unit {0}
-ServedAs (Ends WriteFault) talk port = Unit {0}
-ServedAs (Ends Left) talk port = ⊥
+ServedAs (Ends ReadFailed) talk port = Unit {0}
+ServedAs (Ends WriteFailed) talk port = Unit {0}
 ServedAs Noted talk port = ⊥
 ServedAs Took talk port = ⊥
 
@@ -66,7 +66,7 @@ abbrev pub IsNotice : Event → Type 0
 IsNotice Readable = Unit {0}
 IsNotice Writable = Unit {0}
 IsNotice Ended = Unit {0}
-IsNotice Leave = Unit {0}
+IsNotice (Leave why) = Unit {0}
 IsNotice Serve = ⊥
 
 -- what that does to the client's port
@@ -74,7 +74,7 @@ abbrev pub noting : Event → PortState → PortState
 noting Readable port = now_readable port
 noting Writable port = now_writable port
 noting Ended port = now_readable port
-noting Leave port = port
+noting (Leave why) port = port
 noting Serve port = port
 
 -- whether the client is still served after it
@@ -82,14 +82,15 @@ abbrev pub presence_after : Event → Presence → Presence
 presence_after Readable presence = presence
 presence_after Writable presence = presence
 presence_after Ended presence = presence
-presence_after Leave presence = Leaving
+presence_after (Leave why) presence = Leaving why
 presence_after Serve presence = presence
 
--- what serving it does: one that leaves ends, and nothing is read from it or written to it
+-- what serving it does: one that leaves ends as it was to, and nothing is read from it or written
+-- to it
 abbrev pub ServesAs : Presence → Option ℕ → Turned → Seen → Seen → Type 0
 ServesAs Here asked did old new =
     ServedAs did new.talk new.port × AsksIf did asked × (new.presence ≡ Here)
-ServesAs Leaving asked did old new = (did ≡ Ends Left) × (asked ≡ None) × (new ≡ old)
+ServesAs (Leaving why) asked did old new = (did ≡ Ends why) × (asked ≡ None) × (new ≡ old)
 
 -- what a call does to it: an event is noted at its port, and its session stays; or it is served; or
 -- its session takes what came, and its port stays
@@ -100,8 +101,8 @@ GuestDoes (Input Writable) asked did old new =
     (did ≡ Noted) × (new ≡ record old { port = now_writable old.port })
 GuestDoes (Input Ended) asked did old new =
     (did ≡ Noted) × (new ≡ record old { port = now_readable old.port })
-GuestDoes (Input Leave) asked did old new =
-    (did ≡ Noted) × (new ≡ record old { presence = Leaving })
+GuestDoes (Input (Leave why)) asked did old new =
+    (did ≡ Noted) × (new ≡ record old { presence = Leaving why })
 GuestDoes (Input Serve) asked did old new = ServesAs old.presence asked did old new
 GuestDoes (Outcome came) asked did old new =
     (did ≡ Took) × (new.port ≡ old.port) × (new.presence ≡ old.presence)
@@ -112,7 +113,7 @@ abbrev pub EventKeeps : {L T P : Type 0} → Given Event → Guest L T × Shared
 EventKeeps (Input Readable) old new = (new.0.talk ≡ old.0.talk) × (new.1 ≡ old.1)
 EventKeeps (Input Writable) old new = (new.0.talk ≡ old.0.talk) × (new.1 ≡ old.1)
 EventKeeps (Input Ended) old new = (new.0.talk ≡ old.0.talk) × (new.1 ≡ old.1)
-EventKeeps (Input Leave) old new = (new.0.talk ≡ old.0.talk) × (new.1 ≡ old.1)
+EventKeeps (Input (Leave why)) old new = (new.0.talk ≡ old.0.talk) × (new.1 ≡ old.1)
 EventKeeps (Input Serve) old new = Unit {0}
 EventKeeps (Outcome came) old new = Unit {0}
 
@@ -127,7 +128,7 @@ pub record IsGuestCall {L T P : Type 0} (awaited : T → Option ℕ) (talk : T �
 -- request of it is under way
 abbrev pub RestsBy : Presence → Seen → Type 0
 RestsBy Here it = AtRest it.awaited it.talk it.port
-RestsBy Leaving it = IsSome it.awaited
+RestsBy (Leaving why) it = IsSome it.awaited
 
 abbrev pub IsResting : Seen → Type 0
 IsResting it = RestsBy it.presence it

@@ -1,10 +1,10 @@
 -- When nothing can be done for a client before its next event, and what was done until then.
 use Rattle.std.specs.Prelude.{◌≡◌, ◌≢◌, ℕ, false, List, [], Option, Some, None}
-use Rattle.tko_port.specs.declared.settling.End.TheVariants.{Finished, Left, Memory, ReadFault, WriteFault}
+use Rattle.tko_port.specs.declared.settling.End.TheVariants.{Finished, LineTooLong, Memory, ReadFailed, WriteFailed}
 use Rattle.tko_port.specs.declared.settling.Settled.{Settled}
 use Rattle.tko_port.specs.declared.settling.Settled.TheVariants.{Asks, Ends, Rests, Spent}
 use Rattle.tko_port.specs.declared.talking.Stage.{Stage}
-use Rattle.tko_port.specs.declared.talking.Stage.TheVariants.{Full, Going, NeedsInput, Over}
+use Rattle.tko_port.specs.declared.talking.Stage.TheVariants.{Full, Going, NeedsInput, Over, TooLong}
 use Rattle.tko_port.specs.Ports.{PortState}
 use Rattle.tko_port.specs.Talks.{Talk}
 
@@ -20,6 +20,7 @@ RestsAt Going output port = ⊥
 RestsAt Full output port = port.writable ≡ false
 RestsAt NeedsInput output port = (port.readable ≡ false) × CannotWrite output port
 RestsAt Over output port = (output ≢ []) × (port.writable ≡ false)
+RestsAt TooLong output port = (output ≢ []) × (port.writable ≡ false)
 
 -- nothing can be done for a client before its next event, where it awaits this server, if it does:
 -- a request of it is under way, or nothing can be done at its stage
@@ -42,7 +43,7 @@ SettledAs (Asks server) talk port = Unit {0}
 SettledAs Rests talk port = RestsAt talk.stage talk.output port
 SettledAs Spent talk port = Unit {0}
 SettledAs (Ends Finished) talk port = (talk.stage ≡ Over) × (talk.output ≡ [])
+SettledAs (Ends LineTooLong) talk port = (talk.stage ≡ TooLong) × (talk.output ≡ [])
 SettledAs (Ends Memory) talk port = Unit {0}
-SettledAs (Ends ReadFault) talk port = Unit {0}
-SettledAs (Ends WriteFault) talk port = Unit {0}
-SettledAs (Ends Left) talk port = ⊥
+SettledAs (Ends ReadFailed) talk port = Unit {0}
+SettledAs (Ends WriteFailed) talk port = Unit {0}

@@ -1,13 +1,26 @@
 -- A client's session as its port sees it.
-use Rattle.std.specs.Prelude.{◌≢◌, ℕ, List, [], Option}
+use Rattle.std.specs.Prelude.{◌≢◌, ℕ, ◌+◌, ◌-◌, ◌^◌, List, [], Option, length, min}
 use Rattle.tko_mux.specs.declared.asking.Came.{Came}
 use Rattle.tko_port.specs.declared.talking.Stage.{Stage}
-use Rattle.tko_port.specs.declared.talking.Stage.TheVariants.{Full, Going, NeedsInput, Over}
+use Rattle.tko_port.specs.declared.talking.Stage.TheVariants.{Full, Going, NeedsInput, Over, TooLong}
+use Rattle.tko_port.specs.declared.talking.Tally.{Tally}
 
--- how far it is while no request of it is under way, and the replies that wait to be written
+-- how far it is while no request of it is under way; the replies that wait to be written; how many
+-- of its requests were answered, and how many bytes of its replies were written
 pub record Talk : Type 0 where
   pub stage : Stage
   pub output : List ℕ
+  pub answered : ℕ
+  pub taken : ℕ
+
+-- what is told of it
+abbrev pub tally_of : Talk → Tally
+tally_of talk =
+    record { requests = talk.answered; taken = talk.taken; waiting = length talk.output }
+
+-- so many more bytes were written; the number stays at 2^64 - 1
+abbrev pub taken_more : ℕ → ℕ → ℕ
+taken_more taken count = min (taken + count) (2 ^ 64 - 1)
 
 -- what is done with a session
 pub data TalkItem : Type 0 where
@@ -25,3 +38,4 @@ HasReplies Full output = output ≢ []
 HasReplies Going output = Unit {0}
 HasReplies NeedsInput output = Unit {0}
 HasReplies Over output = Unit {0}
+HasReplies TooLong output = Unit {0}

@@ -25,8 +25,8 @@ pub enum Event {
     Writable,
     /// An event said that the client sends no more.
     Ended,
-    /// It is to leave.
-    Leave,
+    /// It is to leave, and ends so.
+    Leave(End),
     /// It is to be served.
     Serve,
 }
@@ -35,9 +35,9 @@ pub enum Event {
 #[derive(Clone, Copy, Debug, PartialEq, Eq)]
 pub enum Presence {
     Here,
-    /// It leaves as soon as no request of it is under way. Nothing is read from it or written to it
-    /// any more.
-    Leaving,
+    /// It leaves as soon as no request of it is under way, and ends so. Nothing is read from it or
+    /// written to it any more.
+    Leaving(End),
 }
 
 /// What that came to.
@@ -100,13 +100,13 @@ impl<P, L: Port, T: Talking<P>> Asking<Shared<P>> for Guest<L, T> {
                 self.port.set_ended();
                 (None, Turned::Noted)
             }
-            Event::Leave => {
-                self.presence = Presence::Leaving;
+            Event::Leave(why) => {
+                self.presence = Presence::Leaving(why);
                 (None, Turned::Noted)
             }
             Event::Serve => match self.presence {
                 Presence::Here => serve(&mut self.port, &mut self.talk, shared),
-                Presence::Leaving => (None, Turned::Ends(End::Left)),
+                Presence::Leaving(why) => (None, Turned::Ends(why)),
             },
         }
     }

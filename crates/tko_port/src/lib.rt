@@ -3,7 +3,8 @@
 //!
 //! - `Port`: a socket that does not wait, with what may be done on it; `Read`: what a read gave;
 //!   `MemoryPort`: one in memory.
-//! - `Talking`: a client's session as its port sees it; `Stage`: how far it is.
+//! - `Talking`: a client's session as its port sees it; `Stage`: how far it is; `Tally`: what was
+//!   done with it.
 //! - `settle`: serves a client until nothing can be done for it before its next event; `Settled`:
 //!   what that came to; `End`: why a client's session ended.
 //! - `Guest`: a client with its port, its session and its `Presence`; `Event`: what it is given;
@@ -26,7 +27,7 @@ pub use memory::MemoryPort;
 pub use peer::Peer;
 pub use port::{Port, Read};
 pub use settling::{End, Settled, settle};
-pub use talking::{Stage, Talking};
+pub use talking::{Stage, Talking, Tally};
 pub use wire::{
     first_due, has_unwritten, is_connected, is_connecting, is_late, is_open, read_wire, write_wire,
 };

@@ -120,7 +120,7 @@ fn note_at<L: Port>(port: &mut L, event: Event)
         Event::Readable => port.set_readable(),
         Event::Writable => port.set_writable(),
         Event::Ended => port.set_ended(),
-        Event::Leave => {}
+        Event::Leave(_) => {}
         Event::Serve => {}
     }
 }

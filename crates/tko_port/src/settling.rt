@@ -16,12 +16,12 @@ const ROUNDS: u32 = 16;
 pub enum End {
     /// It took all its input, and its replies were written.
     Finished,
+    /// The same, but that its last line was too long.
+    LineTooLong,
     /// Memory ran out for it.
     Memory,
-    ReadFault,
-    WriteFault,
-    /// It was to leave, and no request of it was under way any more.
-    Left,
+    ReadFailed,
+    WriteFailed,
 }
 
 /// What serving a client came to.
@@ -109,8 +109,20 @@ fn serve_here<P, L: Port, T: Talking<P>>(
         Stage::Going => Some(Settled::Spent),
         Stage::Full => Some(Settled::Rests),
         Stage::NeedsInput => read_in(port, talk, parts, buffer),
-        Stage::Over if has_output::<P, _>(talk) => Some(Settled::Rests),
-        Stage::Over => Some(Settled::Ends(End::Finished)),
+        Stage::Over => over::<P, _>(talk, End::Finished),
+        Stage::TooLong => over::<P, _>(talk, End::LineTooLong),
+    }
+}
+
+/// A session that takes no more input rests while replies wait, and ends so once all were written.
+fn over<P, T: Talking<P>>(talk: &T, why: End) -> Option<Settled>
+    ensures rests { (T.talk talk.now).output ≢ [] → result ≡ Some Settled.Rests }
+    ensures ends { (T.talk talk.now).output ≡ [] → result ≡ Some (Settled.Ends why) }
+{
+    if has_output::<P, _>(talk) {
+        Some(Settled::Rests)
+    } else {
+        Some(Settled::Ends(why))
     }
 }
 
@@ -142,7 +154,7 @@ fn write_out<P, L: Port, T: Talking<P>>(
     requires ready { T.ready parts.old talk.old }
     requires here { T.awaited talk.old ≡ None }
     requires writable { (L.port port.old).writable ≡ true }
-    ensures ends { IfSome result (λ settled. settled ≡ Settled.Ends End.WriteFault) }
+    ensures ends { IfSome result (λ settled. settled ≡ Settled.Ends End.WriteFailed) }
     ensures asks { IfSome result (λ settled. T.awaited talk.new ≡ None) }
     ensures here { IfNone result (T.awaited talk.new ≡ None) }
     ensures ready { T.ready parts.new talk.new }
@@ -153,7 +165,7 @@ fn write_out<P, L: Port, T: Talking<P>>(
             talk.sent(parts, count);
             None
         }
-        None => Some(Settled::Ends(End::WriteFault)),
+        None => Some(Settled::Ends(End::WriteFailed)),
     }
 }
 
@@ -189,6 +201,6 @@ fn read_in<P, L: Port, T: Talking<P>>(
             talk.end(parts);
             None
         }
-        Read::Fault => Some(Settled::Ends(End::ReadFault)),
+        Read::Fault => Some(Settled::Ends(End::ReadFailed)),
     }
 }

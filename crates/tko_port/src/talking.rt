@@ -16,13 +16,26 @@ pub enum Stage {
     NeedsInput,
     /// It takes no more input.
     Over,
+    /// It takes no more input, since its last line was too long.
+    TooLong,
+}
+
+/// What was done with a session, and what is left of it.
+#[derive(Clone, Copy, Debug, PartialEq, Eq)]
+pub struct Tally {
+    /// How many of its requests were answered; the greatest number means that many or more.
+    pub requests: u64,
+    /// How many bytes of its replies were written; the greatest number means that many or more.
+    pub taken: u64,
+    /// How many bytes of its replies wait to be written.
+    pub waiting: usize,
 }
 
 /// A client's session over parts of type `P`, which all sessions of a worker share.
 pub trait Talking<P> {
     ghost use Rattle.std.specs.Prelude.{◌≡◌, ◌≤◌, ◌++◌, ℕ, List, [], None, Option, Some, IfOk, IsSome, OnErr, OnOk, drop, length};
     ghost use Rattle.tko_port.specs.declared.talking.Stage.TheVariants.{NeedsInput};
-    ghost use Rattle.tko_port.specs.Talks.{Dropped, Ended, Fed, HasReplies, NotFed, Sent, Talk, TalkItem, Took, Went};
+    ghost use Rattle.tko_port.specs.Talks.{Dropped, Ended, Fed, HasReplies, NotFed, Sent, Talk, TalkItem, Took, Went, tally_of, taken_more};
     ghost use Rattle.tko_text.specs.declared.request.Request.{Request};
     ghost use Rattle.tko_mux.specs.Asks.{IsTaking};
 
@@ -53,6 +66,7 @@ pub trait Talking<P> {
         ensures err { OnErr result (does (self.old, parts.old) Dropped (self.new, parts.new)) }
         ensures asks { IfOk result (λ asked. awaited self.new ≡ asked) }
         ensures here { OnErr result (awaited self.new ≡ None) }
+        ensures taken { (talk self.new).taken ≡ (talk self.old).taken }
         ensures replies { HasReplies (talk self.new).stage (talk self.new).output }
         ensures ready { ready parts.new self.new }
         ensures stays { stays parts.old parts.new };
@@ -66,6 +80,10 @@ pub trait Talking<P> {
         ensures front { (rest : List ℕ) × ((talk self.now).output ≡ result.now ++ rest) }
         ensures some { result.now ≡ [] → (talk self.now).output ≡ [] };
 
+    /// How much was done with it, and is left of it.
+    fn tally(&self) -> Tally
+        ensures { result ≡ tally_of (talk self.now) };
+
     /// Drops the first `count` bytes of the replies, which were written.
     fn sent(&mut self, parts: &mut P, count: usize)
         requires ready { ready parts.old self.old }
@@ -73,6 +91,7 @@ pub trait Talking<P> {
         requires within { count ≤ length (talk self.old).output }
         ensures does { does (self.old, parts.old) (Sent count) (self.new, parts.new) }
         ensures output { (talk self.new).output ≡ drop count (talk self.old).output }
+        ensures taken { (talk self.new).taken ≡ taken_more (talk self.old).taken count }
         ensures here { awaited self.new ≡ None }
         ensures ready { ready parts.new self.new }
         ensures stays { stays parts.old parts.new };
@@ -85,6 +104,7 @@ pub trait Talking<P> {
         ensures ok { OnOk result (does (self.old, parts.old) (Fed piece.now)
             (self.new, parts.new)) }
         ensures err { OnErr result (does (self.old, parts.old) NotFed (self.new, parts.new)) }
+        ensures taken { (talk self.new).taken ≡ (talk self.old).taken }
         ensures here { awaited self.new ≡ None }
         ensures ready { ready parts.new self.new }
         ensures stays { stays parts.old parts.new };
@@ -95,6 +115,7 @@ pub trait Talking<P> {
         requires here { awaited self.old ≡ None }
         requires needs { (talk self.old).stage ≡ NeedsInput }
         ensures does { does (self.old, parts.old) Ended (self.new, parts.new) }
+        ensures taken { (talk self.new).taken ≡ (talk self.old).taken }
         ensures here { awaited self.new ≡ None }
         ensures ready { ready parts.new self.new }
         ensures stays { stays parts.old parts.new };
@@ -106,6 +127,7 @@ pub trait Talking<P> {
         requires awaits { IsSome (awaited self.old) }
         ensures does { does (self.old, parts.old) (Took came result) (self.new, parts.new) }
         ensures asks { IsTaking came result (awaited self.new) }
+        ensures taken { (talk self.new).taken ≡ (talk self.old).taken }
         ensures ready { ready parts.new self.new }
         ensures stays { stays parts.old parts.new };
 
