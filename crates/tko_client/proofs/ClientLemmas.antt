@@ -26,6 +26,7 @@ needs_open course.NeedsInput is = refl
 needs_open course.Ended is = refl
 needs_open course.Over is = absurd (let never : ⊥ = cc in never)
 needs_open course.Short is = absurd (let never : ⊥ = cc in never)
+needs_open course.TooLong is = absurd (let never : ⊥ = cc in never)
 
 -- bytes came
 pub fed_act : (config : Configuration) (at : Course) (old new : SessionState) (piece : List ℕ) → stage_of at ≡ stage.NeedsInput → new ≡ fed_state old piece

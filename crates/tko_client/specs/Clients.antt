@@ -15,12 +15,13 @@ use Rattle.tko_session.specs.ManyClients.{ActsOn}
 use Rattle.tko_session.specs.Outgoing.{outgoing}
 use Rattle.tko_session.specs.Working.{Work}
 use Rattle.tko_session.specs.Working as work
+use Rattle.tko_text.specs.Reading.{Never, Reading}
 use Rattle.tko_text.specs.declared.request.Request.{Request}
 use Rattle.tko_port.specs.Talks.{Dropped, Ended, Fed, NotFed, Sent, Talk, TalkItem, Took, Went}
 use Rattle.tko_port.specs.declared.talking.Stage.{Stage}
 use Rattle.tko_port.specs.declared.talking.Stage.TheVariants as stage
 use Rattle.tko_client.specs.declared.client.Course.{Course}
-use Rattle.tko_client.specs.declared.client.Course.TheVariants.{Ended as CourseEnded, Full, Going, NeedsInput, Over, Short}
+use Rattle.tko_client.specs.declared.client.Course.TheVariants.{Ended as CourseEnded, Full, Going, NeedsInput, Over, Short, TooLong}
 use Rattle.tko_client.specs.declared.client.EventClient.{EventClient}
 use Rattle.tko_client.specs.Comings.{result_of}
 
@@ -31,6 +32,7 @@ stage_of NeedsInput = stage.NeedsInput
 stage_of CourseEnded = stage.Over
 stage_of Over = stage.Over
 stage_of Short = stage.Over
+stage_of TooLong = stage.TooLong
 
 abbrev pub phase_at : Course → ClientPhase
 phase_at Going = Open
@@ -39,6 +41,17 @@ phase_at NeedsInput = Open
 phase_at CourseEnded = Open
 phase_at Over = PhaseOver
 phase_at Short = PhaseShort
+phase_at TooLong = PhaseOver
+
+-- after a line that was too long nothing is read
+abbrev pub CourseReading : Course → Reading → Type 0
+CourseReading Going reading = Unit {0}
+CourseReading Full reading = Unit {0}
+CourseReading NeedsInput reading = Unit {0}
+CourseReading CourseEnded reading = Unit {0}
+CourseReading Over reading = Unit {0}
+CourseReading TooLong reading = reading.after ≡ Never
+CourseReading Short reading = Unit {0}
 
 -- the client of a worker that this is
 abbrev pub client_of : EventClient → Client
@@ -46,7 +59,12 @@ client_of it = client (phase_at it.course) it.session
 
 -- as its port sees it
 abbrev pub talk_of : EventClient → Talk
-talk_of it = record { stage = stage_of it.course; output = outgoing it.session }
+talk_of it = record {
+  stage = stage_of it.course;
+  output = outgoing it.session;
+  answered = it.session.requests;
+  taken = it.taken;
+}
 
 -- a client, and the parts that all share
 abbrev pub ClientOver : Type 0 → Type 0 → Type 0 → Type 0
@@ -83,10 +101,12 @@ module _ {H T C : Type 0} (ghosts : PartsGhosts H (List ℕ) T C) where
       ActsOn ghosts old.1.config old (life [] (take count old.0.session.outbox) []) new
   DoesAs (Took came asked) old new = HasTaken (result_of came) old new
 
--- it can be called with this configuration, and while a send is out for it its session is open
+-- it can be called with this configuration; while a send is out for it its session is open; and it
+-- is over for a line that was too long only where nothing more is read
 pub record IsReadyOver (config : Configuration) (it : EventClient) : Type 0 where
   pub session : IsReady config it.session
   pub going : IsAwaiting it.session.work → it.course ≡ Going
+  pub reading : CourseReading it.course it.session.reading
 
 -- the request that a send is out for
 abbrev pub asked_for : Work → Option Request

@@ -25,4 +25,5 @@ module _ {H T C : Type 0} {servers : H → ℕ} where
   ready_stays {it} stays ready = record {
     session = subst (λ c. IsReady c it.session) (sym stays.config) ready.session;
     going = ready.going;
+    reading = ready.reading;
   }

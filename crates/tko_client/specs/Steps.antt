@@ -9,6 +9,7 @@ use Rattle.tko_reply.specs.Interactions.{Interaction, Interacts}
 use Rattle.tko_reply.specs.Standing.{Asking}
 use Rattle.tko_reply.specs.declared.parts.Parts.{Parts}
 use Rattle.tko_reply.specs.declared.trails.Trails.{Ghosts as TrailsGhosts}
+use Rattle.tko_text.specs.Reading.{Never, Reading}
 use Rattle.tko_session.specs.Acts.{IsLoss, IsSessionCall, IsToRecord, came_to, left_after}
 use Rattle.tko_session.specs.Clients.{ClientPhase, Open, Over as PhaseOver}
 use Rattle.tko_session.specs.Driven.{dropped}
@@ -19,7 +20,7 @@ use Rattle.tko_session.specs.declared.step.Progress.TheVariants as progress
 use Rattle.tko_session.specs.declared.step.Step.{Step}
 use Rattle.tko_session.specs.declared.step.Step.TheVariants as step
 use Rattle.tko_client.specs.declared.calls.Went.{Went}
-use Rattle.tko_client.specs.declared.calls.Went.TheVariants.{Asks, NeedsInput, On, Over}
+use Rattle.tko_client.specs.declared.calls.Went.TheVariants.{Asks, NeedsInput, On, Over, TooLong}
 
 -- what the parts of an event-driven worker show to its sessions: the connections are not the
 -- sessions', so a send is seen by its count alone; and no clock is read
@@ -42,7 +43,7 @@ abbrev pub went_of : Progress → Went
 went_of progress.More = On
 went_of progress.NeedsInput = NeedsInput
 went_of progress.Quit = Over
-went_of progress.LineTooLong = Over
+went_of progress.LineTooLong = TooLong
 
 -- what a call that said this came to
 abbrev pub went_from : Step → Went
@@ -57,12 +58,22 @@ asked_in (Asks server) = Some server
 asked_in On = None
 asked_in NeedsInput = None
 asked_in Over = None
+asked_in TooLong = None
 
 abbrev pub phase_of : Went → ClientPhase
 phase_of Over = PhaseOver
+phase_of TooLong = PhaseOver
 phase_of (Asks server) = Open
 phase_of On = Open
 phase_of NeedsInput = Open
+
+-- after a line that was too long nothing is read
+abbrev pub WentReading : Went → Reading → Type 0
+WentReading (Asks server) reading = Unit {0}
+WentReading On reading = Unit {0}
+WentReading NeedsInput reading = Unit {0}
+WentReading Over reading = Unit {0}
+WentReading TooLong reading = reading.after ≡ Never
 
 -- a call that said that a request was read has it
 abbrev pub BeganAt : Step → Work → Type 0

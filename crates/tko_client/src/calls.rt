@@ -6,7 +6,7 @@ ghost use Rattle.tko_session.specs.Acts.{recorded_after};
 ghost use Rattle.tko_session.specs.Awaiting.{awaited_in};
 ghost use Rattle.tko_session.specs.Driven.{IsAwaiting, IsReady};
 ghost use Rattle.tko_session.specs.Working.{Between};
-ghost use Rattle.tko_client.specs.Steps.{BeganAt, HasStayed, IsLost, IsLostTaking, IsStepped, IsTaken, IsUnrecorded, asked_in, client_ghosts, phase_of, went_from, went_of};
+ghost use Rattle.tko_client.specs.Steps.{BeganAt, HasStayed, IsLost, IsLostTaking, IsStepped, IsTaken, IsUnrecorded, WentReading, asked_in, client_ghosts, phase_of, went_from, went_of};
 
 use crate::Sends;
 use std::alloc::Global;
@@ -31,6 +31,8 @@ pub(crate) enum Went {
     NeedsInput,
     /// Its last item ended it.
     Over,
+    /// Its last item ended it, a line that was too long.
+    TooLong,
 }
 
 /// Goes on once, and records what that did. An `Err` says that memory ran out, so that its request
@@ -48,6 +50,7 @@ pub(crate) fn go_once<R: IoRuntime, H: Health, T: Trails, C>(
     ensures ok { IfOk result (λ went. IsStepped (client_ghosts H.Health T.Trails) (phase_of went)
         (session.old, parts.old) (session.new, parts.new)) }
     ensures asks { IfOk result (λ went. awaited_in session.new.work ≡ asked_in went) }
+    ensures reading { IfOk result (λ went. WentReading went session.new.reading) }
     ensures err { OnErr result (IsLost (client_ghosts H.Health T.Trails)
         (session.old, parts.old) (session.new, parts.new)) }
     ensures between { OnErr result (session.new.work ≡ Between) }
@@ -75,6 +78,7 @@ pub(crate) fn take_once<R: IoRuntime, H: Health, T: Trails, C>(
     ensures ok { IfOk result (λ went. IsTaken (client_ghosts H.Health T.Trails) outcome
         (phase_of went) (session.old, parts.old) (session.new, parts.new)) }
     ensures asks { IfOk result (λ went. awaited_in session.new.work ≡ asked_in went) }
+    ensures reading { IfOk result (λ went. WentReading went session.new.reading) }
     ensures err { OnErr result (IsLostTaking (client_ghosts H.Health T.Trails) outcome
         (session.old, parts.old) (session.new, parts.new)) }
     ensures between { OnErr result (session.new.work ≡ Between) }
@@ -128,6 +132,7 @@ fn went_of(progress: Progress) -> Went
     match progress {
         Progress::More => Went::On,
         Progress::NeedsInput => Went::NeedsInput,
-        Progress::Quit | Progress::LineTooLong => Went::Over,
+        Progress::Quit => Went::Over,
+        Progress::LineTooLong => Went::TooLong,
     }
 }

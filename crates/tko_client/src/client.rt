@@ -15,7 +15,7 @@ use tko_links::Outcome;
 use tko_model::Clear;
 use tko_mux::Came;
 use tko_pipe::Fate;
-use tko_port::{Stage, Talking};
+use tko_port::{Stage, Talking, Tally};
 use tko_route::Health;
 use tko_session::{Session, Trails};
 use tko_text::Request;
@@ -33,6 +33,8 @@ pub enum Course {
     Ended,
     /// Its last item ended it.
     Over,
+    /// Its last item ended it, a line that was too long.
+    TooLong,
     /// Memory ran out for it.
     Short,
 }
@@ -42,6 +44,8 @@ pub enum Course {
 pub struct EventClient {
     session: Session,
     course: Course,
+    /// How many bytes of its replies were written; the greatest number means that many or more.
+    taken: u64,
     /// How many of the attempts at its key were told.
     told: usize,
 }
@@ -56,6 +60,7 @@ impl EventClient {
         EventClient {
             session: Session::new(alloc),
             course: Course::Going,
+            taken: 0,
             told: 0,
         }
     }
@@ -96,7 +101,7 @@ impl<'r, R: IoRuntime, H: Health, T: Trails, C> Talking<Lent<'r, R, H, T, C>> fo
     fn go_on(&mut self, lent: &mut Lent<'r, R, H, T, C>) -> Result<Option<Clear>, NoMemory> {
         match self.course {
             Course::Going | Course::Full | Course::NeedsInput => {}
-            Course::Ended | Course::Over => return Ok(None),
+            Course::Ended | Course::Over | Course::TooLong => return Ok(None),
             Course::Short => return Err(NoMemory),
         }
         let (session, told) = (&mut self.session, &mut self.told);
@@ -122,6 +127,7 @@ impl<'r, R: IoRuntime, H: Health, T: Trails, C> Talking<Lent<'r, R, H, T, C>> fo
             Course::Full => Stage::Full,
             Course::NeedsInput => Stage::NeedsInput,
             Course::Ended | Course::Over | Course::Short => Stage::Over,
+            Course::TooLong => Stage::TooLong,
         }
     }
 
@@ -129,8 +135,17 @@ impl<'r, R: IoRuntime, H: Health, T: Trails, C> Talking<Lent<'r, R, H, T, C>> fo
         self.session.output()
     }
 
+    fn tally(&self) -> Tally {
+        Tally {
+            requests: self.session.report().requests,
+            taken: self.taken,
+            waiting: self.session.waiting(),
+        }
+    }
+
     fn sent(&mut self, _lent: &mut Lent<'r, R, H, T, C>, count: usize) {
         self.session.sent(count);
+        self.taken = self.taken.saturating_add(count as u64);
     }
 
     fn feed(&mut self, _lent: &mut Lent<'r, R, H, T, C>, piece: &[u8]) -> Result<(), NoMemory> {
@@ -163,6 +178,10 @@ impl<'r, R: IoRuntime, H: Health, T: Trails, C> Talking<Lent<'r, R, H, T, C>> fo
             Ok(Went::On | Went::NeedsInput) => None,
             Ok(Went::Over) => {
                 self.course = Course::Over;
+                None
+            }
+            Ok(Went::TooLong) => {
+                self.course = Course::TooLong;
                 None
             }
             Err(_) => {

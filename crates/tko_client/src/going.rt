@@ -10,8 +10,8 @@ ghost use Rattle.tko_session.specs.Outgoing.{outgoing};
 ghost use Rattle.tko_session.specs.Working.{Between};
 ghost use Rattle.tko_port.specs.Talks.{HasReplies};
 ghost use Rattle.tko_client.specs.Clients.{HasGone, HasTaken};
-ghost use Rattle.tko_client.specs.Halts.{asked_at, phase_in, stage_in};
-ghost use Rattle.tko_client.specs.Steps.{HasStayed, asked_in, client_ghosts, phase_of};
+ghost use Rattle.tko_client.specs.Halts.{HaltReading, asked_at, phase_in, stage_in};
+ghost use Rattle.tko_client.specs.Steps.{HasStayed, WentReading, asked_in, client_ghosts, phase_of};
 
 use crate::calls::{Went, go_once, take_once};
 use crate::{Course, Sends};
@@ -56,6 +56,7 @@ pub(crate) fn go_on<R: IoRuntime, H: Health, T: Trails, C>(
     ensures here { OnErr result (awaited_in session.new.work ≡ None) }
     ensures replies { IfOk result (λ halt.
         HasReplies (stage_in halt) (outgoing session.new)) }
+    ensures reading { IfOk result (λ halt. HaltReading halt session.new.reading) }
     ensures ready { IsReady parts.new.config session.new }
     ensures stays { HasStayed H.servers parts.old parts.new }
 {
@@ -68,6 +69,7 @@ pub(crate) fn go_on<R: IoRuntime, H: Health, T: Trails, C>(
             Ok(Went::Asks(clear)) => return Ok(Halt::Asks(clear)),
             Ok(Went::NeedsInput) => return Ok(Halt::At(Course::NeedsInput)),
             Ok(Went::Over) => return Ok(Halt::At(Course::Over)),
+            Ok(Went::TooLong) => return Ok(Halt::At(Course::TooLong)),
             Err(fault) => return Err(fault),
         }
     }
@@ -104,6 +106,7 @@ pub(crate) fn take_in<R: IoRuntime, H: Health, T: Trails, C>(
     requires sent { is_sent outcome ≡ true }
     ensures ok { IfOk result (λ went. HasTaken (client_ghosts H.Health T.Trails) (Ok outcome)
         (client Open session.old, parts.old) (client (phase_of went) session.new, parts.new)) }
+    ensures reading { IfOk result (λ went. WentReading went session.new.reading) }
     ensures err { OnErr result (HasTaken (client_ghosts H.Health T.Trails) (Ok outcome)
         (client Open session.old, parts.old) (client Short session.new, parts.new)) }
     ensures asks { IfOk result (λ went. awaited_in session.new.work ≡ asked_in went) }

@@ -11,7 +11,7 @@ use tko_model::{OneGroup, Plain};
 use tko_mux::{Delivery, Mux};
 use tko_pipe::ShutCause;
 use tko_pools::Config;
-use tko_port::{Event, Guest, MemoryPort, Presence, Shared, Turned};
+use tko_port::{End, Event, Guest, MemoryPort, Presence, Shared, Turned};
 use tko_prober::{Backend, Delays, Probers};
 use tko_route::PlainHealth;
 use tko_session::{Kept, Parts};
@@ -59,7 +59,9 @@ fn two_clients<'r, R: Wait + Net<Stream = TcpStream> + Clock>(
         parts: Lent::new(rt, alloc, parts(alloc)?),
         buffer: vec![in alloc; 0; 64]?,
     };
-    let mut mux = Mux::new(alloc, shared, 2, 100)?;
+    let Ok(mut mux) = Mux::new(alloc, shared, 2, 100) else {
+        return Err("no memory".into());
+    };
     for _ in 0..2 {
         mux.open(Guest {
             port: MemoryPort::new(alloc, input.to_vec(alloc)?, room),
@@ -182,5 +184,38 @@ fn both_go_on_to_the_next_server(rt: HostRuntime) -> Result<(), Fail> {
     serve_both(alloc, &mut mux);
     let text = outputs(alloc, &mut mux)?;
     assert_eq!(rt; text.as_str(), "VALUE a 0 1\r\n1\r\nEND\r\n|END\r\n|");
+    Ok(())
+}
+
+/// How the first client ends.
+fn end_of<'r, R: Wait + Net<Stream = TcpStream> + Clock>(
+    alloc: Global,
+    mux: &mut MemoryMux<'r, R>,
+) -> Option<End> {
+    for _ in 0..200 {
+        mux.act(alloc, 0, Event::Writable, 0);
+        match mux.act(alloc, 0, Event::Serve, 0)?.did {
+            Turned::Ends(why) => return Some(why),
+            Turned::Spent | Turned::Rests => {}
+            _ => return None,
+        }
+    }
+    None
+}
+
+#[test]
+fn a_line_too_long_is_an_end_of_its_own(rt: HostRuntime) -> Result<(), Fail> {
+    let _stream: Option<TcpStream> = None;
+    let alloc = rt.alloc();
+    let long = vec![in alloc; b'x'; 70_000]?;
+    let ends = [
+        (b"version\r\n".as_slice(), End::Finished),
+        (b"quit\r\nversion\r\n".as_slice(), End::Finished),
+        (long.as_slice(), End::LineTooLong),
+    ];
+    for (input, end) in ends {
+        let mut mux = two_clients(&rt, alloc, input, 100)?;
+        assert_eq!(rt; end_of(alloc, &mut mux), Some(end));
+    }
     Ok(())
 }

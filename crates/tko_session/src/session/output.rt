@@ -23,6 +23,17 @@ impl Session {
         }
     }
 
+    /// How many bytes of the replies may be written.
+    pub fn waiting(&self) -> usize
+        ensures { result ≡ length (outgoing self.now) }
+    {
+        let len = self.outbox.len();
+        match &self.work {
+            None => len,
+            Some(_) => self.begin.min(len),
+        }
+    }
+
     /// Whether the replies reached the bound, so that they are to be written first.
     pub fn is_full(&self) -> bool
         ensures { IsTrue result ↔ (reply_bound ≤ length self.now.outbox) }

@@ -1,5 +1,5 @@
 use Rattle.tko_client.specs.Steps.{client_ghosts}
-use Rattle.tko_client.proofs.CallLemmas.{asks_on, awaiting_at, out_at, took, took_awaits, took_began, took_lost, took_unrecorded}
+use Rattle.tko_client.proofs.CallLemmas.{asks_on, awaiting_at, out_at, reads_on, took, took_awaits, took_began, took_lost, took_reads, took_unrecorded}
 use Rattle.tko_route.specs.Calls.{Told}
 use Rattle.std.proofs.Common.{map}
 use Rattle.tko_client.proofs.calls.take_once.Goals as goal
@@ -38,3 +38,11 @@ returns-in-Err-clause-err g c =
     let out = awaiting_at c.args.session.now.work c.requires.awaits in
     let on = c.in-Err.ensures.err in
     took_lost (client_ghosts {C = g.row.C.Denot} g.H.Health g.T.Trails) c.args.session.now c.answered.new.self c.args.parts.now c.observe_drop.new.parts c.answered.new.health on.items c.in-Err.dropped c.args.outcome out.0 out.1 on.is on.gains c.observe_drop.ensures
+
+pub returns-in-Ok-clause-reading : goal.returns-in-Ok-clause-reading
+returns-in-Ok-clause-reading g c =
+    let out = awaiting_at c.args.session.now.work c.requires.awaits in
+    let on = c.in-Ok.ensures.ok in
+    let told = c.observe.ensures in
+    reads_on c.in-Ok.step c.answered.new.self c.observe.new.session c.observe.result
+    (took_reads c.args.parts.now.config out.0 c.args.outcome c.args.session.now (map Told on.items) c.in-Ok.step c.answered.new.self (on.is out.0 out.1)) told.went told.same

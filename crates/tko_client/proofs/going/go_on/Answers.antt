@@ -18,6 +18,11 @@ returns-in-Ok-Over-clause-ok g c =
     gone_on (client_ghosts {C = g.row.C.Denot} g.H.Health g.T.Trails) c.loop.invariant.stays.config c.loop.invariant.gone
     (rw c.in-Ok-Over.field-0-is at (c.in-Ok-Over.ensures.ok))
 
+pub returns-in-Ok-TooLong-clause-ok : goal.returns-in-Ok-TooLong-clause-ok
+returns-in-Ok-TooLong-clause-ok g c =
+    gone_on (client_ghosts {C = g.row.C.Denot} g.H.Health g.T.Trails) c.loop.invariant.stays.config c.loop.invariant.gone
+    (rw c.in-Ok-TooLong.field-0-is at (c.in-Ok-TooLong.ensures.ok))
+
 pub returns-in-Err-clause-err : goal.returns-in-Err-clause-err
 returns-in-Err-clause-err g c =
     gone_short (client_ghosts {C = g.row.C.Denot} g.H.Health g.T.Trails) c.loop.invariant.stays.config c.loop.invariant.gone c.in-Err.ensures.err
