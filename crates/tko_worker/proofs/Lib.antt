@@ -1,4 +1,7 @@
+pub mod ActedLemmas
+mod CountLemmas
 mod NotedLemmas
 mod ReachLemmas
 mod RestLemmas
+mod ServedLemmas
 mod TakenLemmas

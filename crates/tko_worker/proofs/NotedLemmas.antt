@@ -6,15 +6,17 @@ use Rattle.tko_roster.specs.Rosters.{IsReleased, session_at}
 use Rattle.tko_mux.specs.declared.asking.Given.TheVariants.{Input}
 use Rattle.tko_mux.specs.declared.mux.delivery.Done.{Done}
 use Rattle.tko_mux.specs.Asks.{IsAsking}
-use Rattle.tko_mux.specs.Linking.{IsKept}
 use Rattle.tko_mux.specs.Muxes.{IsMade, MuxState, SendEnds}
+use Rattle.tko_port.specs.declared.settling.End.{End}
 use Rattle.tko_port.specs.declared.guest.Event.{Event}
 use Rattle.tko_port.specs.declared.guest.Event.TheVariants.{Ended, Leave, Readable, Serve, Writable}
 use Rattle.tko_port.specs.declared.guest.Guest.{Guest}
 use Rattle.tko_port.specs.declared.guest.Shared.{Shared}
 use Rattle.tko_port.specs.declared.guest.Turned.{Turned}
 use Rattle.tko_port.specs.Guests.{EventKeeps, GuestDoes, IsGuestCall, IsNotice, Seen, noting, presence_after}
-use Rattle.tko_worker.specs.Workers.{DropEnds, HasReached, IsNotedAt, Sight, kept, left, nobody, noted}
+use Rattle.tko_worker.specs.Workers.{DropEnds, HasReached, IsNotedAt, Sight, left, nobody, noted}
+use Rattle.tko_worker.specs.declared.ends.EndCounts.{EndCounts}
+use Rattle.tko_worker.specs.Counts.{counted}
 
 asks_nobody : (asked old new : Option ℕ) → new ≡ old → IsAsking asked old new → asked ≡ None
 asks_nobody None old new same asking = refl
@@ -31,7 +33,7 @@ does_note : (event : Event) (asked : Option ℕ) (did : Turned) (old new : Seen)
 does_note Readable asked did old new is does = does.1
 does_note Writable asked did old new is does = does.1
 does_note Ended asked did old new is does = does.1
-does_note Leave asked did old new is does = does.1
+does_note (Leave why) asked did old new is does = does.1
 does_note Serve asked did old new is does = absurd is
 
 keeps_talk : {L T P : Type 0} (event : Event) (old new : Guest L T × Shared P) → IsNotice event
@@ -39,7 +41,7 @@ keeps_talk : {L T P : Type 0} (event : Event) (old new : Guest L T × Shared P) 
 keeps_talk Readable old new is keeps = keeps
 keeps_talk Writable old new is keeps = keeps
 keeps_talk Ended old new is keeps = keeps
-keeps_talk Leave old new is keeps = keeps
+keeps_talk (Leave why) old new is keeps = keeps
 keeps_talk Serve old new is keeps = absurd is
 
 noted_at : {L T P : Type 0} (sight : Sight L T) (asks_for : Guest L T → Option Request)
@@ -87,17 +89,19 @@ event_reached sight asks_for old new number event None is made none same =
 event_reached sight asks_for old new number event (Some done) is made none same =
     noted (noted_at sight asks_for old new number event done is made)
 
-pub dropped : {L T P : Type 0} (awaited : T → Option ℕ) (old new : MuxState (Guest L T) (Shared P))
-    (number : ℕ) (result : Option (Guest L T))
-    → IfSome result (λ guest. IsReleased (λ client. awaited client.session.talk) old.roster number
-    (record { session = guest }) new.roster)
-    → IfNone result ((new ≡ old) × IsKept (λ guest. awaited guest.talk) old.roster.slots number)
-    → new.lines ≡ old.lines → new.limit ≡ old.limit → DropEnds awaited old number new
-dropped awaited old new number None released none lines limit = kept none.1 none.0
-dropped awaited old new number (Some guest) released none lines limit =
+-- a client that was taken from its number left
+pub client_left : {L T P : Type 0} (awaited : T → Option ℕ) (why : End)
+    (old new : MuxState (Guest L T) (Shared P)) (ends now : EndCounts) (number : ℕ)
+    (result : Option (Guest L T)) (guest : Guest L T)
+    → IfSome result (λ it. IsReleased (λ client. awaited client.session.talk) old.roster number
+    (record { session = it }) new.roster)
+    → result ≡ Some guest → new.lines ≡ old.lines → new.limit ≡ old.limit
+    → now ≡ counted why ends → DropEnds awaited why (old, ends) number (new, now)
+client_left awaited why old new ends now number result guest released is lines limit counts =
     left (record {
       client = record { session = guest };
-      released = released;
+      released = subst (λ r. IfSome r (λ it. IsReleased (λ client. awaited client.session.talk)
+          old.roster number (record { session = it }) new.roster)) is released;
       lines = lines;
       limit = limit;
-    })
+    }) counts

@@ -63,7 +63,8 @@ pub leave_others : {L T P : Type 0} (sight : Sight L T) (asks_for : Guest L T �
     → result ≡ Some delivery
     → OthersStayFor delivery old.roster.slots new.roster.slots
 leave_others {L} {T} {P} sight asks_for old new server due delivery result ends is =
-    let told : LeaveEnds (IsGuestCall sight.0 sight.1 sight.2) (λ guest. sight.0 guest.talk) asks_for
+    let told : LeaveEnds (IsGuestCall sight.0 sight.1 sight.2) (λ guest. sight.0 guest.talk)
+    asks_for
     old server due (Some delivery) new =
     subst (λ r. LeaveEnds (IsGuestCall sight.0 sight.1 sight.2) (λ guest. sight.0 guest.talk)
     asks_for old server due r new) is ends in
@@ -111,7 +112,8 @@ pub take_others : {L T P : Type 0} (sight : Sight L T) (asks_for : Guest L T →
     → OthersStayFor delivery old.roster.slots new.roster.slots
 take_others sight asks_for old new server due delivery result read is =
     read_others sight asks_for (record old { lines = read.lines }) new due delivery read.taken
-    (subst (λ r. Reaches (IsGuestCall sight.0 sight.1 sight.2) (λ guest. sight.0 guest.talk) asks_for
+    (subst (λ r. Reaches (IsGuestCall sight.0 sight.1 sight.2) (λ guest. sight.0 guest.talk)
+    asks_for
     (record old { lines = read.lines }) read.taken due r new) is read.reaches)
 
 -- where no response came, nobody is forgotten

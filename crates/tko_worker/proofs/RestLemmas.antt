@@ -4,13 +4,13 @@ use Rattle.std.specs.Prelude.{IfNone, IfSome, IsSome}
 use Rattle.std.specs.Option.{option_and_then}
 use Rattle.std.proofs.lemmas.Bool.{cases_eq}
 use Rattle.tko_text.specs.declared.request.Request.{Request}
-use Rattle.tko_roster.specs.Rosters.{IsAdmitted, RosterState, session_at}
+use Rattle.tko_roster.specs.Rosters.{AreReady, IsAdmitted, RosterState, session_at}
 use Rattle.tko_mux.specs.declared.asking.Given.{Given}
 use Rattle.tko_mux.specs.declared.asking.Given.TheVariants.{Input}
 use Rattle.tko_mux.specs.declared.client.Client.{Client}
 use Rattle.tko_mux.specs.declared.mux.delivery.Done.{Done}
 use Rattle.tko_mux.specs.Asks.{AskingActs, IsAsking}
-use Rattle.tko_mux.specs.Linking.{IsKept, awaited_at}
+use Rattle.tko_mux.specs.Linking.{AreLinked, IsKept, awaited_at}
 use Rattle.tko_mux.specs.Muxes.{IsMade, MuxState, SendEnds}
 use Rattle.tko_port.specs.declared.guest.Event.TheVariants.{Serve}
 use Rattle.tko_port.specs.declared.guest.Guest.{Guest}
@@ -23,7 +23,7 @@ use Rattle.tko_port.specs.Guests.{AsksIf, IsGuestCall, RestsBy, Seen, ServedAs, 
 use Rattle.tko_port.specs.Ports.{PortState}
 use Rattle.tko_port.specs.Rests.{AtRest, RestsAt}
 use Rattle.tko_port.specs.Talks.{Talk}
-use Rattle.tko_worker.specs.Workers.{IsIn, IsListed, IsServed, NobodyForgotten, OthersStay, RestAt, Rests, Sight, WasServed}
+use Rattle.tko_worker.specs.Workers.{IsIn, IsInOrder, IsListed, IsServed, NobodyForgotten, OthersStay, RestAt, Rests, Sight, WasServed, WorkerState}
 
 awaits_rest : (awaited : Option ℕ) (talk : Talk) (port : PortState) → IsSome awaited
     → AtRest awaited talk port
@@ -32,7 +32,7 @@ awaits_rest (Some server) talk port some = tt
 
 awaits_by : (presence : Presence) (it : Seen) → IsSome it.awaited → RestsBy presence it
 awaits_by Here it some = awaits_rest it.awaited it.talk it.port some
-awaits_by Leaving it some = some
+awaits_by (Leaving why) it some = some
 
 client_awaits : {L T : Type 0} (sight : Sight L T) (it : Option (Client (Guest L T)))
     → IsSome (option_and_then (λ client. sight.0 client.session.talk) it) → Rests sight it
@@ -56,7 +56,7 @@ served_here : (presence : Presence) (asked : Option ℕ) (did : Turned) (old new
     → did ≡ turned.Rests → ServesAs presence asked did old new
     → ServedAs did new.talk new.port × AsksIf did asked × (new.presence ≡ Here)
 served_here Here asked did old new rests serves = serves
-served_here Leaving asked did old new rests serves =
+served_here (Leaving why) asked did old new rests serves =
     let both = sym rests ∙ serves.0 in absurd (let f : ⊥ = cc both in f)
 
 rests_here : (presence : Presence) (it : Seen) → presence ≡ Here
@@ -264,7 +264,7 @@ swap_known A B C (inl a) = inl a
 swap_known A B C (inr (inl b)) = inr (inr b)
 swap_known A B C (inr (inr c)) = inr (inl c)
 
-pub swapped : {L T : Type 0} (sight : Sight L T) (slots : List (Option (Client (Guest L T))))
+swapped : {L T : Type 0} (sight : Sight L T) (slots : List (Option (Client (Guest L T))))
     (touched spent now_touched now_spent : List ℕ) → NobodyForgotten sight slots touched spent
     → now_touched ≡ spent → now_spent ≡ touched
     → NobodyForgotten sight slots now_touched now_spent
@@ -275,3 +275,19 @@ swapped sight slots touched spent now_touched now_spent nobody one other number 
     (sym other)
     (swap_known (RestAt sight slots number) (IsIn number touched) (IsIn number spent)
     (nobody number)))
+
+-- a turn begins: those that were left for it are to be served
+pub turn_begun : {L T P : Type 0} (sight : Sight L T) (is_ready : P → T → Type 0)
+    (old new : WorkerState L T P) → IsInOrder sight is_ready old → new.mux ≡ old.mux
+    → new.touched ≡ old.spent → new.spent ≡ old.touched → IsInOrder sight is_ready new
+turn_begun sight is_ready old new order mux touched spent = record {
+  ready = subst (λ (m : MuxState _ _).
+      AreReady (λ shared client. is_ready shared.parts client.session.talk) m.roster) (sym mux)
+      order.ready;
+  linked = subst (λ (m : MuxState _ _).
+      AreLinked (λ guest. sight.0 guest.talk) m.roster.slots m.lines) (sym mux) order.linked;
+  nobody = subst (λ (m : MuxState _ _).
+      NobodyForgotten sight m.roster.slots new.touched new.spent) (sym mux)
+      (swapped sight old.mux.roster.slots old.touched old.spent new.touched new.spent order.nobody
+      touched spent);
+}

@@ -22,6 +22,8 @@ use Rattle.tko_port.specs.declared.guest.Shared.{Shared}
 use Rattle.tko_port.specs.declared.guest.Turned.{Turned}
 use Rattle.tko_port.specs.Guests.{IsGuestCall}
 use Rattle.tko_worker.specs.Servers.{AwaitsMore, HasLeftNext, HasNoResponse, HasTaken, ListsReached, pipe_at}
+use Rattle.tko_worker.specs.declared.ends.EndCounts.{EndCounts}
+use Rattle.tko_worker.specs.Counts.{MuxAndEnds}
 use Rattle.tko_worker.specs.Workers.{Sight, WorkerState}
 use Rattle.tko_port.proofs.WireLemmas.{this_line}
 
@@ -85,23 +87,25 @@ pub none_taken : {L T P : Type 0} (sight : Sight L T) (asks_for : Guest L T → 
     → HasNoResponse asks_for new.mux server
 none_taken {L} {T} {P} sight asks_for old new server due taken =
     subst (λ (m : MuxState (Guest L T) (Shared P)). HasNoResponse asks_for m server)
-    (sym taken.listed.0)
+    (sym (ap (λ (p : MuxAndEnds L T P). p.0) taken.listed.0))
     (none_read (IsGuestCall sight.0 sight.1 sight.2) (λ guest. sight.0 guest.talk) asks_for old.mux
     taken.mid server due taken.read)
 
 pub taken_by : {L T P : Type 0} (sight : Sight L T) (asks_for : Guest L T → Option Request)
     (inside old : WorkerState L T P) (mid mux : MuxState (Guest L T) (Shared P)) (touched : List ℕ)
-    (server due : ℕ) (result told : Result (Option (Delivery Turned)) ShutCause) → inside ≡ old
+    (ends : EndCounts) (server due : ℕ) (result told : Result (Option (Delivery Turned)) ShutCause)
+    → inside ≡ old
     → result ≡ told
     → IsRead (IsGuestCall sight.0 sight.1 sight.2) (λ guest. sight.0 guest.talk) asks_for inside.mux
     server due result mid
-    → ListsReached sight.0 mid (delivery_in told) inside.touched mux touched
+    → ListsReached sight.0 (mid, inside.ends) (delivery_in told) inside.touched (mux, ends) touched
     → HasTaken sight asks_for old server due told
-    (record { mux = mux; touched = touched; spent = inside.spent })
-taken_by {L} {T} {P} sight asks_for inside old mid mux touched server due result told same is read
+    (record { mux = mux; touched = touched; spent = inside.spent; ends = ends })
+taken_by {L} {T} {P} sight asks_for inside old mid mux touched ends server due result told same is
+    read
     listed =
     subst (λ (w : WorkerState L T P). HasTaken sight asks_for w server due told
-    (record { mux = mux; touched = touched; spent = inside.spent })) same
+    (record { mux = mux; touched = touched; spent = inside.spent; ends = ends })) same
     (record {
       mid = mid;
       read = subst (λ r. IsRead (IsGuestCall sight.0 sight.1 sight.2)
@@ -112,16 +116,18 @@ taken_by {L} {T} {P} sight asks_for inside old mid mux touched server due result
 
 pub left_by : {L T P : Type 0} (sight : Sight L T) (asks_for : Guest L T → Option Request)
     (inside old : WorkerState L T P) (mid mux : MuxState (Guest L T) (Shared P)) (touched : List ℕ)
-    (server due : ℕ) (result told : Option (Delivery Turned)) → inside ≡ old → result ≡ told
+    (ends : EndCounts) (server due : ℕ) (result told : Option (Delivery Turned)) → inside ≡ old →
+    result ≡ told
     → LeaveEnds (IsGuestCall sight.0 sight.1 sight.2) (λ guest. sight.0 guest.talk) asks_for
     inside.mux server due result mid
-    → ListsReached sight.0 mid told inside.touched mux touched
+    → ListsReached sight.0 (mid, inside.ends) told inside.touched (mux, ends) touched
     → HasLeftNext sight asks_for old server due told
-    (record { mux = mux; touched = touched; spent = inside.spent })
-left_by {L} {T} {P} sight asks_for inside old mid mux touched server due result told same is left
+    (record { mux = mux; touched = touched; spent = inside.spent; ends = ends })
+left_by {L} {T} {P} sight asks_for inside old mid mux touched ends server due result told same is
+    left
     listed =
     subst (λ (w : WorkerState L T P). HasLeftNext sight asks_for w server due told
-    (record { mux = mux; touched = touched; spent = inside.spent })) same
+    (record { mux = mux; touched = touched; spent = inside.spent; ends = ends })) same
     (record {
       mid = mid;
       left = subst (λ r. LeaveEnds (IsGuestCall sight.0 sight.1 sight.2)

@@ -1,3 +1,6 @@
+pub mod Acts
+pub mod Counts
 pub mod Servers
+pub mod Serving
 pub mod Turns
 pub mod Workers

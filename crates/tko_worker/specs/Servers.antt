@@ -20,6 +20,7 @@ use Rattle.tko_port.specs.declared.guest.Guest.{Guest}
 use Rattle.tko_port.specs.declared.guest.Shared.{Shared}
 use Rattle.tko_port.specs.declared.guest.Turned.{Turned}
 use Rattle.tko_port.specs.Guests.{IsGuestCall}
+use Rattle.tko_worker.specs.Counts.{MuxAndEnds}
 use Rattle.tko_worker.specs.Workers.{ListEnds, Sight, WorkerState}
 
 -- no whole response of a connection is unread, where this request is the first that waits
@@ -45,8 +46,8 @@ HasNoResponse asks_for mux server = (pipe : PipeState)
     → AwaitsMore asks_for mux.roster (slice_get pipe.waiting 0) pipe
 
 -- the client that something reached, if it reached one, is to be served in this turn
-abbrev pub ListsReached : {L T P : Type 0} → (T → Option ℕ) → MuxState (Guest L T) (Shared P)
-    → Option (Delivery Turned) → List ℕ → MuxState (Guest L T) (Shared P) → List ℕ → Type 0
+abbrev pub ListsReached : {L T P : Type 0} → (T → Option ℕ) → MuxAndEnds L T P
+    → Option (Delivery Turned) → List ℕ → MuxAndEnds L T P → List ℕ → Type 0
 ListsReached awaited old None numbers new now = (new ≡ old) × (now ≡ numbers)
 ListsReached awaited old (Some (Reached number done)) numbers new now =
     ListEnds awaited old number numbers new now
@@ -59,7 +60,8 @@ pub record HasTaken {L T P : Type 0} (sight : Sight L T) (asks_for : Guest L T �
   pub mid : MuxState (Guest L T) (Shared P)
   pub read : IsRead (IsGuestCall sight.0 sight.1 sight.2) (λ guest. sight.0 guest.talk) asks_for
       old.mux server due result mid
-  pub listed : ListsReached sight.0 mid (delivery_in result) old.touched new.mux new.touched
+  pub listed : ListsReached sight.0 (mid, old.ends) (delivery_in result) old.touched
+      (new.mux, new.ends) new.touched
   pub spent : new.spent ≡ old.spent
 
 -- the next of those that waited on a connection that was shut was told what became of its request;
@@ -70,5 +72,6 @@ pub record HasLeftNext {L T P : Type 0} (sight : Sight L T) (asks_for : Guest L 
   pub mid : MuxState (Guest L T) (Shared P)
   pub left : LeaveEnds (IsGuestCall sight.0 sight.1 sight.2) (λ guest. sight.0 guest.talk) asks_for
       old.mux server due result mid
-  pub listed : ListsReached sight.0 mid result old.touched new.mux new.touched
+  pub listed : ListsReached sight.0 (mid, old.ends) result old.touched (new.mux, new.ends)
+      new.touched
   pub spent : new.spent ≡ old.spent

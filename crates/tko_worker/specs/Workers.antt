@@ -1,30 +1,49 @@
 -- A worker: who rests, and who is to be served.
 use Rattle.std.specs.Prelude.{◌≡◌, ◌≢◌, ◌⊎◌, ℕ, List, [], ◌∷◌, ◌++◌, Option, Some, None}
-use Rattle.tko_roster.specs.Rosters.{IsAdmitted, IsMoved, IsReleased, session_at}
+use Rattle.std.specs.Option.{option_and_then}
+use Rattle.tko_roster.specs.Rosters.{AreReady, IsAdmitted, IsMoved, IsReleased, session_at}
 use Rattle.tko_mux.specs.declared.client.Client.{Client}
 use Rattle.tko_mux.specs.declared.asking.Given.TheVariants.{Input}
 use Rattle.tko_mux.specs.declared.mux.delivery.Delivery.{Delivery}
 use Rattle.tko_mux.specs.declared.mux.delivery.Delivery.TheVariants.{Probed, Reached}
 use Rattle.tko_mux.specs.declared.mux.delivery.Done.{Done}
-use Rattle.tko_mux.specs.Linking.{IsKept}
+use Rattle.tko_mux.specs.Linking.{AreLinked, IsKept}
 use Rattle.tko_mux.specs.Muxes.{IsMade, MuxState}
 use Rattle.tko_text.specs.declared.request.Request.{Request}
 use Rattle.tko_port.specs.declared.guest.Event.{Event}
 use Rattle.tko_port.specs.declared.guest.Event.TheVariants.{Serve}
-use Rattle.tko_port.specs.declared.guest.Presence.TheVariants.{Here}
+use Rattle.tko_port.specs.declared.guest.Presence.{Presence}
+use Rattle.tko_port.specs.declared.guest.Presence.TheVariants.{Here, Leaving}
 use Rattle.tko_port.specs.declared.guest.Guest.{Guest}
 use Rattle.tko_port.specs.declared.guest.Turned.{Turned}
 use Rattle.tko_port.specs.declared.guest.Shared.{Shared}
 use Rattle.tko_port.specs.Guests.{IsGuestCall, IsResting, noting, presence_after, seen}
 use Rattle.tko_port.specs.Ports.{PortState}
-use Rattle.tko_port.specs.Talks.{Talk}
+use Rattle.tko_worker.specs.declared.ends.EndCounts.{EndCounts}
+use Rattle.tko_port.specs.declared.settling.End.{End}
+use Rattle.tko_port.specs.declared.settling.End.TheVariants.{Memory}
+use Rattle.tko_port.specs.declared.talking.Tally.{Tally}
+use Rattle.tko_port.specs.Talks.{Talk, tally_of}
+use Rattle.tko_worker.specs.Counts.{MuxAndEnds, counted}
 
--- the clients and their servers; the numbers of clients that are to be served in this turn; and of
--- those that are served again in the next
+-- the clients and their servers; the numbers of clients that are to be served in this turn; those
+-- that are served again in the next; and how many ended since their ends were taken
 pub record WorkerState (L T P : Type 0) : Type 0 where
   pub mux : MuxState (Guest L T) (Shared P)
   pub touched : List ℕ
   pub spent : List ℕ
+  pub ends : EndCounts
+
+-- what is told of a client that is not to leave
+abbrev pub tally_by : Presence → Talk → Option Tally
+tally_by Here talk = Some (tally_of talk)
+tally_by (Leaving why) talk = None
+
+abbrev pub tally_at : {L T : Type 0} → (T → Talk) → List (Option (Client (Guest L T))) → ℕ
+    → Option Tally
+tally_at talk slots number =
+    option_and_then (λ client. tally_by client.session.presence (talk client.session.talk))
+    (session_at slots number)
 
 -- this number is among those
 abbrev pub IsIn : ℕ → List ℕ → Type 0
@@ -54,6 +73,15 @@ abbrev pub NobodyForgotten : {L T : Type 0} → Sight L T → List (Option (Clie
     → List ℕ → List ℕ → Type 0
 NobodyForgotten sight slots touched spent =
     (number : ℕ) → RestAt sight slots number ⊎ (IsIn number touched ⊎ IsIn number spent)
+
+-- a worker is in order: each session can be called over the parts; each client that awaits a server
+-- waits at that server, once; and nobody is forgotten
+pub record IsInOrder {L T P : Type 0} (sight : Sight L T) (is_ready : P → T → Type 0)
+    (worker : WorkerState L T P) : Type 0 where
+  pub ready : AreReady (λ shared client. is_ready shared.parts client.session.talk)
+      worker.mux.roster
+  pub linked : AreLinked (λ guest. sight.0 guest.talk) worker.mux.roster.slots worker.mux.lines
+  pub nobody : NobodyForgotten sight worker.mux.roster.slots worker.touched worker.spent
 
 -- a number was noted as one that is to be served, or it rests
 abbrev pub IsListed : {L T : Type 0} → Sight L T → List (Option (Client (Guest L T))) → ℕ
@@ -91,28 +119,29 @@ pub record HasLeft {L T P : Type 0} (awaited : T → Option ℕ) (old : MuxState
   pub lines : new.lines ≡ old.lines
   pub limit : new.limit ≡ old.limit
 
--- where a client was to leave: it left; or it stays, since a request of it is under way, or there
--- is none
-pub data DropEnds {L T P : Type 0} (awaited : T → Option ℕ) (old : MuxState (Guest L T) (Shared P))
-    (number : ℕ) (new : MuxState (Guest L T) (Shared P)) : Type 0 where
-  kept : IsKept (λ guest. awaited guest.talk) old.roster.slots number → new ≡ old
-      → DropEnds awaited old number new
-  left : HasLeft awaited old number new → DropEnds awaited old number new
+-- where a client was to leave: it left, which is counted as this end; or it stays, since a request
+-- of it is under way, or there is none
+pub data DropEnds {L T P : Type 0} (awaited : T → Option ℕ) (why : End) (old : MuxAndEnds L T P)
+    (number : ℕ) (new : MuxAndEnds L T P) : Type 0 where
+  kept : IsKept (λ guest. awaited guest.talk) old.0.roster.slots number → new ≡ old
+      → DropEnds awaited why old number new
+  left : HasLeft awaited old.0 number new.0 → new.1 ≡ counted why old.1
+      → DropEnds awaited why old number new
 
 -- a number was noted as one that is to be served; or memory ran out for that, and its client leaves
-pub data ListEnds {L T P : Type 0} (awaited : T → Option ℕ) (old : MuxState (Guest L T) (Shared P))
-    (number : ℕ) (numbers : List ℕ) (new : MuxState (Guest L T) (Shared P)) (now : List ℕ) : Type 0
-  where
-    listed : now ≡ numbers ++ number ∷ [] → new ≡ old → ListEnds awaited old number numbers new now
-    lost : now ≡ numbers → DropEnds awaited old number new
-        → ListEnds awaited old number numbers new now
+pub data ListEnds {L T P : Type 0} (awaited : T → Option ℕ) (old : MuxAndEnds L T P) (number : ℕ)
+    (numbers : List ℕ) (new : MuxAndEnds L T P) (now : List ℕ) : Type 0 where
+  listed : now ≡ numbers ++ number ∷ [] → new ≡ old → ListEnds awaited old number numbers new now
+  lost : now ≡ numbers → DropEnds awaited Memory old number new
+      → ListEnds awaited old number numbers new now
 
 -- an event came for a number, and its client is to be served in this turn
 pub record IsNoted {L T P : Type 0} (sight : Sight L T) (event : Event)
     (old : WorkerState L T P) (number : ℕ) (new : WorkerState L T P) : Type 0 where
   pub reached : MuxState (Guest L T) (Shared P)
   pub has_reached : HasReached sight.2 event old.mux number reached
-  pub listed : ListEnds sight.0 reached number old.touched new.mux new.touched
+  pub listed : ListEnds sight.0 (reached, old.ends) number old.touched (new.mux, new.ends)
+      new.touched
   pub spent : new.spent ≡ old.spent
 
 -- a client has the number, with this port and this session, and is to be served in this turn
@@ -123,7 +152,7 @@ pub record IsOpened {L T P : Type 0} (sight : Sight L T) (old : WorkerState L T 
       (record { session = record { port = port; talk = talk; presence = Here } }) mid.roster
   pub lines : mid.lines ≡ old.mux.lines
   pub limit : mid.limit ≡ old.mux.limit
-  pub listed : ListEnds sight.0 mid number old.touched new.mux new.touched
+  pub listed : ListEnds sight.0 (mid, old.ends) number old.touched (new.mux, new.ends) new.touched
   pub spent : new.spent ≡ old.spent
 
 -- the client of a number was served

@@ -1,27 +1,24 @@
 //! A worker as a whole, from one turn of events to the next.
-ghost use Rattle.std.specs.Prelude.{◌≡◌, ◌≢◌, ◌<◌, [], None, Some, IfOk, length, option_copied, option_map};
+ghost use Rattle.std.specs.Prelude.{◌≡◌, ◌≢◌, ◌<◌, [], None, Some, IfErr, IfOk, length, option_copied, option_map};
 ghost use Rattle.std.specs.Bool.{OnFalse, OnTrue};
-ghost use Rattle.tko_roster.specs.Rosters.{AreReady};
-ghost use Rattle.tko_mux.specs.Linking.{AreLinked};
 ghost use Rattle.tko_mux.specs.Muxes.{line_at};
 ghost use Rattle.tko_port.specs.Guests.{noting};
-ghost use Rattle.tko_worker.specs.Turns.{AreWritten, IsNextDue, IsWanted, OtherPeers, ServerRests, ServersRest, earlier, probed_at, socket_at};
+ghost use Rattle.tko_worker.specs.Acts.{HasActed};
+ghost use Rattle.tko_worker.specs.Turns.{AreWritten, IsNextDue, IsWanted, OtherPeers, ServersRest, probed_at, socket_at};
 ghost use Rattle.tko_port.specs.Wires.{HasConnected, HasFailed, link_at};
-ghost use Rattle.tko_worker.specs.Workers.{NobodyForgotten};
+ghost use Rattle.tko_worker.specs.Workers.{IsInOrder};
 
 use crate::Worker;
+use crate::resting::{is_at_rest, is_wanted, next_due};
 use std::alloc::Global;
 use tko_bytes::NoMemory;
-use tko_mux::{Asking, Came, Client, Mux};
+use tko_mux::Came;
 use tko_pipe::Link;
-use tko_port::{
-    Event, Guest, Peer, Port, Shared, Talking, first_due, has_unwritten, is_connected,
-    is_connecting, is_late, is_open,
-};
-use tko_roster::Driven;
+use tko_port::{Event, Peer, Port, Shared, Talking, is_connecting};
 
 /// The clients of a worker, and the sockets to its servers. A turn of events begins by
-/// `begin_turn`; then what came is noted, and `end_turn` does what can be done.
+/// `begin_turn`; then what came is noted, `serve` does what can be done for the clients, and
+/// `finish` writes to the servers.
 #[derive(Drop)]
 pub struct EventWorker<L, T, P> {
     pub clients: Worker<L, T, P>,
@@ -30,27 +27,26 @@ pub struct EventWorker<L, T, P> {
 
 impl<P: Drop, L: Port + Drop, T: Talking<P> + Drop> EventWorker<L, T, P> {
     /// No client, and no connection to any of so many servers, each of which has this long for a
-    /// response.
+    /// response. If memory runs out, what is shared comes back.
     pub fn new(
         alloc: Global,
         shared: Shared<P>,
         servers: usize,
         limit: u64,
-    ) -> Result<EventWorker<L, T, P>, NoMemory>
-        ensures nobody { IfOk result (λ it. NobodyForgotten (T.awaited, T.talk, L.port)
-            it.clients.mux.roster.slots it.clients.touched it.clients.spent) }
-        ensures ready { IfOk result (λ it.
-            AreReady ⟦<Client<Guest<L, T>> as Driven<Shared<P>>>⟧.ready it.clients.mux.roster) }
-        ensures linked { IfOk result (λ it.
-            AreLinked ⟦<Guest<L, T> as Asking<Shared<P>>>⟧.awaited
-            it.clients.mux.roster.slots it.clients.mux.lines) }
+    ) -> Result<EventWorker<L, T, P>, Shared<P>>
+        ensures order { IfOk result (λ it.
+            IsInOrder (T.awaited, T.talk, L.port) T.ready it.clients) }
         ensures peers { IfOk result (λ it. length it.peers.items ≡ servers) }
+        ensures parts { IfOk result (λ it. it.clients.mux.roster.parts ≡ shared) }
+        ensures err { IfErr result (λ back. back ≡ shared) }
     {
-        let peers = new_peers(alloc, servers)?;
-        Ok(EventWorker {
-            clients: Worker::new(alloc, shared, servers, limit)?,
-            peers,
-        })
+        let Ok(peers) = new_peers(alloc, servers) else {
+            return Err(shared);
+        };
+        match Worker::new(alloc, shared, servers, limit) {
+            Ok(clients) => Ok(EventWorker { clients, peers }),
+            Err(back) => Err(back),
+        }
     }
 }
 
@@ -86,12 +82,7 @@ impl<P, L: Port + Drop, T: Talking<P> + Drop> EventWorker<L, T, P> {
 
     /// The connection to a server was made. Its port is writable.
     pub fn connected(&mut self, server: usize)
-        requires ready { AreReady ⟦<Client<Guest<L, T>> as Driven<Shared<P>>>⟧.ready
-            self.old.clients.mux.roster }
-        requires linked { AreLinked ⟦<Guest<L, T> as Asking<Shared<P>>>⟧.awaited
-            self.old.clients.mux.roster.slots self.old.clients.mux.lines }
-        requires nobody { NobodyForgotten (T.awaited, T.talk, L.port)
-            self.old.clients.mux.roster.slots self.old.clients.touched self.old.clients.spent }
+        requires order { IsInOrder (T.awaited, T.talk, L.port) T.ready self.old.clients }
         ensures done { server < length self.old.peers.items
             → server < length self.old.clients.mux.lines
             → HasConnected server self.old.clients.mux.lines
@@ -99,12 +90,9 @@ impl<P, L: Port + Drop, T: Talking<P> + Drop> EventWorker<L, T, P> {
             (socket_at L.port self.new.peers.items server) }
         ensures others { OtherPeers server self.old.peers.items self.new.peers.items }
         ensures count { length self.new.peers.items ≡ length self.old.peers.items }
-        ensures nobody { NobodyForgotten (T.awaited, T.talk, L.port)
-            self.new.clients.mux.roster.slots self.new.clients.touched self.new.clients.spent }
-        ensures ready { AreReady ⟦<Client<Guest<L, T>> as Driven<Shared<P>>>⟧.ready
-            self.new.clients.mux.roster }
-        ensures linked { AreLinked ⟦<Guest<L, T> as Asking<Shared<P>>>⟧.awaited
-            self.new.clients.mux.roster.slots self.new.clients.mux.lines }
+        ensures roster { self.new.clients.mux.roster ≡ self.old.clients.mux.roster }
+        ensures ends { self.new.clients.ends ≡ self.old.clients.ends }
+        ensures order { IsInOrder (T.awaited, T.talk, L.port) T.ready self.new.clients }
     {
         if server < self.peers.len() && server < self.clients.mux.servers() {
             self.clients.connect(&mut self.peers[server], server);
@@ -113,22 +101,14 @@ impl<P, L: Port + Drop, T: Talking<P> + Drop> EventWorker<L, T, P> {
 
     /// No connection to a server could be made.
     pub fn failed(&mut self, server: usize)
-        requires ready { AreReady ⟦<Client<Guest<L, T>> as Driven<Shared<P>>>⟧.ready
-            self.old.clients.mux.roster }
-        requires linked { AreLinked ⟦<Guest<L, T> as Asking<Shared<P>>>⟧.awaited
-            self.old.clients.mux.roster.slots self.old.clients.mux.lines }
-        requires nobody { NobodyForgotten (T.awaited, T.talk, L.port)
-            self.old.clients.mux.roster.slots self.old.clients.touched self.old.clients.spent }
+        requires order { IsInOrder (T.awaited, T.talk, L.port) T.ready self.old.clients }
         ensures done { server < length self.old.peers.items
             → HasFailed server self.old.clients.mux.lines self.new.clients.mux.lines }
         ensures others { OtherPeers server self.old.peers.items self.new.peers.items }
         ensures count { length self.new.peers.items ≡ length self.old.peers.items }
-        ensures nobody { NobodyForgotten (T.awaited, T.talk, L.port)
-            self.new.clients.mux.roster.slots self.new.clients.touched self.new.clients.spent }
-        ensures ready { AreReady ⟦<Client<Guest<L, T>> as Driven<Shared<P>>>⟧.ready
-            self.new.clients.mux.roster }
-        ensures linked { AreLinked ⟦<Guest<L, T> as Asking<Shared<P>>>⟧.awaited
-            self.new.clients.mux.roster.slots self.new.clients.mux.lines }
+        ensures roster { self.new.clients.mux.roster ≡ self.old.clients.mux.roster }
+        ensures ends { self.new.clients.ends ≡ self.old.clients.ends }
+        ensures order { IsInOrder (T.awaited, T.talk, L.port) T.ready self.new.clients }
     {
         if server < self.peers.len() {
             self.clients.fail(&mut self.peers[server], server);
@@ -186,6 +166,9 @@ impl<P, L: Port + Drop, T: Talking<P> + Drop> EventWorker<L, T, P> {
     pub fn probed(&mut self, server: usize) -> Option<Came>
         ensures came { result ≡ probed_at self.old.peers.items server }
         ensures gone { probed_at self.new.peers.items server ≡ None }
+        ensures socket { socket_at L.port self.new.peers.items server
+            ≡ socket_at L.port self.old.peers.items server }
+        ensures others { OtherPeers server self.old.peers.items self.new.peers.items }
         ensures clients { self.new.clients ≡ self.old.clients }
         ensures count { length self.new.peers.items ≡ length self.old.peers.items }
     {
@@ -214,45 +197,47 @@ impl<P, L: Port + Drop, T: Talking<P> + Drop> EventWorker<L, T, P> {
 
     /// A turn of events begins.
     pub fn begin_turn(&mut self)
-        requires { NobodyForgotten (T.awaited, T.talk, L.port)
-            self.old.clients.mux.roster.slots self.old.clients.touched self.old.clients.spent }
-        ensures nobody { NobodyForgotten (T.awaited, T.talk, L.port)
-            self.new.clients.mux.roster.slots self.new.clients.touched self.new.clients.spent }
+        requires { IsInOrder (T.awaited, T.talk, L.port) T.ready self.old.clients }
+        ensures order { IsInOrder (T.awaited, T.talk, L.port) T.ready self.new.clients }
         ensures mux { self.new.clients.mux ≡ self.old.clients.mux }
         ensures peers { self.new.peers ≡ self.old.peers }
     {
         self.clients.begin_turn();
     }
 
-    /// Does what can be done in this turn: what came from the servers is read and reaches the
-    /// clients, late connections are shut, the clients are served, and what they ask is written.
-    /// Returns whether all rest, so that the next turn is to wait for events. A request that is
-    /// sent is due at the second moment.
-    pub fn end_turn(&mut self, alloc: Global, buffer: &mut [u8], now: u64, due: u64) -> bool
+    /// Does what can be done in this turn for the clients: what came from the servers is read and
+    /// reaches them, late connections are shut, and the clients are served. A request that is sent
+    /// is due at the second moment. `finish` writes what they ask.
+    pub fn serve(&mut self, alloc: Global, buffer: &mut [u8], now: u64, due: u64)
         requires room { 0 < length buffer.old }
-        requires ready { AreReady ⟦<Client<Guest<L, T>> as Driven<Shared<P>>>⟧.ready
-            self.old.clients.mux.roster }
-        requires linked { AreLinked ⟦<Guest<L, T> as Asking<Shared<P>>>⟧.awaited
-            self.old.clients.mux.roster.slots self.old.clients.mux.lines }
-        requires nobody { NobodyForgotten (T.awaited, T.talk, L.port)
-            self.old.clients.mux.roster.slots self.old.clients.touched self.old.clients.spent }
-        ensures rests { OnTrue result (ServersRest L.port now self.new.clients.mux.lines
-            self.new.peers.items (length self.new.peers.items)) }
-        ensures spent { OnTrue result (self.new.clients.spent ≡ []) }
+        requires order { IsInOrder (T.awaited, T.talk, L.port) T.ready self.old.clients }
         ensures served { self.new.clients.touched ≡ [] }
-        ensures written { AreWritten L.port self.new.clients.mux.lines self.new.peers.items
-            (length self.new.peers.items) }
         ensures count { length self.new.peers.items ≡ length self.old.peers.items }
         ensures room { length buffer.new ≡ length buffer.old }
-        ensures nobody { NobodyForgotten (T.awaited, T.talk, L.port)
-            self.new.clients.mux.roster.slots self.new.clients.touched self.new.clients.spent }
-        ensures ready { AreReady ⟦<Client<Guest<L, T>> as Driven<Shared<P>>>⟧.ready
-            self.new.clients.mux.roster }
-        ensures linked { AreLinked ⟦<Guest<L, T> as Asking<Shared<P>>>⟧.awaited
-            self.new.clients.mux.roster.slots self.new.clients.mux.lines }
+        ensures acted { HasActed (T.awaited, T.talk, L.port) self.old.clients self.new.clients }
+        ensures order { IsInOrder (T.awaited, T.talk, L.port) T.ready self.new.clients }
     {
         serve_all(&mut self.clients, &mut self.peers, alloc, buffer, now, due);
         self.clients.end_turn(alloc, due);
+    }
+
+    /// Writes to the servers what is asked of them, once, at the end of a turn. Returns whether
+    /// each server rests and no client is left for the next turn, so that this is to wait for
+    /// events.
+    pub fn finish(&mut self, now: u64) -> bool
+        requires { IsInOrder (T.awaited, T.talk, L.port) T.ready self.old.clients }
+        ensures rests { OnTrue result (ServersRest L.port now self.new.clients.mux.lines
+            self.new.peers.items (length self.new.peers.items)) }
+        ensures none { OnTrue result (self.new.clients.spent ≡ []) }
+        ensures touched { self.new.clients.touched ≡ self.old.clients.touched }
+        ensures spent { self.new.clients.spent ≡ self.old.clients.spent }
+        ensures ends { self.new.clients.ends ≡ self.old.clients.ends }
+        ensures roster { self.new.clients.mux.roster ≡ self.old.clients.mux.roster }
+        ensures written { AreWritten L.port self.new.clients.mux.lines self.new.peers.items
+            (length self.new.peers.items) }
+        ensures count { length self.new.peers.items ≡ length self.old.peers.items }
+        ensures order { IsInOrder (T.awaited, T.talk, L.port) T.ready self.new.clients }
+    {
         write_all(&mut self.clients, &mut self.peers);
         is_at_rest(&self.clients, &self.peers, now)
     }
@@ -268,20 +253,11 @@ fn serve_all<P, L: Port + Drop, T: Talking<P> + Drop>(
     due: u64,
 )
     requires room { 0 < length buffer.old }
-    requires ready { AreReady ⟦<Client<Guest<L, T>> as Driven<Shared<P>>>⟧.ready
-        clients.old.mux.roster }
-    requires linked { AreLinked ⟦<Guest<L, T> as Asking<Shared<P>>>⟧.awaited
-        clients.old.mux.roster.slots clients.old.mux.lines }
-    requires nobody { NobodyForgotten (T.awaited, T.talk, L.port)
-        clients.old.mux.roster.slots clients.old.touched clients.old.spent }
+    requires order { IsInOrder (T.awaited, T.talk, L.port) T.ready clients.old }
     ensures count { length peers.new.items ≡ length peers.old.items }
     ensures room { length buffer.new ≡ length buffer.old }
-    ensures nobody { NobodyForgotten (T.awaited, T.talk, L.port)
-        clients.new.mux.roster.slots clients.new.touched clients.new.spent }
-    ensures ready { AreReady ⟦<Client<Guest<L, T>> as Driven<Shared<P>>>⟧.ready
-        clients.new.mux.roster }
-    ensures linked { AreLinked ⟦<Guest<L, T> as Asking<Shared<P>>>⟧.awaited
-        clients.new.mux.roster.slots clients.new.mux.lines }
+    ensures acted { HasActed (T.awaited, T.talk, L.port) clients.old clients.new }
+    ensures order { IsInOrder (T.awaited, T.talk, L.port) T.ready clients.new }
 {
     for server in 0..peers.len() {
         clients.serve_server(alloc, &mut peers[server], server, now, due, buffer);
@@ -293,132 +269,19 @@ fn write_all<P, L: Port + Drop, T: Talking<P> + Drop>(
     clients: &mut Worker<L, T, P>,
     peers: &mut Vec<Peer<L>>,
 )
-    requires ready { AreReady ⟦<Client<Guest<L, T>> as Driven<Shared<P>>>⟧.ready
-        clients.old.mux.roster }
-    requires linked { AreLinked ⟦<Guest<L, T> as Asking<Shared<P>>>⟧.awaited
-        clients.old.mux.roster.slots clients.old.mux.lines }
-    requires nobody { NobodyForgotten (T.awaited, T.talk, L.port)
-        clients.old.mux.roster.slots clients.old.touched clients.old.spent }
+    requires order { IsInOrder (T.awaited, T.talk, L.port) T.ready clients.old }
     ensures written { AreWritten L.port clients.new.mux.lines peers.new.items
         (length peers.new.items) }
     ensures touched { clients.new.touched ≡ clients.old.touched }
     ensures spent { clients.new.spent ≡ clients.old.spent }
+    ensures ends { clients.new.ends ≡ clients.old.ends }
+    ensures roster { clients.new.mux.roster ≡ clients.old.mux.roster }
     ensures count { length peers.new.items ≡ length peers.old.items }
-    ensures nobody { NobodyForgotten (T.awaited, T.talk, L.port)
-        clients.new.mux.roster.slots clients.new.touched clients.new.spent }
-    ensures ready { AreReady ⟦<Client<Guest<L, T>> as Driven<Shared<P>>>⟧.ready
-        clients.new.mux.roster }
-    ensures linked { AreLinked ⟦<Guest<L, T> as Asking<Shared<P>>>⟧.awaited
-        clients.new.mux.roster.slots clients.new.mux.lines }
+    ensures order { IsInOrder (T.awaited, T.talk, L.port) T.ready clients.new }
 {
     for server in 0..peers.len() {
         clients.write(&mut peers[server], server);
     }
-}
-
-/// Whether a connection to a server is to be begun.
-fn is_wanted<P, S: Asking<P> + Drop, L: Port + Drop>(
-    mux: &Mux<S, P>,
-    peer: &Peer<L>,
-    server: usize,
-) -> bool
-    ensures wanted { OnTrue result
-        (IsWanted (line_at mux.now server) (option_map L.port peer.now.socket)) }
-    ensures not { OnFalse result
-        (IsWanted (line_at mux.now server) (option_map L.port peer.now.socket) → ⊥) }
-{
-    if !peer.is_closed() {
-        return false;
-    }
-    if !is_open(mux, server) {
-        return false;
-    }
-    is_connecting(mux, server)
-}
-
-/// The first moment at which a response of so many servers is due.
-fn next_due<P, S: Asking<P> + Drop>(mux: &Mux<S, P>, servers: usize) -> Option<u64>
-    ensures { IsNextDue mux.now.lines servers result }
-{
-    let mut next = None;
-    for server in 0..servers {
-        next = earlier(next, first_due(mux, server));
-    }
-    next
-}
-
-/// The first of two moments.
-fn earlier(one: Option<u64>, other: Option<u64>) -> Option<u64>
-    ensures { result ≡ earlier one other }
-{
-    let Some(first) = one else {
-        return other;
-    };
-    match other {
-        Some(second) if second < first => Some(second),
-        _ => one,
-    }
-}
-
-/// Whether no client is served again in the next turn, and each server rests.
-fn is_at_rest<P, L: Port + Drop, T: Talking<P> + Drop>(
-    clients: &Worker<L, T, P>,
-    peers: &Vec<Peer<L>>,
-    now: u64,
-) -> bool
-    ensures servers { OnTrue result (ServersRest L.port now clients.now.mux.lines peers.now.items
-        (length peers.now.items)) }
-    ensures spent { OnTrue result (clients.now.spent ≡ []) }
-{
-    if !all_rest(&clients.mux, peers, now) {
-        return false;
-    }
-    clients.spent().is_empty()
-}
-
-/// Whether each server rests.
-fn all_rest<P, S: Asking<P> + Drop, L: Port>(
-    mux: &Mux<S, P>,
-    peers: &Vec<Peer<L>>,
-    now: u64,
-) -> bool
-    ensures { OnTrue result (ServersRest L.port now mux.now.lines peers.now.items
-        (length peers.now.items)) }
-{
-    for server in 0..peers.len() {
-        if !rests(mux, &peers[server], server, now) {
-            return false;
-        }
-    }
-    true
-}
-
-/// Whether a server rests.
-fn rests<P, S: Asking<P> + Drop, L: Port>(
-    mux: &Mux<S, P>,
-    peer: &Peer<L>,
-    server: usize,
-    now: u64,
-) -> bool
-    ensures { OnTrue result
-        (ServerRests now (line_at mux.now server) (option_map L.port peer.now.socket)) }
-{
-    if !is_open(mux, server) {
-        return false;
-    }
-    if is_late(mux, server, now) {
-        return false;
-    }
-    if !is_connected(mux, server) {
-        return true;
-    }
-    let Some(port) = &peer.socket else {
-        return false;
-    };
-    if port.is_readable() {
-        return false;
-    }
-    !port.is_writable() || !has_unwritten(mux, server)
 }
 
 /// So many servers without a connection.

@@ -2,15 +2,24 @@
 //! socket, no clock and no handle here.
 //!
 //! - `Worker`: the clients, and which of them are to be served.
+//! - `EndCounts`: how many clients ended, by how they did.
 //! - `EventWorker`: the same with the servers.
+//! - `acts_compose`, `clients_act`: laws. What the clients did by several calls.
 #![tactic(auto)]
 
+mod ends;
 mod event_worker;
+mod law;
+mod resting;
 mod rounds;
 mod servers;
+mod serving;
+mod turns;
 mod worker;
 
+pub use ends::EndCounts;
 pub use event_worker::EventWorker;
+pub use law::{acts_compose, clients_act};
 pub use worker::Worker;
 
 #[cfg(test)]

@@ -1,20 +1,17 @@
 //! What a worker does between two turns: with the parts of its sessions, and by probes.
 ghost use Rattle.std.specs.Prelude.{◌≡◌, ◌<◌, OnErr, OnOk, length};
 ghost use Rattle.tko_pipe.specs.Pipes.{pushing};
-ghost use Rattle.tko_roster.specs.Rosters.{AreReady};
 ghost use Rattle.tko_mux.specs.Lines.{IsLinePushed};
-ghost use Rattle.tko_mux.specs.Linking.{AreLinked};
 ghost use Rattle.tko_mux.specs.Muxes.{IsOnLine};
-ghost use Rattle.tko_worker.specs.Workers.{NobodyForgotten};
+ghost use Rattle.tko_worker.specs.Workers.{IsInOrder};
 
 use crate::Worker;
 use std::alloc::Global;
 use tko_bytes::NoMemory;
 use tko_model::Duty;
-use tko_mux::{Asking, Client};
 use tko_pipe::Asker;
-use tko_port::{Guest, Port, Shared, Talking};
-use tko_roster::{Driven, Visit};
+use tko_port::{Port, Shared, Talking};
+use tko_roster::Visit;
 use tko_text::Request;
 
 /// Something that is done with the parts of the sessions, as the multiplexer has them.
@@ -27,7 +24,8 @@ impl<P, V: Visit<P>> Visit<Shared<P>> for OnShared<V> {
 
     type Output = V::Output;
 
-    ghost does = { λ old it new. V.does old.parts it new.parts × (new.buffer ≡ old.buffer) };
+    ghost does = { λ on old it new. V.does on.visit old.parts it new.parts
+        × (new.buffer ≡ old.buffer) };
 
     ghost stays = { λ old new. V.stays old.parts new.parts };
 
@@ -41,24 +39,16 @@ impl<P, L: Port + Drop, T: Talking<P> + Drop> Worker<L, T, P> {
     /// Does something with the parts that all sessions share, which leaves them ready.
     pub fn visit<V: Visit<P>>(&mut self, visit: V) -> V::Output
         requires stays { (old new : P) → V.stays old new → T.stays old new }
-        requires ready { AreReady ⟦<Client<Guest<L, T>> as Driven<Shared<P>>>⟧.ready
-            self.old.mux.roster }
-        requires linked { AreLinked ⟦<Guest<L, T> as Asking<Shared<P>>>⟧.awaited
-            self.old.mux.roster.slots self.old.mux.lines }
-        requires nobody { NobodyForgotten (T.awaited, T.talk, L.port)
-            self.old.mux.roster.slots self.old.touched self.old.spent }
-        ensures does { V.does self.old.mux.roster.parts.parts result
+        requires order { IsInOrder (T.awaited, T.talk, L.port) T.ready self.old }
+        ensures does { V.does visit self.old.mux.roster.parts.parts result
             self.new.mux.roster.parts.parts }
         ensures slots { self.new.mux.roster.slots ≡ self.old.mux.roster.slots }
         ensures lines { self.new.mux.lines ≡ self.old.mux.lines }
+        ensures limit { self.new.mux.limit ≡ self.old.mux.limit }
         ensures touched { self.new.touched ≡ self.old.touched }
         ensures spent { self.new.spent ≡ self.old.spent }
-        ensures nobody { NobodyForgotten (T.awaited, T.talk, L.port)
-            self.new.mux.roster.slots self.new.touched self.new.spent }
-        ensures ready { AreReady ⟦<Client<Guest<L, T>> as Driven<Shared<P>>>⟧.ready
-            self.new.mux.roster }
-        ensures linked { AreLinked ⟦<Guest<L, T> as Asking<Shared<P>>>⟧.awaited
-            self.new.mux.roster.slots self.new.mux.lines }
+        ensures ends { self.new.ends ≡ self.old.ends }
+        ensures order { IsInOrder (T.awaited, T.talk, L.port) T.ready self.new }
     {
         self.mux.visit(OnShared { visit })
     }
@@ -66,23 +56,17 @@ impl<P, L: Port + Drop, T: Talking<P> + Drop> Worker<L, T, P> {
     /// A probe of a server is to be sent, whose response is due at this moment.
     pub fn probe(&mut self, alloc: Global, duty: Duty, due: u64) -> Result<(), NoMemory>
         requires server { duty < length self.old.mux.lines }
-        requires ready { AreReady ⟦<Client<Guest<L, T>> as Driven<Shared<P>>>⟧.ready
-            self.old.mux.roster }
-        requires linked { AreLinked ⟦<Guest<L, T> as Asking<Shared<P>>>⟧.awaited
-            self.old.mux.roster.slots self.old.mux.lines }
-        requires nobody { NobodyForgotten (T.awaited, T.talk, L.port)
-            self.old.mux.roster.slots self.old.touched self.old.spent }
+        requires order { IsInOrder (T.awaited, T.talk, L.port) T.ready self.old }
         ensures ok { OnOk result (IsOnLine (λ was it. IsLinePushed self.old.mux.limit was
             (pushing Asker.Probe due Request.Version) it) self.old.mux.lines duty
             self.new.mux.lines) }
         ensures err { OnErr result (self.new ≡ self.old) }
+        ensures touched { self.new.touched ≡ self.old.touched }
+        ensures spent { self.new.spent ≡ self.old.spent }
+        ensures ends { self.new.ends ≡ self.old.ends }
+        ensures limit { self.new.mux.limit ≡ self.old.mux.limit }
         ensures roster { self.new.mux.roster ≡ self.old.mux.roster }
-        ensures nobody { NobodyForgotten (T.awaited, T.talk, L.port)
-            self.new.mux.roster.slots self.new.touched self.new.spent }
-        ensures ready { AreReady ⟦<Client<Guest<L, T>> as Driven<Shared<P>>>⟧.ready
-            self.new.mux.roster }
-        ensures linked { AreLinked ⟦<Guest<L, T> as Asking<Shared<P>>>⟧.awaited
-            self.new.mux.roster.slots self.new.mux.lines }
+        ensures order { IsInOrder (T.awaited, T.talk, L.port) T.ready self.new }
     {
         self.mux.probe(alloc, duty, due)
     }

@@ -1,22 +1,20 @@
 //! The servers of a worker, from one event to the next.
 ghost use Rattle.std.specs.Prelude.{◌≡◌, ◌≢◌, ◌<◌, None, Some, Ok, false, length, option_copied, option_map};
 ghost use Rattle.std.specs.Bool.{OnFalse, OnTrue};
-ghost use Rattle.tko_roster.specs.Rosters.{AreReady};
-ghost use Rattle.tko_mux.specs.Linking.{AreLinked};
 ghost use Rattle.tko_mux.specs.Muxes.{HasNoneLeaving, line_at};
+ghost use Rattle.tko_worker.specs.Acts.{HasActed};
 ghost use Rattle.tko_worker.specs.Servers.{HasNoResponse};
 ghost use Rattle.tko_port.specs.Wires.{CannotRead, CannotWriteTo, HasConnected, HasExpired, HasFailed, HasReadOn, IsHeld, IsOpen, OtherLines, first_at, is_first_late};
-ghost use Rattle.tko_worker.specs.Workers.{NobodyForgotten};
+ghost use Rattle.tko_worker.specs.Workers.{IsInOrder};
 
 use crate::Worker;
 use std::alloc::Global;
-use tko_mux::{Asking, Client};
+use tko_mux::Asking;
 use tko_pipe::ShutCause;
 use tko_port::{
     Event, Guest, Peer, Port, Shared, Talking, is_connecting, is_late, is_open, read_wire,
     write_wire,
 };
-use tko_roster::Driven;
 
 /// How often a server is read from in one turn. What is left is read in the next turn.
 const READS: u32 = 16;
@@ -31,20 +29,12 @@ impl<P, L: Port + Drop, T: Talking<P> + Drop> Worker<L, T, P> {
     /// The connection to a server was made, if one was begun. Its port is writable.
     pub(crate) fn connect(&mut self, peer: &mut Peer<L>, server: usize)
         requires server { server < length self.old.mux.lines }
-        requires ready { AreReady ⟦<Client<Guest<L, T>> as Driven<Shared<P>>>⟧.ready
-            self.old.mux.roster }
-        requires linked { AreLinked ⟦<Guest<L, T> as Asking<Shared<P>>>⟧.awaited
-            self.old.mux.roster.slots self.old.mux.lines }
-        requires nobody { NobodyForgotten (T.awaited, T.talk, L.port)
-            self.old.mux.roster.slots self.old.touched self.old.spent }
+        requires order { IsInOrder (T.awaited, T.talk, L.port) T.ready self.old }
         ensures done { HasConnected server self.old.mux.lines (option_map L.port peer.old.socket)
             self.new.mux.lines (option_map L.port peer.new.socket) }
-        ensures nobody { NobodyForgotten (T.awaited, T.talk, L.port)
-            self.new.mux.roster.slots self.new.touched self.new.spent }
-        ensures ready { AreReady ⟦<Client<Guest<L, T>> as Driven<Shared<P>>>⟧.ready
-            self.new.mux.roster }
-        ensures linked { AreLinked ⟦<Guest<L, T> as Asking<Shared<P>>>⟧.awaited
-            self.new.mux.roster.slots self.new.mux.lines }
+        ensures roster { self.new.mux.roster ≡ self.old.mux.roster }
+        ensures ends { self.new.ends ≡ self.old.ends }
+        ensures order { IsInOrder (T.awaited, T.talk, L.port) T.ready self.new }
     {
         if peer.is_closed() {
             return;
@@ -58,20 +48,12 @@ impl<P, L: Port + Drop, T: Talking<P> + Drop> Worker<L, T, P> {
 
     /// The connection to a server could not be made, if one was begun.
     pub(crate) fn fail(&mut self, peer: &mut Peer<L>, server: usize)
-        requires ready { AreReady ⟦<Client<Guest<L, T>> as Driven<Shared<P>>>⟧.ready
-            self.old.mux.roster }
-        requires linked { AreLinked ⟦<Guest<L, T> as Asking<Shared<P>>>⟧.awaited
-            self.old.mux.roster.slots self.old.mux.lines }
-        requires nobody { NobodyForgotten (T.awaited, T.talk, L.port)
-            self.old.mux.roster.slots self.old.touched self.old.spent }
+        requires order { IsInOrder (T.awaited, T.talk, L.port) T.ready self.old }
         ensures done { HasFailed server self.old.mux.lines self.new.mux.lines }
         ensures held { IsHeld (option_map L.port peer.new.socket) (line_at self.new.mux server) }
-        ensures nobody { NobodyForgotten (T.awaited, T.talk, L.port)
-            self.new.mux.roster.slots self.new.touched self.new.spent }
-        ensures ready { AreReady ⟦<Client<Guest<L, T>> as Driven<Shared<P>>>⟧.ready
-            self.new.mux.roster }
-        ensures linked { AreLinked ⟦<Guest<L, T> as Asking<Shared<P>>>⟧.awaited
-            self.new.mux.roster.slots self.new.mux.lines }
+        ensures roster { self.new.mux.roster ≡ self.old.mux.roster }
+        ensures ends { self.new.ends ≡ self.old.ends }
+        ensures order { IsInOrder (T.awaited, T.talk, L.port) T.ready self.new }
     {
         peer.hold(is_open(&self.mux, server));
         if !is_open(&self.mux, server) {
@@ -98,12 +80,7 @@ impl<P, L: Port + Drop, T: Talking<P> + Drop> Worker<L, T, P> {
         buffer: &mut [u8],
     ) -> bool
         requires room { 0 < length buffer.old }
-        requires ready { AreReady ⟦<Client<Guest<L, T>> as Driven<Shared<P>>>⟧.ready
-            self.old.mux.roster }
-        requires linked { AreLinked ⟦<Guest<L, T> as Asking<Shared<P>>>⟧.awaited
-            self.old.mux.roster.slots self.old.mux.lines }
-        requires nobody { NobodyForgotten (T.awaited, T.talk, L.port)
-            self.old.mux.roster.slots self.old.touched self.old.spent }
+        requires order { IsInOrder (T.awaited, T.talk, L.port) T.ready self.old }
         ensures cannot { OnTrue result
             (CannotRead (line_at self.new.mux server) (option_map L.port peer.new.socket)) }
         ensures taken { OnTrue result
@@ -113,12 +90,8 @@ impl<P, L: Port + Drop, T: Talking<P> + Drop> Worker<L, T, P> {
         ensures open { OnTrue result (IsOpen (line_at self.new.mux server)) }
         ensures held { IsHeld (option_map L.port peer.new.socket) (line_at self.new.mux server) }
         ensures room { length buffer.new ≡ length buffer.old }
-        ensures nobody { NobodyForgotten (T.awaited, T.talk, L.port)
-            self.new.mux.roster.slots self.new.touched self.new.spent }
-        ensures ready { AreReady ⟦<Client<Guest<L, T>> as Driven<Shared<P>>>⟧.ready
-            self.new.mux.roster }
-        ensures linked { AreLinked ⟦<Guest<L, T> as Asking<Shared<P>>>⟧.awaited
-            self.new.mux.roster.slots self.new.mux.lines }
+        ensures acted { HasActed (T.awaited, T.talk, L.port) self.old self.new }
+        ensures order { IsInOrder (T.awaited, T.talk, L.port) T.ready self.new }
     {
         if !self.leave_all(alloc, peer, server, due) {
             return false;
@@ -131,20 +104,11 @@ impl<P, L: Port + Drop, T: Talking<P> + Drop> Worker<L, T, P> {
 
     /// All that waited on a connection that was shut leave. Returns whether none is left.
     fn leave_all(&mut self, alloc: Global, peer: &mut Peer<L>, server: usize, due: u64) -> bool
-        requires ready { AreReady ⟦<Client<Guest<L, T>> as Driven<Shared<P>>>⟧.ready
-            self.old.mux.roster }
-        requires linked { AreLinked ⟦<Guest<L, T> as Asking<Shared<P>>>⟧.awaited
-            self.old.mux.roster.slots self.old.mux.lines }
-        requires nobody { NobodyForgotten (T.awaited, T.talk, L.port)
-            self.old.mux.roster.slots self.old.touched self.old.spent }
+        requires order { IsInOrder (T.awaited, T.talk, L.port) T.ready self.old }
         ensures open { OnTrue result (IsOpen (line_at self.new.mux server)) }
         ensures held { IsHeld (option_map L.port peer.new.socket) (line_at self.new.mux server) }
-        ensures nobody { NobodyForgotten (T.awaited, T.talk, L.port)
-            self.new.mux.roster.slots self.new.touched self.new.spent }
-        ensures ready { AreReady ⟦<Client<Guest<L, T>> as Driven<Shared<P>>>⟧.ready
-            self.new.mux.roster }
-        ensures linked { AreLinked ⟦<Guest<L, T> as Asking<Shared<P>>>⟧.awaited
-            self.new.mux.roster.slots self.new.mux.lines }
+        ensures acted { HasActed (T.awaited, T.talk, L.port) self.old self.new }
+        ensures order { IsInOrder (T.awaited, T.talk, L.port) T.ready self.new }
     {
         if is_open(&self.mux, server) {
             return true;
@@ -161,19 +125,10 @@ impl<P, L: Port + Drop, T: Talking<P> + Drop> Worker<L, T, P> {
     /// The next of them leaves. Returns whether there was one.
     fn leave_one(&mut self, alloc: Global, peer: &mut Peer<L>, server: usize, due: u64) -> bool
         requires gone { peer.old.socket ≡ None }
-        requires ready { AreReady ⟦<Client<Guest<L, T>> as Driven<Shared<P>>>⟧.ready
-            self.old.mux.roster }
-        requires linked { AreLinked ⟦<Guest<L, T> as Asking<Shared<P>>>⟧.awaited
-            self.old.mux.roster.slots self.old.mux.lines }
-        requires nobody { NobodyForgotten (T.awaited, T.talk, L.port)
-            self.old.mux.roster.slots self.old.touched self.old.spent }
+        requires order { IsInOrder (T.awaited, T.talk, L.port) T.ready self.old }
         ensures gone { peer.new.socket ≡ None }
-        ensures nobody { NobodyForgotten (T.awaited, T.talk, L.port)
-            self.new.mux.roster.slots self.new.touched self.new.spent }
-        ensures ready { AreReady ⟦<Client<Guest<L, T>> as Driven<Shared<P>>>⟧.ready
-            self.new.mux.roster }
-        ensures linked { AreLinked ⟦<Guest<L, T> as Asking<Shared<P>>>⟧.awaited
-            self.new.mux.roster.slots self.new.mux.lines }
+        ensures acted { HasActed (T.awaited, T.talk, L.port) self.old self.new }
+        ensures order { IsInOrder (T.awaited, T.talk, L.port) T.ready self.new }
     {
         if server >= self.mux.servers() {
             return false;
@@ -199,12 +154,7 @@ impl<P, L: Port + Drop, T: Talking<P> + Drop> Worker<L, T, P> {
     ) -> bool
         requires room { 0 < length buffer.old }
         requires held { IsHeld (option_map L.port peer.old.socket) (line_at self.old.mux server) }
-        requires ready { AreReady ⟦<Client<Guest<L, T>> as Driven<Shared<P>>>⟧.ready
-            self.old.mux.roster }
-        requires linked { AreLinked ⟦<Guest<L, T> as Asking<Shared<P>>>⟧.awaited
-            self.old.mux.roster.slots self.old.mux.lines }
-        requires nobody { NobodyForgotten (T.awaited, T.talk, L.port)
-            self.old.mux.roster.slots self.old.touched self.old.spent }
+        requires order { IsInOrder (T.awaited, T.talk, L.port) T.ready self.old }
         ensures cannot { OnTrue result
             (CannotRead (line_at self.new.mux server) (option_map L.port peer.new.socket)) }
         ensures taken { OnTrue result
@@ -212,12 +162,8 @@ impl<P, L: Port + Drop, T: Talking<P> + Drop> Worker<L, T, P> {
         ensures open { OnTrue result (IsOpen (line_at self.new.mux server)) }
         ensures held { IsHeld (option_map L.port peer.new.socket) (line_at self.new.mux server) }
         ensures room { length buffer.new ≡ length buffer.old }
-        ensures nobody { NobodyForgotten (T.awaited, T.talk, L.port)
-            self.new.mux.roster.slots self.new.touched self.new.spent }
-        ensures ready { AreReady ⟦<Client<Guest<L, T>> as Driven<Shared<P>>>⟧.ready
-            self.new.mux.roster }
-        ensures linked { AreLinked ⟦<Guest<L, T> as Asking<Shared<P>>>⟧.awaited
-            self.new.mux.roster.slots self.new.mux.lines }
+        ensures acted { HasActed (T.awaited, T.talk, L.port) self.old self.new }
+        ensures order { IsInOrder (T.awaited, T.talk, L.port) T.ready self.new }
     {
         for _ in 0..READS {
             if !self.take_all(alloc, peer, server, due) {
@@ -233,22 +179,13 @@ impl<P, L: Port + Drop, T: Talking<P> + Drop> Worker<L, T, P> {
     /// Takes the responses of a server that came. Returns whether there are no more.
     fn take_all(&mut self, alloc: Global, peer: &mut Peer<L>, server: usize, due: u64) -> bool
         requires held { IsHeld (option_map L.port peer.old.socket) (line_at self.old.mux server) }
-        requires ready { AreReady ⟦<Client<Guest<L, T>> as Driven<Shared<P>>>⟧.ready
-            self.old.mux.roster }
-        requires linked { AreLinked ⟦<Guest<L, T> as Asking<Shared<P>>>⟧.awaited
-            self.old.mux.roster.slots self.old.mux.lines }
-        requires nobody { NobodyForgotten (T.awaited, T.talk, L.port)
-            self.old.mux.roster.slots self.old.touched self.old.spent }
+        requires order { IsInOrder (T.awaited, T.talk, L.port) T.ready self.old }
         ensures taken { OnTrue result
             (HasNoResponse ⟦<Guest<L, T> as Asking<Shared<P>>>⟧.asks_for self.new.mux server) }
         ensures open { OnTrue result (IsOpen (line_at self.new.mux server)) }
         ensures held { IsHeld (option_map L.port peer.new.socket) (line_at self.new.mux server) }
-        ensures nobody { NobodyForgotten (T.awaited, T.talk, L.port)
-            self.new.mux.roster.slots self.new.touched self.new.spent }
-        ensures ready { AreReady ⟦<Client<Guest<L, T>> as Driven<Shared<P>>>⟧.ready
-            self.new.mux.roster }
-        ensures linked { AreLinked ⟦<Guest<L, T> as Asking<Shared<P>>>⟧.awaited
-            self.new.mux.roster.slots self.new.mux.lines }
+        ensures acted { HasActed (T.awaited, T.talk, L.port) self.old self.new }
+        ensures order { IsInOrder (T.awaited, T.talk, L.port) T.ready self.new }
     {
         for _ in 0..RESPONSES {
             if !is_open(&self.mux, server) {
@@ -265,21 +202,12 @@ impl<P, L: Port + Drop, T: Talking<P> + Drop> Worker<L, T, P> {
     fn take_one(&mut self, alloc: Global, peer: &mut Peer<L>, server: usize, due: u64) -> bool
         requires server { server < length self.old.mux.lines }
         requires left { HasNoneLeaving (line_at self.old.mux server) }
-        requires ready { AreReady ⟦<Client<Guest<L, T>> as Driven<Shared<P>>>⟧.ready
-            self.old.mux.roster }
-        requires linked { AreLinked ⟦<Guest<L, T> as Asking<Shared<P>>>⟧.awaited
-            self.old.mux.roster.slots self.old.mux.lines }
-        requires nobody { NobodyForgotten (T.awaited, T.talk, L.port)
-            self.old.mux.roster.slots self.old.touched self.old.spent }
+        requires order { IsInOrder (T.awaited, T.talk, L.port) T.ready self.old }
         ensures taken { OnFalse result
             (HasNoResponse ⟦<Guest<L, T> as Asking<Shared<P>>>⟧.asks_for self.new.mux server) }
         ensures held { IsHeld (option_map L.port peer.new.socket) (line_at self.new.mux server) }
-        ensures nobody { NobodyForgotten (T.awaited, T.talk, L.port)
-            self.new.mux.roster.slots self.new.touched self.new.spent }
-        ensures ready { AreReady ⟦<Client<Guest<L, T>> as Driven<Shared<P>>>⟧.ready
-            self.new.mux.roster }
-        ensures linked { AreLinked ⟦<Guest<L, T> as Asking<Shared<P>>>⟧.awaited
-            self.new.mux.roster.slots self.new.mux.lines }
+        ensures acted { HasActed (T.awaited, T.talk, L.port) self.old self.new }
+        ensures order { IsInOrder (T.awaited, T.talk, L.port) T.ready self.new }
     {
         let taken = self.take(alloc, server, due);
         peer.hold(is_open(&self.mux, server));
@@ -291,12 +219,7 @@ impl<P, L: Port + Drop, T: Talking<P> + Drop> Worker<L, T, P> {
         requires open { IsOpen (line_at self.old.mux server) }
         requires room { 0 < length buffer.old }
         requires held { IsHeld (option_map L.port peer.old.socket) (line_at self.old.mux server) }
-        requires ready { AreReady ⟦<Client<Guest<L, T>> as Driven<Shared<P>>>⟧.ready
-            self.old.mux.roster }
-        requires linked { AreLinked ⟦<Guest<L, T> as Asking<Shared<P>>>⟧.awaited
-            self.old.mux.roster.slots self.old.mux.lines }
-        requires nobody { NobodyForgotten (T.awaited, T.talk, L.port)
-            self.old.mux.roster.slots self.old.touched self.old.spent }
+        requires order { IsInOrder (T.awaited, T.talk, L.port) T.ready self.old }
         ensures read { OnTrue result (HasReadOn server now self.old.mux.lines
             (option_map L.port peer.old.socket) self.new.mux.lines) }
         ensures kept { OnFalse result (self.new ≡ self.old) }
@@ -304,12 +227,9 @@ impl<P, L: Port + Drop, T: Talking<P> + Drop> Worker<L, T, P> {
             (CannotRead (line_at self.new.mux server) (option_map L.port peer.new.socket)) }
         ensures held { IsHeld (option_map L.port peer.new.socket) (line_at self.new.mux server) }
         ensures room { length buffer.new ≡ length buffer.old }
-        ensures nobody { NobodyForgotten (T.awaited, T.talk, L.port)
-            self.new.mux.roster.slots self.new.touched self.new.spent }
-        ensures ready { AreReady ⟦<Client<Guest<L, T>> as Driven<Shared<P>>>⟧.ready
-            self.new.mux.roster }
-        ensures linked { AreLinked ⟦<Guest<L, T> as Asking<Shared<P>>>⟧.awaited
-            self.new.mux.roster.slots self.new.mux.lines }
+        ensures roster { self.new.mux.roster ≡ self.old.mux.roster }
+        ensures ends { self.new.ends ≡ self.old.ends }
+        ensures order { IsInOrder (T.awaited, T.talk, L.port) T.ready self.new }
     {
         if !read_wire(&mut self.mux, &mut peer.socket, server, now, buffer) {
             return false;
@@ -323,12 +243,7 @@ impl<P, L: Port + Drop, T: Talking<P> + Drop> Worker<L, T, P> {
     fn expire(&mut self, peer: &mut Peer<L>, server: usize, now: u64) -> bool
         requires open { IsOpen (line_at self.old.mux server) }
         requires held { IsHeld (option_map L.port peer.old.socket) (line_at self.old.mux server) }
-        requires ready { AreReady ⟦<Client<Guest<L, T>> as Driven<Shared<P>>>⟧.ready
-            self.old.mux.roster }
-        requires linked { AreLinked ⟦<Guest<L, T> as Asking<Shared<P>>>⟧.awaited
-            self.old.mux.roster.slots self.old.mux.lines }
-        requires nobody { NobodyForgotten (T.awaited, T.talk, L.port)
-            self.old.mux.roster.slots self.old.touched self.old.spent }
+        requires order { IsInOrder (T.awaited, T.talk, L.port) T.ready self.old }
         ensures kept { OnFalse result (self.new ≡ self.old) }
         ensures socket { OnFalse result (peer.new ≡ peer.old) }
         ensures time { OnFalse result
@@ -336,12 +251,9 @@ impl<P, L: Port + Drop, T: Talking<P> + Drop> Worker<L, T, P> {
         ensures late { OnTrue result
             (HasExpired server now self.old.mux.lines self.new.mux.lines) }
         ensures held { IsHeld (option_map L.port peer.new.socket) (line_at self.new.mux server) }
-        ensures nobody { NobodyForgotten (T.awaited, T.talk, L.port)
-            self.new.mux.roster.slots self.new.touched self.new.spent }
-        ensures ready { AreReady ⟦<Client<Guest<L, T>> as Driven<Shared<P>>>⟧.ready
-            self.new.mux.roster }
-        ensures linked { AreLinked ⟦<Guest<L, T> as Asking<Shared<P>>>⟧.awaited
-            self.new.mux.roster.slots self.new.mux.lines }
+        ensures roster { self.new.mux.roster ≡ self.old.mux.roster }
+        ensures ends { self.new.ends ≡ self.old.ends }
+        ensures order { IsInOrder (T.awaited, T.talk, L.port) T.ready self.new }
     {
         if !is_late(&self.mux, server, now) {
             return false;
@@ -353,24 +265,16 @@ impl<P, L: Port + Drop, T: Talking<P> + Drop> Worker<L, T, P> {
 
     /// Writes to a server what is to be written, once.
     pub(crate) fn write(&mut self, peer: &mut Peer<L>, server: usize)
-        requires ready { AreReady ⟦<Client<Guest<L, T>> as Driven<Shared<P>>>⟧.ready
-            self.old.mux.roster }
-        requires linked { AreLinked ⟦<Guest<L, T> as Asking<Shared<P>>>⟧.awaited
-            self.old.mux.roster.slots self.old.mux.lines }
-        requires nobody { NobodyForgotten (T.awaited, T.talk, L.port)
-            self.old.mux.roster.slots self.old.touched self.old.spent }
+        requires order { IsInOrder (T.awaited, T.talk, L.port) T.ready self.old }
         ensures wrote { IsOpen (line_at self.new.mux server)
             → CannotWriteTo (line_at self.new.mux server) (option_map L.port peer.new.socket) }
         ensures others { OtherLines server self.old.mux.lines self.new.mux.lines }
         ensures touched { self.new.touched ≡ self.old.touched }
         ensures spent { self.new.spent ≡ self.old.spent }
+        ensures ends { self.new.ends ≡ self.old.ends }
+        ensures roster { self.new.mux.roster ≡ self.old.mux.roster }
         ensures held { IsHeld (option_map L.port peer.new.socket) (line_at self.new.mux server) }
-        ensures nobody { NobodyForgotten (T.awaited, T.talk, L.port)
-            self.new.mux.roster.slots self.new.touched self.new.spent }
-        ensures ready { AreReady ⟦<Client<Guest<L, T>> as Driven<Shared<P>>>⟧.ready
-            self.new.mux.roster }
-        ensures linked { AreLinked ⟦<Guest<L, T> as Asking<Shared<P>>>⟧.awaited
-            self.new.mux.roster.slots self.new.mux.lines }
+        ensures order { IsInOrder (T.awaited, T.talk, L.port) T.ready self.new }
     {
         if is_open(&self.mux, server) {
             write_wire(&mut self.mux, &mut peer.socket, server);

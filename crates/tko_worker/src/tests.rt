@@ -1,13 +1,16 @@
 //! Clients that are served until they rest, and whole turns with a server.
 ghost use Rattle.std.specs.Prelude.{◌≡◌, None, Some, IfOk};
+ghost use Rattle.tko_worker.specs.Workers.{IsInOrder};
 
-use crate::{EventWorker, Worker};
+use crate::{EndCounts, EventWorker, Worker};
 use std::alloc::Global;
 use std::test::Fail;
 use tko_bytes::NoMemory;
 use tko_model::{Clear, Look, Mark};
 use tko_mux::Came;
-use tko_port::{End, Event, MemoryPort, Port, Read, Settled, Shared, Stage, Talking, settle};
+use tko_port::{
+    End, Event, MemoryPort, Port, Read, Settled, Shared, Stage, Talking, Tally, settle,
+};
 use tko_text::{Key, Keys, Request};
 
 /// A session that replies with what it was sent, at most so many bytes at a time, and asks no
@@ -16,6 +19,7 @@ use tko_text::{Key, Keys, Request};
 struct EchoTalk {
     unread: Vec<u8>,
     output: Vec<u8>,
+    taken: u64,
     most: usize,
     stage: Stage,
     is_ended: bool,
@@ -26,7 +30,12 @@ struct EchoTalk {
 impl Talking<()> for EchoTalk {
     ghost use Rattle.std.specs.Prelude.{Some};
 
-    ghost talk = { λ echo. record { stage = echo.stage; output = echo.output.items } };
+    ghost talk = { λ echo. record {
+      stage = echo.stage;
+      output = echo.output.items;
+      answered = 0;
+      taken = echo.taken;
+    } };
 
     ghost awaited = { λ echo. echo.awaits };
 
@@ -68,8 +77,17 @@ impl Talking<()> for EchoTalk {
         self.output.as_slice()
     }
 
+    fn tally(&self) -> Tally {
+        Tally {
+            requests: 0,
+            taken: self.taken,
+            waiting: self.output.len(),
+        }
+    }
+
     fn sent(&mut self, _parts: &mut (), count: usize) {
         self.output.drain(..count);
+        self.taken = self.taken.saturating_add(count as u64);
         self.stage = Stage::Going;
     }
 
@@ -103,6 +121,7 @@ fn new_echo(alloc: Global, most: usize) -> Result<EchoTalk, Fail>
     Ok(EchoTalk {
         unread: Vec::new(alloc),
         output: Vec::new(alloc),
+        taken: 0,
         most,
         stage: Stage::Going,
         is_ended: false,
@@ -143,7 +162,9 @@ fn a_client_is_served_at_the_end_of_the_turn(rt: HostRuntime) -> Result<(), Fail
         parts: (),
         buffer: vec![in alloc; 0; 4]?,
     };
-    let mut worker = Worker::new(alloc, shared, 1, 100)?;
+    let Ok(mut worker) = Worker::new(alloc, shared, 1, 100) else {
+        return Err("no memory".into());
+    };
     let port = MemoryPort::new(alloc, b"one two".to_vec(alloc)?, 100);
     let number = worker.open(port, new_echo(alloc, 100)?)?;
     worker.end_turn(alloc, 100);
@@ -204,6 +225,7 @@ struct AskTalk {
     has_come: bool,
     awaits: Option<usize>,
     output: Vec<u8>,
+    taken: u64,
     stage: Stage,
 }
 
@@ -220,7 +242,12 @@ fn clear_of(server: usize) -> Option<Clear>
 impl Talking<()> for AskTalk {
     ghost use Rattle.std.specs.Prelude.{None, Some};
 
-    ghost talk = { λ it. record { stage = it.stage; output = it.output.items } };
+    ghost talk = { λ it. record {
+      stage = it.stage;
+      output = it.output.items;
+      answered = 0;
+      taken = it.taken;
+    } };
 
     ghost awaited = { λ it. it.awaits };
 
@@ -260,8 +287,17 @@ impl Talking<()> for AskTalk {
         self.output.as_slice()
     }
 
+    fn tally(&self) -> Tally {
+        Tally {
+            requests: 0,
+            taken: self.taken,
+            waiting: self.output.len(),
+        }
+    }
+
     fn sent(&mut self, _parts: &mut (), count: usize) {
         self.output.drain(..count);
+        self.taken = self.taken.saturating_add(count as u64);
     }
 
     fn feed(&mut self, _parts: &mut (), _piece: &[u8]) -> Result<(), NoMemory> {
@@ -298,6 +334,7 @@ fn new_asker(alloc: Global) -> Result<AskTalk, Fail>
         has_come: false,
         awaits: None,
         output: Vec::new(alloc),
+        taken: 0,
         stage: Stage::NeedsInput,
     })
 }
@@ -310,6 +347,20 @@ fn new_port(alloc: Global, input: &[u8]) -> Result<LatePort, Fail> {
     })
 }
 
+/// The end of a turn at a moment: clients are served, and what they ask is written. Returns whether
+/// all rest.
+fn end_turn<P, L: Port + Drop, T: Talking<P> + Drop>(
+    alloc: Global,
+    worker: &mut EventWorker<L, T, P>,
+    now: u64,
+) -> bool
+    requires { IsInOrder (T.awaited, T.talk, L.port) T.ready worker.old.clients }
+    ensures { IsInOrder (T.awaited, T.talk, L.port) T.ready worker.new.clients }
+{
+    worker.serve(alloc, &mut [0; 4], now, now + 100);
+    worker.finish(now)
+}
+
 #[test]
 fn a_request_is_written_and_the_response_reaches_its_client(rt: HostRuntime) -> Result<(), Fail> {
     let alloc = rt.alloc();
@@ -317,19 +368,21 @@ fn a_request_is_written_and_the_response_reaches_its_client(rt: HostRuntime) -> 
         parts: (),
         buffer: vec![in alloc; 0; 4]?,
     };
-    let mut worker = EventWorker::new(alloc, shared, 1, 100)?;
+    let Ok(mut worker) = EventWorker::new(alloc, shared, 1, 100) else {
+        return Err("no memory".into());
+    };
     let number = worker
         .clients
         .open(new_port(alloc, b"".as_slice())?, new_asker(alloc)?)?;
-    assert!(rt; worker.end_turn(alloc, &mut [0; 4], 1, 101));
+    assert!(rt; end_turn(alloc, &mut worker, 1));
     assert!(rt; worker.wants(0));
     assert_eq!(rt; worker.next_due(), Some(101));
     worker.connecting(0, new_port(alloc, b"VERSION 1\r\n".as_slice())?);
     worker.connected(0);
-    assert!(rt; worker.end_turn(alloc, &mut [0; 4], 2, 102));
+    assert!(rt; end_turn(alloc, &mut worker, 2));
     worker.note_server(0, Event::Readable);
-    assert!(rt; !worker.end_turn(alloc, &mut [0; 4], 3, 103));
-    assert!(rt; worker.end_turn(alloc, &mut [0; 4], 3, 103));
+    assert!(rt; !end_turn(alloc, &mut worker, 3));
+    assert!(rt; end_turn(alloc, &mut worker, 3));
     assert!(rt; !worker.wants(0));
     let next = new_port(alloc, b"".as_slice())?;
     assert_eq!(rt; worker.clients.open(next, new_asker(alloc)?)?, number);
@@ -343,15 +396,17 @@ fn a_client_whose_server_is_late_is_told_so(rt: HostRuntime) -> Result<(), Fail>
         parts: (),
         buffer: vec![in alloc; 0; 4]?,
     };
-    let mut worker = EventWorker::new(alloc, shared, 1, 100)?;
+    let Ok(mut worker) = EventWorker::new(alloc, shared, 1, 100) else {
+        return Err("no memory".into());
+    };
     worker
         .clients
         .open(new_port(alloc, b"".as_slice())?, new_asker(alloc)?)?;
-    assert!(rt; worker.end_turn(alloc, &mut [0; 4], 1, 101));
-    assert!(rt; worker.end_turn(alloc, &mut [0; 4], 100, 200));
+    assert!(rt; end_turn(alloc, &mut worker, 1));
+    assert!(rt; end_turn(alloc, &mut worker, 100));
     assert!(rt; worker.wants(0));
-    assert!(rt; !worker.end_turn(alloc, &mut [0; 4], 101, 201));
-    assert!(rt; worker.end_turn(alloc, &mut [0; 4], 101, 201));
+    assert!(rt; !end_turn(alloc, &mut worker, 101));
+    assert!(rt; end_turn(alloc, &mut worker, 101));
     assert_eq!(rt; worker.next_due(), None);
     Ok(())
 }
@@ -365,16 +420,23 @@ fn a_client_that_leaves_keeps_its_number_until_its_request_is_done(
         parts: (),
         buffer: vec![in alloc; 0; 4]?,
     };
-    let mut worker = EventWorker::new(alloc, shared, 1, 100)?;
+    let Ok(mut worker) = EventWorker::new(alloc, shared, 1, 100) else {
+        return Err("no memory".into());
+    };
     let port = new_port(alloc, b"".as_slice())?;
     let number = worker.clients.open(port, new_asker(alloc)?)?;
-    assert!(rt; worker.end_turn(alloc, &mut [0; 4], 1, 101));
-    worker.clients.gone(alloc, number);
-    assert!(rt; worker.end_turn(alloc, &mut [0; 4], 2, 102));
+    assert!(rt; end_turn(alloc, &mut worker, 1));
+    worker.clients.gone(alloc, number, End::WriteFailed);
+    assert_eq!(rt; worker.clients.tally(number), None);
+    assert!(rt; end_turn(alloc, &mut worker, 2));
     let next = new_port(alloc, b"".as_slice())?;
     assert!(rt; worker.clients.open(next, new_asker(alloc)?)? != number);
     worker.failed(0);
-    worker.end_turn(alloc, &mut [0; 4], 3, 103);
+    assert_eq!(rt; worker.clients.take_ends(), EndCounts::none());
+    end_turn(alloc, &mut worker, 3);
+    let ends = worker.clients.take_ends();
+    assert_eq!(rt; ends.write, 1);
+    assert_eq!(rt; worker.clients.take_ends(), EndCounts::none());
     let last = new_port(alloc, b"".as_slice())?;
     assert_eq!(rt; worker.clients.open(last, new_asker(alloc)?)?, number);
     Ok(())

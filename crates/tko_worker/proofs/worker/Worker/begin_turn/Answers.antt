@@ -1,14 +1,13 @@
-use Rattle.std.proofs.Common.{ap, subst, sym}
-use Rattle.tko_worker.specs.Workers.{NobodyForgotten, WorkerState}
-use Rattle.tko_worker.proofs.RestLemmas.{swapped}
+use Rattle.std.proofs.Common.{◌∙◌, ap}
+use Rattle.tko_worker.specs.Workers.{WorkerState}
+use Rattle.tko_worker.proofs.RestLemmas.{turn_begun}
 use Rattle.tko_worker.proofs.worker.Worker.begin_turn.Goals as goal
 
-pub returns-clause-nobody : goal.returns-clause-nobody
-returns-clause-nobody g c =
-    swapped (g.T.Talking.awaited, g.T.Talking.talk, g.L.Port.port)
-    c.self.inside.mux.roster.slots c.self.inside.touched.items
-    c.self.inside.spent.items c.swap.new.x.items c.swap.new.y.items
-    (subst (λ (w : WorkerState _ _ _). NobodyForgotten
-    (g.T.Talking.awaited, g.T.Talking.talk, g.L.Port.port) w.mux.roster.slots w.touched w.spent)
-    (sym c.self.view_is) c.requires)
-    (ap (λ v. v.items) c.swap.ensures.x_after) (ap (λ v. v.items) c.swap.ensures.y_after)
+pub returns-clause-order : goal.returns-clause-order
+returns-clause-order g c =
+    turn_begun (g.T.Talking.awaited, g.T.Talking.talk, g.L.Port.port) g.T.Talking.ready
+    c.args.self.now _ c.requires (ap (λ (w : WorkerState _ _ _). w.mux) c.self.view_is)
+    (ap (λ v. v.items) c.swap.ensures.x_after
+    ∙ ap (λ (w : WorkerState _ _ _). w.spent) c.self.view_is)
+    (ap (λ v. v.items) c.swap.ensures.y_after
+    ∙ ap (λ (w : WorkerState _ _ _). w.touched) c.self.view_is)

@@ -1,4 +1,5 @@
 use Rattle.std.proofs.Common.{rules, arith, ◌≡◌, ◌+◌, [], ◌∷◌, ◌++◌, ap, ◌∙◌, length, length-append}
+use Rattle.tko_worker.proofs.ActedLemmas.{acted_on}
 use Rattle.tko_worker.proofs.RestLemmas.{one_served}
 use Rattle.tko_worker.proofs.worker.Worker.end_turn.Goals as goal
 
@@ -18,4 +19,7 @@ loop-preserved g c =
           c.loop.self-inside.spent.items c.serve.new.spent.items c.loop.invariant.nobody last
           c.serve.ensures.others c.serve.ensures.served;
       left = omega (arith, len, c.loop.invariant.left);
+      acted = acted_on (g.T.Talking.awaited, g.T.Talking.talk, g.L.Port.port) _
+          (c.loop.self-inside.mux.roster, c.loop.self-inside.ends)
+          (c.serve.new.mux.roster, c.serve.new.ends) c.loop.invariant.acted c.serve.ensures.acted;
     }

@@ -1,6 +1,7 @@
 use Rattle.std.proofs.Common.{◌≡◌, ◌+◌, length}
 use Rattle.tko_roster.specs.Rosters.{AreReady}
 use Rattle.tko_mux.specs.Linking.{AreLinked}
+use Rattle.tko_worker.specs.Acts.{HaveActed}
 use Rattle.tko_worker.specs.Workers.{NobodyForgotten}
 use Rattle.tko_worker.proofs.worker.Worker.end_turn.Given as goal
 
@@ -13,4 +14,7 @@ invariant-loop g l = record {
   nobody : NobodyForgotten (g.T.Talking.awaited, g.T.Talking.talk, g.L.Port.port)
       l.self-inside.mux.roster.slots l.self-inside.touched.items l.self-inside.spent.items;
   left : length l.self-inside.touched.items + l.counter ≡ l.end;
+  acted : HaveActed (g.T.Talking.awaited, g.T.Talking.talk, g.L.Port.port)
+      (l.initial.self-inside.mux.roster, l.initial.self-inside.ends)
+      (l.self-inside.mux.roster, l.self-inside.ends);
 }

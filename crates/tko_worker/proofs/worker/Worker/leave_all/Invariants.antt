@@ -1,16 +1,11 @@
 use Rattle.std.proofs.Common.{◌≡◌, None}
-use Rattle.tko_roster.specs.Rosters.{AreReady}
-use Rattle.tko_mux.specs.Linking.{AreLinked}
-use Rattle.tko_worker.specs.Workers.{NobodyForgotten}
+use Rattle.tko_worker.specs.Acts.{HasActed}
+use Rattle.tko_worker.specs.Workers.{IsInOrder}
 use Rattle.tko_worker.proofs.worker.Worker.leave_all.Given as goal
 
 abbrev pub invariant-loop : goal.invariant-loop
 invariant-loop g l = record {
-  ready : AreReady (λ shared client. g.T.Talking.ready shared.parts client.session.talk)
-      l.self.mux.roster;
-  linked : AreLinked (λ guest. g.T.Talking.awaited guest.talk) l.self.mux.roster.slots
-      l.self.mux.lines;
-  nobody : NobodyForgotten (g.T.Talking.awaited, g.T.Talking.talk, g.L.Port.port)
-      l.self.mux.roster.slots l.self.touched l.self.spent;
+  order : IsInOrder (g.T.Talking.awaited, g.T.Talking.talk, g.L.Port.port) g.T.Talking.ready l.self;
   gone : l.peer.socket ≡ None;
+  acted : HasActed (g.T.Talking.awaited, g.T.Talking.talk, g.L.Port.port) l.initial.self l.self;
 }

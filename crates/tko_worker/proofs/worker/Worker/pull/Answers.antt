@@ -1,9 +1,61 @@
 use Rattle.std.proofs.Common.{subst, sym}
 use Rattle.tko_worker.specs.Servers.{HasNoResponse}
 use Rattle.tko_worker.specs.Workers.{WorkerState}
+use Rattle.std.proofs.Common.{◌∙◌, arith}
+use Rattle.tko_worker.proofs.ActedLemmas.{acted_on, acted_same}
 use Rattle.tko_worker.proofs.worker.Worker.pull.Goals as goal
 
 pub returns-then-not-read-clause-taken : goal.returns-then-not-read-clause-taken
 returns-then-not-read-clause-taken g c =
     subst (λ (w : WorkerState _ _ _). HasNoResponse (λ guest. g.T.Talking.asks_for guest.talk) w.mux
     c.args.server) (sym c.if-not-read.ensures.kept) c.if-not-take_all.ensures.taken
+
+pub returns-then-not-take_all-clause-acted : goal.returns-then-not-take_all-clause-acted
+returns-then-not-take_all-clause-acted g c =
+    acted_on (g.T.Talking.awaited, g.T.Talking.talk, g.L.Port.port) _ (
+      c.loop.self.mux.roster,
+      c.loop.self.ends,
+    )
+    (c.take_all.new.self.mux.roster, c.take_all.new.self.ends) c.loop.invariant.acted
+    c.if-not-take_all.ensures.acted
+
+pub returns-then-not-read-clause-acted : goal.returns-then-not-read-clause-acted
+returns-then-not-read-clause-acted g c =
+    acted_on (g.T.Talking.awaited, g.T.Talking.talk, g.L.Port.port) _
+    (c.take_all.new.self.mux.roster, c.take_all.new.self.ends)
+    (c.read.new.self.mux.roster, c.read.new.self.ends)
+    (acted_on (g.T.Talking.awaited, g.T.Talking.talk, g.L.Port.port) _ (
+      c.loop.self.mux.roster,
+      c.loop.self.ends,
+    )
+    (c.take_all.new.self.mux.roster, c.take_all.new.self.ends) c.loop.invariant.acted
+    c.if-not-take_all.ensures.acted)
+    (acted_same (g.T.Talking.awaited, g.T.Talking.talk, g.L.Port.port)
+    (c.take_all.new.self.mux.roster, c.take_all.new.self.ends) (
+      c.read.new.self.mux.roster,
+      c.read.new.self.ends,
+    ) c.if-not-read.ensures.roster
+    c.if-not-read.ensures.ends)
+
+pub loop-preserved : goal.loop-preserved
+loop-preserved g c = record {
+  order = c.if-not-read.ensures.order;
+  held = c.if-not-read.ensures.held;
+  room = omega (arith, c.if-not-read.ensures.room, c.loop.invariant.room);
+  len = c.if-not-read.ensures.room ∙ c.loop.invariant.len;
+  acted = acted_on (g.T.Talking.awaited, g.T.Talking.talk, g.L.Port.port) _
+      (c.take_all.new.self.mux.roster, c.take_all.new.self.ends)
+      (c.read.new.self.mux.roster, c.read.new.self.ends)
+      (acted_on (g.T.Talking.awaited, g.T.Talking.talk, g.L.Port.port) _ (
+        c.loop.self.mux.roster,
+        c.loop.self.ends,
+      )
+      (c.take_all.new.self.mux.roster, c.take_all.new.self.ends) c.loop.invariant.acted
+      c.if-not-take_all.ensures.acted)
+      (acted_same (g.T.Talking.awaited, g.T.Talking.talk, g.L.Port.port)
+      (c.take_all.new.self.mux.roster, c.take_all.new.self.ends) (
+        c.read.new.self.mux.roster,
+        c.read.new.self.ends,
+      ) c.if-not-read.ensures.roster
+      c.if-not-read.ensures.ends);
+}

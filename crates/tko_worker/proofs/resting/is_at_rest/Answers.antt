@@ -1,5 +1,5 @@
 use Rattle.tko_port.proofs.WireLemmas.{none_spent}
-use Rattle.tko_worker.proofs.event_worker.is_at_rest.Goals as goal
+use Rattle.tko_worker.proofs.resting.is_at_rest.Goals as goal
 
 pub returns-clause-spent : goal.returns-clause-spent
 returns-clause-spent g c =

@@ -1,0 +1,32 @@
+use Rattle.std.proofs.Common.{rules, subst}
+use Rattle.tko_worker.specs.Workers.{ListEnds}
+use Rattle.tko_worker.proofs.CountLemmas.{served_listed}
+use Rattle.tko_worker.proofs.RestLemmas.{served_after}
+use Rattle.tko_worker.proofs.ActedLemmas.{acted_on, listed_acted}
+use Rattle.tko_worker.proofs.serving.serve.Goals as goal
+
+pub returns-then-is_spent-clause-served : goal.returns-then-is_spent-clause-served
+returns-then-is_spent-clause-served g c =
+    served_after (g.T.Talking.awaited, g.T.Talking.talk, g.L.Port.port)
+    (λ guest. g.T.Talking.asks_for guest.talk) c.args.mux.now c.is_spent.new.mux c.list.new.mux
+    c.args.number c.args.due c.args.spent.now.items c.list.new.numbers.items (search rules)
+    c.list.ensures.listed
+
+pub returns-then-is_spent-clause-counted : goal.returns-then-is_spent-clause-counted
+returns-then-is_spent-clause-counted g c =
+    served_listed (g.T.Talking.awaited, g.T.Talking.talk, g.L.Port.port)
+    (λ guest. g.T.Talking.asks_for guest.talk) c.args.mux.now c.is_spent.new.mux c.list.new.mux
+    c.args.ends.now c.list.new.ends c.args.number c.args.due c.args.spent.now.items
+    c.list.new.numbers.items (search rules)
+    (subst (λ e. ListEnds g.T.Talking.awaited (c.is_spent.new.mux, e) c.args.number
+    c.args.spent.now.items (c.list.new.mux, c.list.new.ends) c.list.new.numbers.items)
+    (search rules) c.list.ensures.ends)
+
+pub returns-then-is_spent-clause-acted : goal.returns-then-is_spent-clause-acted
+returns-then-is_spent-clause-acted g c =
+    acted_on (g.T.Talking.awaited, g.T.Talking.talk, g.L.Port.port)
+    (c.args.mux.now.roster, c.args.ends.now) (c.is_spent.new.mux.roster, c.is_spent.new.ends)
+    (c.list.new.mux.roster, c.list.new.ends) c.is_spent.ensures.acted
+    (listed_acted (g.T.Talking.awaited, g.T.Talking.talk, g.L.Port.port)
+    (c.is_spent.new.mux, c.is_spent.new.ends) (c.list.new.mux, c.list.new.ends) c.args.number
+    c.args.spent.now.items c.list.new.numbers.items c.list.ensures.ends)

@@ -1,0 +1,48 @@
+-- What is counted where one client is served.
+use Rattle.std.specs.Prelude.{◌≡◌, ℕ, Option, is_some}
+use Rattle.tko_text.specs.declared.request.Request.{Request}
+use Rattle.tko_roster.specs.Rosters.{session_at}
+use Rattle.tko_mux.specs.declared.asking.Given.TheVariants.{Input}
+use Rattle.tko_mux.specs.declared.mux.delivery.Done.{Done}
+use Rattle.tko_mux.specs.Muxes.{IsMade, MuxState}
+use Rattle.tko_port.specs.declared.guest.Event.TheVariants.{Serve}
+use Rattle.tko_port.specs.declared.guest.Guest.{Guest}
+use Rattle.tko_port.specs.declared.guest.Shared.{Shared}
+use Rattle.tko_port.specs.declared.guest.Turned.{Turned}
+use Rattle.tko_port.specs.declared.guest.Turned.TheVariants.{Ends}
+use Rattle.tko_port.specs.declared.settling.End.{End}
+use Rattle.tko_port.specs.declared.settling.End.TheVariants.{Memory}
+use Rattle.tko_port.specs.Guests.{IsGuestCall}
+use Rattle.tko_worker.specs.Counts.{MuxAndEnds, counted}
+use Rattle.tko_worker.specs.Workers.{HasLeft, Sight, WasServed}
+
+-- a client was served, which ended so; it left
+pub record HasEnded {L T P : Type 0} (sight : Sight L T) (asks_for : Guest L T → Option Request)
+    (old : MuxState (Guest L T) (Shared P)) (number due : ℕ) (why : End)
+    (new : MuxState (Guest L T) (Shared P)) : Type 0 where
+  pub mid : MuxState (Guest L T) (Shared P)
+  pub done : Done Turned
+  pub made : IsMade (IsGuestCall sight.0 sight.1 sight.2) (λ guest. sight.0 guest.talk) asks_for old
+      number (Input Serve) due done mid
+  pub ends : done.did ≡ Ends why
+  pub left : HasLeft sight.0 mid number new
+
+-- a client was served, which was to be served again; it left, since there was no memory to note it
+pub record HasLost {L T P : Type 0} (sight : Sight L T) (asks_for : Guest L T → Option Request)
+    (old : MuxState (Guest L T) (Shared P)) (number due : ℕ)
+    (new : MuxState (Guest L T) (Shared P)) : Type 0 where
+  pub mid : MuxState (Guest L T) (Shared P)
+  pub served : WasServed sight asks_for old number due mid
+  pub left : HasLeft sight.0 mid number new
+
+-- what serving a number counts: nothing if its client did not leave; the end that serving it came
+-- to; or want of memory to note it
+pub data ServeCounts {L T P : Type 0} (sight : Sight L T) (asks_for : Guest L T → Option Request)
+    (old : MuxAndEnds L T P) (number due : ℕ) (new : MuxAndEnds L T P) : Type 0 where
+  stayed : is_some (session_at new.0.roster.slots number)
+      ≡ is_some (session_at old.0.roster.slots number) → new.1 ≡ old.1
+      → ServeCounts sight asks_for old number due new
+  ended : (why : End) → HasEnded sight asks_for old.0 number due why new.0
+      → new.1 ≡ counted why old.1 → ServeCounts sight asks_for old number due new
+  lost : HasLost sight asks_for old.0 number due new.0 → new.1 ≡ counted Memory old.1
+      → ServeCounts sight asks_for old number due new

@@ -1,0 +1,156 @@
+//! A turn of events of a worker's clients: what came is noted, and those that are to be served are.
+ghost use Rattle.std.specs.Prelude.{◌≡◌, ◌<◌, [], IfNone, length};
+ghost use Rattle.tko_mux.specs.Muxes.{HasNoneLeaving, line_at};
+ghost use Rattle.tko_port.specs.Guests.{IsNotice};
+ghost use Rattle.tko_worker.specs.Acts.{HasActed};
+ghost use Rattle.tko_worker.specs.Servers.{HasLeftNext, HasTaken};
+ghost use Rattle.tko_worker.specs.Workers.{IsInOrder, IsNoted};
+
+use crate::Worker;
+use crate::serving::{list, list_reached, serve};
+use std::alloc::Global;
+use std::mem::swap;
+use tko_mux::{Asking, Delivery};
+use tko_pipe::ShutCause;
+use tko_port::{End, Event, Guest, Port, Shared, Talking, Turned};
+
+impl<P, L: Port + Drop, T: Talking<P> + Drop> Worker<L, T, P> {
+    /// An event said that a client's port is readable.
+    pub fn readable(&mut self, alloc: Global, number: usize)
+        requires order { IsInOrder (T.awaited, T.talk, L.port) T.ready self.old }
+        ensures noted { IsNoted (T.awaited, T.talk, L.port) Event.Readable self.old number
+            self.new }
+        ensures acted { HasActed (T.awaited, T.talk, L.port) self.old self.new }
+        ensures order { IsInOrder (T.awaited, T.talk, L.port) T.ready self.new }
+    {
+        self.note(alloc, number, Event::Readable);
+    }
+
+    /// An event said that a client's port is writable.
+    pub fn writable(&mut self, alloc: Global, number: usize)
+        requires order { IsInOrder (T.awaited, T.talk, L.port) T.ready self.old }
+        ensures noted { IsNoted (T.awaited, T.talk, L.port) Event.Writable self.old number
+            self.new }
+        ensures acted { HasActed (T.awaited, T.talk, L.port) self.old self.new }
+        ensures order { IsInOrder (T.awaited, T.talk, L.port) T.ready self.new }
+    {
+        self.note(alloc, number, Event::Writable);
+    }
+
+    /// An event said that a client sends no more.
+    pub fn ended(&mut self, alloc: Global, number: usize)
+        requires order { IsInOrder (T.awaited, T.talk, L.port) T.ready self.old }
+        ensures noted { IsNoted (T.awaited, T.talk, L.port) Event.Ended self.old number
+            self.new }
+        ensures acted { HasActed (T.awaited, T.talk, L.port) self.old self.new }
+        ensures order { IsInOrder (T.awaited, T.talk, L.port) T.ready self.new }
+    {
+        self.note(alloc, number, Event::Ended);
+    }
+
+    /// A client is to leave: nothing is read from it or written to it any more, and it ends so. If
+    /// a request of it is under way, it keeps its number until it took what came of that.
+    pub fn gone(&mut self, alloc: Global, number: usize, why: End)
+        requires order { IsInOrder (T.awaited, T.talk, L.port) T.ready self.old }
+        ensures noted { IsNoted (T.awaited, T.talk, L.port) (Event.Leave why) self.old number
+            self.new }
+        ensures acted { HasActed (T.awaited, T.talk, L.port) self.old self.new }
+        ensures order { IsInOrder (T.awaited, T.talk, L.port) T.ready self.new }
+    {
+        self.note(alloc, number, Event::Leave(why));
+    }
+
+    /// Notes an event at a client's port, and that this client is to be served.
+    fn note(&mut self, alloc: Global, number: usize, event: Event)
+        requires event { IsNotice event }
+        requires order { IsInOrder (T.awaited, T.talk, L.port) T.ready self.old }
+        ensures noted { IsNoted (T.awaited, T.talk, L.port) event self.old number
+            self.new }
+        ensures acted { HasActed (T.awaited, T.talk, L.port) self.old self.new }
+        ensures order { IsInOrder (T.awaited, T.talk, L.port) T.ready self.new }
+    {
+        let _ = self.mux.act(alloc, number, event, 0);
+        list(&mut self.mux, &mut self.touched, &mut self.ends, number);
+    }
+
+    /// Reads the next response of a server, as soon as all of it came. The client that awaits it
+    /// takes it, and is served in this turn. What came for a probe is returned alike. An `Err` says
+    /// why this shut the connection.
+    pub fn take(
+        &mut self,
+        alloc: Global,
+        server: usize,
+        due: u64,
+    ) -> Result<Option<Delivery<Turned>>, ShutCause>
+        requires server { server < length self.old.mux.lines }
+        requires left { HasNoneLeaving (line_at self.old.mux server) }
+        requires order { IsInOrder (T.awaited, T.talk, L.port) T.ready self.old }
+        ensures taken { HasTaken (T.awaited, T.talk, L.port)
+            ⟦<Guest<L, T> as Asking<Shared<P>>>⟧.asks_for self.old server due result self.new }
+        ensures acted { HasActed (T.awaited, T.talk, L.port) self.old self.new }
+        ensures order { IsInOrder (T.awaited, T.talk, L.port) T.ready self.new }
+    {
+        match self.mux.take(alloc, server, due) {
+            Ok(Some(delivery)) => {
+                list_reached(&mut self.mux, &mut self.touched, &mut self.ends, &delivery);
+                Ok(Some(delivery))
+            }
+            Ok(None) => Ok(None),
+            Err(cause) => Err(cause),
+        }
+    }
+
+    /// The next of those that waited on a connection to this server that was shut takes what became
+    /// of its request, and is served in this turn. What came for a probe is returned alike.
+    pub fn leave(&mut self, alloc: Global, server: usize, due: u64) -> Option<Delivery<Turned>>
+        requires server { server < length self.old.mux.lines }
+        requires order { IsInOrder (T.awaited, T.talk, L.port) T.ready self.old }
+        ensures told { HasLeftNext (T.awaited, T.talk, L.port)
+            ⟦<Guest<L, T> as Asking<Shared<P>>>⟧.asks_for self.old server due result self.new }
+        ensures none { IfNone result (HasNoneLeaving (line_at self.new.mux server)) }
+        ensures acted { HasActed (T.awaited, T.talk, L.port) self.old self.new }
+        ensures order { IsInOrder (T.awaited, T.talk, L.port) T.ready self.new }
+    {
+        match self.mux.leave(alloc, server, due) {
+            Some(delivery) => {
+                list_reached(&mut self.mux, &mut self.touched, &mut self.ends, &delivery);
+                Some(delivery)
+            }
+            None => None,
+        }
+    }
+
+    /// The next turn begins: those that were left for it are to be served.
+    pub fn begin_turn(&mut self)
+        requires { IsInOrder (T.awaited, T.talk, L.port) T.ready self.old }
+        ensures order { IsInOrder (T.awaited, T.talk, L.port) T.ready self.new }
+        ensures spent { self.old.touched ≡ [] → self.new.spent ≡ [] }
+        ensures mux { self.new.mux ≡ self.old.mux }
+        ensures ends { self.new.ends ≡ self.old.ends }
+    {
+        swap(&mut self.touched, &mut self.spent);
+    }
+
+    /// Serves all clients that are to be served in this turn. After it each client rests, or is
+    /// served again in the next turn. A request that a client sends is due at this moment.
+    pub fn end_turn(&mut self, alloc: Global, due: u64)
+        requires order { IsInOrder (T.awaited, T.talk, L.port) T.ready self.old }
+        ensures served { self.new.touched ≡ [] }
+        ensures acted { HasActed (T.awaited, T.talk, L.port) self.old self.new }
+        ensures order { IsInOrder (T.awaited, T.talk, L.port) T.ready self.new }
+    {
+        for _ in 0..self.touched.len() {
+            let Some(number) = self.touched.pop() else {
+                return;
+            };
+            serve(
+                &mut self.mux,
+                &mut self.spent,
+                &mut self.ends,
+                alloc,
+                number,
+                due,
+            );
+        }
+    }
+}
