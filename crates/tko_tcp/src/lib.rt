@@ -3,6 +3,8 @@
 //! - `TcpWire`: the connections over the system's sockets, at most one to each server; `TcpLinks`:
 //!   links over them.
 //! - `Names`: the hosts of the servers, which one thread looks up for all workers.
+//! - `ServerHost`: where a server is, for a caller that may not wait; `NamedHost`: a server at a
+//!   host that is looked up, and `Known` what is known of its addresses.
 #![tactic(auto)]
 
 mod addresses;
@@ -10,8 +12,10 @@ mod exchange_time;
 mod host_state;
 mod laws;
 mod limited_stream;
+mod named_host;
 mod names;
 mod probe_time;
+mod server_host;
 mod tcp_address;
 mod tcp_connect;
 mod tcp_connection;
@@ -19,7 +23,9 @@ mod tcp_server;
 mod tcp_wire;
 
 pub use laws::tcp_counts;
+pub use named_host::NamedHost;
 pub use names::Names;
+pub use server_host::{Known, ServerHost};
 pub use tcp_wire::{TcpLinks, TcpWire};
 
 #[cfg(test)]

@@ -1,5 +1,10 @@
 //! The hosts of the servers that have to be looked up.
-ghost use Rattle.std.specs.Prelude.{◌≡◌, IfSome, string_bytes};
+ghost use Rattle.std.specs.Prelude.{◌≡◌, ◌<◌, IfOk, IfSome, Some, length, string_bytes};
+ghost use Rattle.std.specs.Arc.{arc_value};
+ghost use Rattle.std.specs.Bool.{OnTrue};
+ghost use Rattle.tko_tcp.specs.declared.host_state.HostState.{HostState};
+ghost use Rattle.tko_tcp.specs.Hosts.{IsNext};
+ghost use Rattle.tko_tcp.specs.ServerHosts.{name_at};
 
 use crate::addresses::Addresses;
 use crate::exchange_time::ExchangeTime;
@@ -57,7 +62,9 @@ impl Names {
     }
 
     /// The same hosts, for another thread.
-    pub fn another(&self) -> Result<Names, AllocError> {
+    pub fn another(&self) -> Result<Names, AllocError>
+        ensures { IfOk result (λ names. arc_value names.shared ≡ arc_value self.now.shared) }
+    {
         let shared = Arc::try_clone(&self.shared)?;
         Ok(Names { shared })
     }
@@ -117,6 +124,39 @@ impl Names {
             .find(|host| host.name.as_str() == name)
     }
 
+    /// The place of the host with this name.
+    pub(crate) fn place(&self, name: &str) -> Option<usize>
+        ensures { IfSome result (λ place.
+            name_at (arc_value self.now.shared).hosts.items place ≡ Some name.now) }
+    {
+        for place in 0..self.shared.hosts.len() {
+            if self.shared.hosts[place].has_name(name) {
+                return Some(place);
+            }
+        }
+        None
+    }
+
+    /// What a connect to the host at a place does that does not wait. Where none of its addresses
+    /// is known, a look-up is asked for, unless one has ended since so many had.
+    pub(crate) fn next<R: Wait>(&self, rt: &R, place: usize, since: Option<u64>) -> Step
+        requires { place < length (arc_value self.now.shared).hosts.items }
+        ensures { (old new : HostState) × IsNext old since result new }
+    {
+        let step = self.shared.hosts[place].next(rt, since);
+        if let Step::Wait(_) = &step {
+            self.wake_resolver();
+        }
+        step
+    }
+
+    /// Asks for a look-up of the host at a place.
+    pub(crate) fn ask_at<R: Wait>(&self, rt: &R, place: usize)
+        requires { place < length (arc_value self.now.shared).hosts.items }
+    {
+        self.ask(rt, &self.shared.hosts[place]);
+    }
+
     /// The addresses of a host. Where none are known it waits for a look-up to end, as long as the
     /// exchange has time; None stands for none found until then.
     pub(crate) fn addresses<R: IoRuntime>(
@@ -154,7 +194,15 @@ impl Names {
 }
 
 impl Host {
-    fn next<R: Wait>(&self, rt: &R, since: Option<u64>) -> Step {
+    fn has_name(&self, name: &str) -> bool
+        ensures { OnTrue result (string_bytes self.now.name ≡ name.now) }
+    {
+        self.name.as_str() == name
+    }
+
+    fn next<R: Wait>(&self, rt: &R, since: Option<u64>) -> Step
+        ensures { (old new : HostState) × IsNext old since result new }
+    {
         self.state.lock(rt).next(since)
     }
 }

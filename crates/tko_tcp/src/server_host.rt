@@ -1,0 +1,93 @@
+//! Where a server is, for a caller that may not wait for a look-up.
+ghost use Rattle.std.specs.Prelude.{◌≡◌, IfOk, OnErr, OnOk};
+ghost use Rattle.tko_tcp.specs.ServerHosts.{IsLearned, LeadsTo};
+
+use crate::host_state::Step;
+use crate::named_host::NamedHost;
+use crate::names::Names;
+use crate::tcp_address::host_and_port;
+use std::alloc::AllocError;
+use std::net::{IpAddr, SocketAddr};
+use std::sync::Wait;
+use tko_bytes::NoMemory;
+
+/// Where a server is.
+#[derive(Drop)]
+pub enum ServerHost {
+    /// Its address leads nowhere.
+    Nowhere,
+    /// It is at one IP address.
+    Fixed(SocketAddr),
+    /// It is at the addresses of a host that is looked up.
+    Named(NamedHost),
+}
+
+/// What is known of a host's addresses.
+#[derive(Clone, Copy, Debug, PartialEq, Eq)]
+pub enum Known {
+    /// Some are known.
+    Addresses,
+    /// None is, and a look-up is asked for. So many had ended.
+    Asked(u64),
+    /// None is, although a look-up has ended meanwhile.
+    Nothing,
+}
+
+impl Names {
+    /// Where the server with this address is.
+    pub fn server_host(&self, address: &str) -> Result<ServerHost, AllocError>
+        ensures { IfOk result (λ host. LeadsTo address.now host) }
+    {
+        let Some((host, port)) = host_and_port(address) else {
+            return Ok(ServerHost::Nowhere);
+        };
+        if let Ok(ip) = host.parse::<IpAddr>() {
+            return Ok(ServerHost::Fixed(SocketAddr::new(ip, port)));
+        }
+        let Some(place) = self.place(host) else {
+            return Ok(ServerHost::Nowhere);
+        };
+        let host = NamedHost::new(self.another()?, place, port);
+        Ok(ServerHost::Named(host))
+    }
+}
+
+impl NamedHost {
+    /// What is known now, which takes the place of those addresses. Where none is known, a look-up
+    /// is asked for, unless one has ended since so many had.
+    pub fn known<R: Wait>(
+        &self,
+        rt: &R,
+        since: Option<u64>,
+        all: &mut Vec<SocketAddr>,
+    ) -> Result<Known, NoMemory>
+        ensures ok { IfOk result (λ known.
+            IsLearned since all.old.items known all.new.items) }
+        ensures err { OnErr result (all.new.items ≡ all.old.items) }
+    {
+        match self.names.next(rt, self.place, since) {
+            Step::Try(addresses) => {
+                replace(all, addresses.as_slice())?;
+                Ok(Known::Addresses)
+            }
+            Step::Wait(ended) => Ok(Known::Asked(ended)),
+            Step::GiveUp => Ok(Known::Nothing),
+        }
+    }
+
+    /// Asks for a look-up.
+    pub fn ask<R: Wait>(&self, rt: &R) {
+        self.names.ask_at(rt, self.place);
+    }
+}
+
+/// Puts these addresses in the place of others. Without memory those stay.
+fn replace(all: &mut Vec<SocketAddr>, found: &[SocketAddr]) -> Result<(), NoMemory>
+    ensures ok { OnOk result (all.new.items ≡ found.now) }
+    ensures err { OnErr result (all.new.items ≡ all.old.items) }
+{
+    let before = all.len();
+    all.extend_from_slice(found)?;
+    all.drain(..before);
+    Ok(())
+}
