@@ -1,7 +1,9 @@
 pub mod Addresses
 pub mod Held
+pub mod Offers
 pub mod Pauses
 pub mod Seats
 pub mod Targets
 pub mod Tellings
 pub mod Waits
+pub mod Walks

@@ -1,29 +1,27 @@
 //! The loop.
-ghost use Rattle.std.specs.Prelude.{◌≡◌, ◌<◌, ℕ, None, IfOk, OnOk, length};
-ghost use Rattle.tko_roster.specs.Rosters.{AreReady, session_at};
-ghost use Rattle.tko_mux.specs.Linking.{AreLinked};
-ghost use Rattle.tko_worker.specs.Workers.{NobodyForgotten};
+ghost use Rattle.std.specs.Prelude.{◌≡◌, ◌<◌, ℕ, None, IfErr, IfOk, OnOk, length};
+ghost use Rattle.tko_roster.specs.Rosters.{session_at};
+ghost use Rattle.tko_worker.specs.Workers.{IsInOrder};
 ghost use Rattle.tko_loop.specs.Held.{held_port};
 ghost use Rattle.tko_loop.specs.Waits.{MayWait};
 
 use crate::connecting::connect_all;
-use crate::handover::{Arrivals, open};
 use crate::noting::note_all;
+use crate::offering::offer_again;
 use crate::pause::pause_after;
 use crate::seats::Seats;
-use crate::targets::{WAKER, seat_token};
-use crate::{Addresses, Arrival, Greeter, Handover, Held};
+use crate::targets::seat_token;
+use crate::times::Times;
+use crate::walk::{look_at_all, relieve};
+use crate::{Addresses, Arrival, Entry, Held, Host, LoopLimits};
 use crossbeam_channel::TryRecvError;
-use mio::{Events, Poll};
-use std::alloc::Global;
+use mio::Events;
+use std::alloc::{AllocError, Global};
 use std::io;
-use std::io::ErrorKind;
 use std::time::Duration;
-use tko_bytes::NoMemory;
 use tko_io::{Clock, IoRuntime, MonotonicClock};
-use tko_mux::{Asking, Client};
-use tko_port::{Guest, Port, Shared, Talking};
-use tko_roster::Driven;
+use tko_pace::ClientTime;
+use tko_port::{Shared, Talking};
 use tko_socket::Socket;
 use tko_worker::EventWorker;
 
@@ -34,6 +32,9 @@ const EVENTS: usize = 1_024;
 const ADMISSIONS: u32 = 64;
 
 const PIECE: usize = 65_536;
+
+/// How many milliseconds there are between two walks over the clients.
+const WALK: u64 = 100;
 
 /// Whether another turn of events follows.
 #[derive(Clone, Copy, Debug, PartialEq, Eq)]
@@ -57,119 +58,101 @@ enum Intake {
 /// A worker over a poll of the system.
 #[derive(Drop)]
 pub struct EventLoop<T, P, K> {
-    poll: Poll,
+    entry: Entry<K>,
     events: Events,
     pub worker: EventWorker<Held<K>, T, P>,
     servers: Vec<Addresses>,
     /// For what servers send.
     buffer: Vec<u8>,
     seats: Seats,
-    arrivals: Arrivals<K>,
+    times: Times,
     clock: MonotonicClock,
-    /// How many milliseconds a server has for a response.
-    limit: u64,
+    limits: LoopLimits,
     /// The moment of the last turn, and how many milliseconds the poll may wait after it.
     moment: u64,
     pause: u64,
+    /// The moment of the last walk over the clients.
+    walked: u64,
 }
 
 impl<P: Drop, T: Talking<P> + Drop, K: Drop> EventLoop<T, P, K> {
-    /// A loop without clients, over these parts and these servers, each of which has so many
-    /// milliseconds for a response. So many clients can wait to be taken in.
+    /// A loop without clients, over these parts and these servers. Without memory the parts come
+    /// back.
     pub fn new<R: IoRuntime>(
         rt: &R,
         alloc: Global,
+        entry: Entry<K>,
         parts: P,
         servers: Vec<Addresses>,
-        limit: u64,
-        room: usize,
-    ) -> io::Result<(EventLoop<T, P, K>, Handover<K>)>
-        ensures nobody { IfOk result (λ made. NobodyForgotten (T.awaited, T.talk, held_port)
-            made.0.worker.clients.mux.roster.slots made.0.worker.clients.touched
-            made.0.worker.clients.spent) }
-        ensures ready { IfOk result (λ made.
-            AreReady ⟦<Client<Guest<Held<K>, T>> as Driven<Shared<P>>>⟧.ready
-            made.0.worker.clients.mux.roster) }
-        ensures linked { IfOk result (λ made.
-            AreLinked ⟦<Guest<Held<K>, T> as Asking<Shared<P>>>⟧.awaited
-            made.0.worker.clients.mux.roster.slots made.0.worker.clients.mux.lines) }
-        ensures room { IfOk result (λ made. 0 < length made.0.buffer.items) }
+        limits: LoopLimits,
+    ) -> Result<EventLoop<T, P, K>, P>
+        ensures back { IfErr result (λ back. back ≡ parts) }
+        ensures parts { IfOk result (λ it.
+            it.worker.clients.mux.roster.parts.parts ≡ parts) }
+        ensures peers { IfOk result (λ it.
+            length it.worker.peers.items ≡ length servers.items) }
+        ensures order { IfOk result (λ it.
+            IsInOrder (T.awaited, T.talk, held_port) T.ready it.worker.clients) }
+        ensures room { IfOk result (λ it. 0 < length it.buffer.items) }
     {
-        let poll = Poll::new(rt)?;
-        let (arrivals, handover) = open(alloc, poll.registry(), WAKER, room)?;
+        let (Ok(events), Ok(buffer), Ok(pieces)) = (
+            Events::with_capacity(alloc, EVENTS),
+            new_buffer(alloc),
+            new_buffer(alloc),
+        ) else {
+            return Err(parts);
+        };
         let shared = Shared {
             parts,
-            buffer: vec![in alloc; 0; PIECE]?,
+            buffer: pieces,
         };
-        let it = EventLoop {
-            poll,
-            events: Events::with_capacity(alloc, EVENTS)?,
-            worker: new_worker(alloc, shared, servers.len(), limit)?,
-            servers,
-            buffer: vec![in alloc; 0; PIECE]?,
-            seats: Seats::new(alloc),
-            arrivals,
-            clock: MonotonicClock::new(rt),
-            limit,
-            moment: 0,
-            pause: 0,
-        };
-        Ok((it, handover))
+        match EventWorker::new(alloc, shared, servers.len(), limits.response) {
+            Ok(worker) => Ok(EventLoop {
+                entry,
+                events,
+                worker,
+                servers,
+                buffer,
+                seats: Seats::new(alloc),
+                times: Times::new(alloc),
+                clock: MonotonicClock::new(rt),
+                limits,
+                moment: 0,
+                pause: 0,
+                walked: 0,
+            }),
+            Err(Shared { parts, .. }) => Err(parts),
+        }
     }
 }
 
-/// A worker without clients.
-fn new_worker<P: Drop, T: Talking<P> + Drop, K: Drop>(
-    alloc: Global,
-    shared: Shared<P>,
-    servers: usize,
-    limit: u64,
-) -> io::Result<EventWorker<Held<K>, T, P>>
-    ensures nobody { IfOk result (λ it. NobodyForgotten (T.awaited, T.talk, held_port)
-        it.clients.mux.roster.slots it.clients.touched it.clients.spent) }
-    ensures ready { IfOk result (λ it.
-        AreReady ⟦<Client<Guest<Held<K>, T>> as Driven<Shared<P>>>⟧.ready
-        it.clients.mux.roster) }
-    ensures linked { IfOk result (λ it.
-        AreLinked ⟦<Guest<Held<K>, T> as Asking<Shared<P>>>⟧.awaited
-        it.clients.mux.roster.slots it.clients.mux.lines) }
+/// A buffer for what a client or a server sends.
+fn new_buffer(alloc: Global) -> Result<Vec<u8>, AllocError>
+    ensures { IfOk result (λ buffer. 0 < length buffer.items) }
 {
-    match EventWorker::new(alloc, shared, servers, limit) {
-        Ok(worker) => Ok(worker),
-        Err(_) => Err(ErrorKind::OutOfMemory.into()),
-    }
+    vec![in alloc; 0; PIECE]
 }
 
 impl<P, T: Talking<P> + Drop, K: Drop> EventLoop<T, P, K> {
     /// Turn after turn, until no client is left and none can come.
-    pub fn run<R: IoRuntime, G: Greeter<P, T>>(
+    pub fn run<R: IoRuntime, H: Host<P, T>>(
         &mut self,
         rt: &R,
         alloc: Global,
-        greeter: &mut G,
+        host: &mut H,
     ) -> io::Result<()>
         requires room { 0 < length self.old.buffer.items }
-        requires ready { AreReady ⟦<Client<Guest<Held<K>, T>> as Driven<Shared<P>>>⟧.ready
-            self.old.worker.clients.mux.roster }
-        requires linked { AreLinked ⟦<Guest<Held<K>, T> as Asking<Shared<P>>>⟧.awaited
-            self.old.worker.clients.mux.roster.slots self.old.worker.clients.mux.lines }
-        requires nobody { NobodyForgotten (T.awaited, T.talk, held_port)
-            self.old.worker.clients.mux.roster.slots self.old.worker.clients.touched
-            self.old.worker.clients.spent }
+        requires order { IsInOrder (T.awaited, T.talk, held_port) T.ready self.old.worker.clients }
         ensures room { 0 < length self.new.buffer.items }
         ensures over { OnOk result ((number : ℕ)
             → number < length self.new.worker.clients.mux.roster.slots
             → session_at self.new.worker.clients.mux.roster.slots number ≡ None) }
-        ensures ready { AreReady ⟦<Client<Guest<Held<K>, T>> as Driven<Shared<P>>>⟧.ready
-            self.new.worker.clients.mux.roster }
-        ensures linked { AreLinked ⟦<Guest<Held<K>, T> as Asking<Shared<P>>>⟧.awaited
-            self.new.worker.clients.mux.roster.slots self.new.worker.clients.mux.lines }
-        ensures nobody { NobodyForgotten (T.awaited, T.talk, held_port)
-            self.new.worker.clients.mux.roster.slots self.new.worker.clients.touched
-            self.new.worker.clients.spent }
+        ensures round { OnOk result ((before : P) × H.rounds before self.new.moment
+            self.new.worker.clients.mux.roster.parts.parts) }
+        ensures order { IsInOrder (T.awaited, T.talk, held_port) T.ready self.new.worker.clients }
     {
         for _ in rt.forever() {
-            match self.turn(rt, alloc, greeter)? {
+            match self.turn(rt, alloc, host)? {
                 Turn::Goes => {}
                 Turn::Over => return Ok(()),
             }
@@ -178,99 +161,67 @@ impl<P, T: Talking<P> + Drop, K: Drop> EventLoop<T, P, K> {
     }
 
     /// Waits for events, and does what they allow. The system's refusal to wait is the only error.
-    pub fn turn<R: IoRuntime, G: Greeter<P, T>>(
+    pub fn turn<R: IoRuntime, H: Host<P, T>>(
         &mut self,
         rt: &R,
         alloc: Global,
-        greeter: &mut G,
+        host: &mut H,
     ) -> io::Result<Turn>
         requires room { 0 < length self.old.buffer.items }
-        requires ready { AreReady ⟦<Client<Guest<Held<K>, T>> as Driven<Shared<P>>>⟧.ready
-            self.old.worker.clients.mux.roster }
-        requires linked { AreLinked ⟦<Guest<Held<K>, T> as Asking<Shared<P>>>⟧.awaited
-            self.old.worker.clients.mux.roster.slots self.old.worker.clients.mux.lines }
-        requires nobody { NobodyForgotten (T.awaited, T.talk, held_port)
-            self.old.worker.clients.mux.roster.slots self.old.worker.clients.touched
-            self.old.worker.clients.spent }
+        requires order { IsInOrder (T.awaited, T.talk, held_port) T.ready self.old.worker.clients }
         ensures room { 0 < length self.new.buffer.items }
         ensures waits { OnOk result (MayWait self.new.moment self.new.pause
-            (length self.new.servers.items) self.new.worker) }
+            self.new.servers.items self.new.worker) }
+        ensures round { OnOk result ((before : P) × H.rounds before self.new.moment
+            self.new.worker.clients.mux.roster.parts.parts) }
         ensures over { IfOk result (λ turn. turn ≡ Turn.Over → (number : ℕ)
             → number < length self.new.worker.clients.mux.roster.slots
             → session_at self.new.worker.clients.mux.roster.slots number ≡ None) }
-        ensures ready { AreReady ⟦<Client<Guest<Held<K>, T>> as Driven<Shared<P>>>⟧.ready
-            self.new.worker.clients.mux.roster }
-        ensures linked { AreLinked ⟦<Guest<Held<K>, T> as Asking<Shared<P>>>⟧.awaited
-            self.new.worker.clients.mux.roster.slots self.new.worker.clients.mux.lines }
-        ensures nobody { NobodyForgotten (T.awaited, T.talk, held_port)
-            self.new.worker.clients.mux.roster.slots self.new.worker.clients.touched
-            self.new.worker.clients.spent }
+        ensures order { IsInOrder (T.awaited, T.talk, held_port) T.ready self.new.worker.clients }
     {
         let pause = Duration::from_millis(self.pause);
-        self.poll.poll(&mut self.events, Some(pause))?;
+        self.entry.poll.poll(&mut self.events, Some(pause))?;
         self.moment = self.clock.next(rt);
         self.begin(rt, alloc);
-        let intake = self.admit_all(rt, alloc, greeter);
-        self.end(alloc, intake);
+        let intake = self.admit_all(rt, alloc, host);
+        self.walk(alloc);
+        self.end(alloc, host, intake);
         Ok(self.after(intake))
     }
 
     /// Notes what came, and begins the connections that are wanted.
     fn begin<R: IoRuntime>(&mut self, rt: &R, alloc: Global)
-        requires ready { AreReady ⟦<Client<Guest<Held<K>, T>> as Driven<Shared<P>>>⟧.ready
-            self.old.worker.clients.mux.roster }
-        requires linked { AreLinked ⟦<Guest<Held<K>, T> as Asking<Shared<P>>>⟧.awaited
-            self.old.worker.clients.mux.roster.slots self.old.worker.clients.mux.lines }
-        requires nobody { NobodyForgotten (T.awaited, T.talk, held_port)
-            self.old.worker.clients.mux.roster.slots self.old.worker.clients.touched
-            self.old.worker.clients.spent }
+        requires order { IsInOrder (T.awaited, T.talk, held_port) T.ready self.old.worker.clients }
         ensures buffer { self.new.buffer ≡ self.old.buffer }
-        ensures ready { AreReady ⟦<Client<Guest<Held<K>, T>> as Driven<Shared<P>>>⟧.ready
-            self.new.worker.clients.mux.roster }
-        ensures linked { AreLinked ⟦<Guest<Held<K>, T> as Asking<Shared<P>>>⟧.awaited
-            self.new.worker.clients.mux.roster.slots self.new.worker.clients.mux.lines }
-        ensures nobody { NobodyForgotten (T.awaited, T.talk, held_port)
-            self.new.worker.clients.mux.roster.slots self.new.worker.clients.touched
-            self.new.worker.clients.spent }
+        ensures order { IsInOrder (T.awaited, T.talk, held_port) T.ready self.new.worker.clients }
     {
         self.worker.begin_turn();
         note_all(
+            rt,
             &mut self.worker,
             &mut self.servers,
             &self.seats,
             alloc,
             &self.events,
         );
-        let registry = self.poll.registry();
+        let registry = self.entry.poll.registry();
         connect_all(rt, &mut self.worker, &mut self.servers, registry);
     }
 
     /// Takes in clients that other threads handed over.
-    fn admit_all<R: IoRuntime, G: Greeter<P, T>>(
+    fn admit_all<R: IoRuntime, H: Host<P, T>>(
         &mut self,
         rt: &R,
         alloc: Global,
-        greeter: &mut G,
+        host: &mut H,
     ) -> Intake
-        requires ready { AreReady ⟦<Client<Guest<Held<K>, T>> as Driven<Shared<P>>>⟧.ready
-            self.old.worker.clients.mux.roster }
-        requires linked { AreLinked ⟦<Guest<Held<K>, T> as Asking<Shared<P>>>⟧.awaited
-            self.old.worker.clients.mux.roster.slots self.old.worker.clients.mux.lines }
-        requires nobody { NobodyForgotten (T.awaited, T.talk, held_port)
-            self.old.worker.clients.mux.roster.slots self.old.worker.clients.touched
-            self.old.worker.clients.spent }
+        requires order { IsInOrder (T.awaited, T.talk, held_port) T.ready self.old.worker.clients }
         ensures buffer { self.new.buffer ≡ self.old.buffer }
-        ensures ready { AreReady ⟦<Client<Guest<Held<K>, T>> as Driven<Shared<P>>>⟧.ready
-            self.new.worker.clients.mux.roster }
-        ensures linked { AreLinked ⟦<Guest<Held<K>, T> as Asking<Shared<P>>>⟧.awaited
-            self.new.worker.clients.mux.roster.slots self.new.worker.clients.mux.lines }
-        ensures nobody { NobodyForgotten (T.awaited, T.talk, held_port)
-            self.new.worker.clients.mux.roster.slots self.new.worker.clients.touched
-            self.new.worker.clients.spent }
+        ensures order { IsInOrder (T.awaited, T.talk, held_port) T.ready self.new.worker.clients }
     {
         for _ in 0..ADMISSIONS {
-            match self.arrivals.clients.try_recv(rt) {
-                Ok(arrival) => self.admit(greeter, arrival),
+            match self.entry.clients.try_recv(rt) {
+                Ok(arrival) => self.admit(host, arrival),
                 Err(TryRecvError::Empty) => return Intake::Empty,
                 Err(TryRecvError::Disconnected) => return Intake::Closed,
             }
@@ -280,69 +231,97 @@ impl<P, T: Talking<P> + Drop, K: Drop> EventLoop<T, P, K> {
 
     /// Takes in a client. It is closed at once if there is no memory for it, or if its socket
     /// cannot be registered.
-    fn admit<G: Greeter<P, T>>(&mut self, greeter: &mut G, arrival: Arrival<K>)
-        requires ready { AreReady ⟦<Client<Guest<Held<K>, T>> as Driven<Shared<P>>>⟧.ready
-            self.old.worker.clients.mux.roster }
-        requires linked { AreLinked ⟦<Guest<Held<K>, T> as Asking<Shared<P>>>⟧.awaited
-            self.old.worker.clients.mux.roster.slots self.old.worker.clients.mux.lines }
-        requires nobody { NobodyForgotten (T.awaited, T.talk, held_port)
-            self.old.worker.clients.mux.roster.slots self.old.worker.clients.touched
-            self.old.worker.clients.spent }
+    fn admit<H: Host<P, T>>(&mut self, host: &mut H, arrival: Arrival<K>)
+        requires order { IsInOrder (T.awaited, T.talk, held_port) T.ready self.old.worker.clients }
         ensures buffer { self.new.buffer ≡ self.old.buffer }
-        ensures ready { AreReady ⟦<Client<Guest<Held<K>, T>> as Driven<Shared<P>>>⟧.ready
-            self.new.worker.clients.mux.roster }
-        ensures linked { AreLinked ⟦<Guest<Held<K>, T> as Asking<Shared<P>>>⟧.awaited
-            self.new.worker.clients.mux.roster.slots self.new.worker.clients.mux.lines }
-        ensures nobody { NobodyForgotten (T.awaited, T.talk, held_port)
-            self.new.worker.clients.mux.roster.slots self.new.worker.clients.touched
-            self.new.worker.clients.spent }
+        ensures order { IsInOrder (T.awaited, T.talk, held_port) T.ready self.new.worker.clients }
     {
-        let Ok(seat) = self.seats.next() else {
-            return;
-        };
-        let Some(token) = seat_token(self.servers.len(), seat) else {
-            return;
-        };
-        let Arrival { stream, ticket } = arrival;
-        let Ok(socket) = Socket::accepted(self.poll.registry(), token, stream) else {
-            return;
-        };
-        let Ok(talk) = greeter.greet(self.worker.clients.parts()) else {
-            return;
-        };
-        if let Ok(number) = self.worker.clients.open(Held::client(socket, ticket), talk) {
-            self.seats.take(number);
+        if self.take_in(host, arrival).is_none() {
+            host.refused();
         }
     }
 
+    /// Takes in a client, and returns its number.
+    fn take_in<H: Host<P, T>>(&mut self, host: &mut H, arrival: Arrival<K>) -> Option<usize>
+        requires order { IsInOrder (T.awaited, T.talk, held_port) T.ready self.old.worker.clients }
+        ensures buffer { self.new.buffer ≡ self.old.buffer }
+        ensures order { IsInOrder (T.awaited, T.talk, held_port) T.ready self.new.worker.clients }
+    {
+        self.times.make_room(self.worker.clients.numbers()).ok()?;
+        let seat = self.seats.next().ok()?;
+        let token = seat_token(self.servers.len(), seat)?;
+        let Arrival { stream, ticket } = arrival;
+        let socket = Socket::accepted(self.entry.poll.registry(), token, stream).ok()?;
+        let talk = host.greet(self.worker.clients.parts()).ok()?;
+        let port = Held::client(socket, ticket);
+        let number = self.worker.clients.open(port, talk).ok()?;
+        self.seats.take(number);
+        let time = ClientTime::begin(self.moment, self.limits.write);
+        self.times.begin(number, time);
+        Some(number)
+    }
+
+    /// Has clients leave that do not keep their limits, once 100 ms passed since it last did.
+    fn walk(&mut self, alloc: Global)
+        requires order { IsInOrder (T.awaited, T.talk, held_port) T.ready self.old.worker.clients }
+        ensures buffer { self.new.buffer ≡ self.old.buffer }
+        ensures moment { self.new.moment ≡ self.old.moment }
+        ensures order { IsInOrder (T.awaited, T.talk, held_port) T.ready self.new.worker.clients }
+    {
+        if self.moment.saturating_sub(self.walked) < WALK {
+            return;
+        }
+        self.walked = self.moment;
+        let LoopLimits {
+            idle,
+            unwritten,
+            ..
+        } = self.limits;
+        let clients = &mut self.worker.clients;
+        look_at_all(clients, &mut self.times.all, alloc, self.moment, idle);
+        relieve(clients, alloc, unwritten);
+        offer_again(clients, alloc);
+    }
+
     /// Does what can be done, and decides how long the next turn may wait for events.
-    fn end(&mut self, alloc: Global, intake: Intake)
+    fn end<H: Host<P, T>>(&mut self, alloc: Global, host: &mut H, intake: Intake)
         requires room { 0 < length self.old.buffer.items }
-        requires ready { AreReady ⟦<Client<Guest<Held<K>, T>> as Driven<Shared<P>>>⟧.ready
-            self.old.worker.clients.mux.roster }
-        requires linked { AreLinked ⟦<Guest<Held<K>, T> as Asking<Shared<P>>>⟧.awaited
-            self.old.worker.clients.mux.roster.slots self.old.worker.clients.mux.lines }
-        requires nobody { NobodyForgotten (T.awaited, T.talk, held_port)
-            self.old.worker.clients.mux.roster.slots self.old.worker.clients.touched
-            self.old.worker.clients.spent }
+        requires order { IsInOrder (T.awaited, T.talk, held_port) T.ready self.old.worker.clients }
         ensures room { 0 < length self.new.buffer.items }
         ensures moment { self.new.moment ≡ self.old.moment }
         ensures waits { MayWait self.new.moment self.new.pause
-            (length self.new.servers.items) self.new.worker }
-        ensures ready { AreReady ⟦<Client<Guest<Held<K>, T>> as Driven<Shared<P>>>⟧.ready
-            self.new.worker.clients.mux.roster }
-        ensures linked { AreLinked ⟦<Guest<Held<K>, T> as Asking<Shared<P>>>⟧.awaited
-            self.new.worker.clients.mux.roster.slots self.new.worker.clients.mux.lines }
-        ensures nobody { NobodyForgotten (T.awaited, T.talk, held_port)
-            self.new.worker.clients.mux.roster.slots self.new.worker.clients.touched
-            self.new.worker.clients.spent }
+            self.new.servers.items self.new.worker }
+        ensures round { (before : P) × H.rounds before self.new.moment
+            self.new.worker.clients.mux.roster.parts.parts }
+        ensures order { IsInOrder (T.awaited, T.talk, held_port) T.ready self.new.worker.clients }
     {
-        let due = self.moment.saturating_add(self.limit);
-        let rests = self
-            .worker
-            .end_turn(alloc, self.buffer.as_mut_slice(), self.moment, due);
+        let due = self.moment.saturating_add(self.limits.response);
+        let buffer = self.buffer.as_mut_slice();
+        self.worker.serve(alloc, buffer, self.moment, due);
+        host.round(alloc, &mut self.worker, self.moment, due);
+        let rests = self.worker.finish(self.moment);
         let may_wait = rests && intake != Intake::More;
-        self.pause = pause_after(&self.worker, self.servers.len(), may_wait, self.moment);
+        self.pause = pause_after(&self.worker, &self.servers, may_wait, self.moment);
+    }
+
+    /// The parts that all sessions shared, at the end. The clients, the connections to the servers
+    /// and the poll are closed.
+    pub fn into_parts(self) -> P
+        ensures { result ≡ self.worker.clients.mux.roster.parts.parts }
+    {
+        let EventLoop {
+            entry,
+            events,
+            worker,
+            servers,
+            buffer,
+            seats,
+            times,
+            ..
+        } = self;
+        let parts = worker.into_parts();
+        drop((entry, events, servers, buffer, seats, times));
+        parts
     }
 
     /// Whether another turn follows.

@@ -1,12 +1,14 @@
 //! How clients get from another thread to the loop.
 
+use crate::targets::WAKER;
 use crossbeam_channel::{Receiver, Sender, bounded};
-use mio::{Registry, Token, Waker};
+use mio::{Poll, Waker};
 use std::alloc::Global;
 use std::io;
 use std::io::ErrorKind;
 use std::net::TcpStream;
 use std::sync::{Arc, Wait};
+use tko_io::IoRuntime;
 
 /// A client that another thread accepted.
 #[derive(Drop)]
@@ -24,12 +26,15 @@ pub struct Handover<K> {
 
 impl<K: Drop> Handover<K> {
     /// Hands a client to the loop, and wakes that. It waits while as many as there is room for wait
-    /// to be taken. Returns whether there is still a loop.
-    pub fn send<R: Wait>(&self, rt: &R, arrival: Arrival<K>) -> bool {
-        let is_sent = self.clients.send(rt, arrival).is_ok();
+    /// to be taken. Where there is no loop any more, or no memory, the client comes back.
+    pub fn send<R: Wait>(&self, rt: &R, arrival: Arrival<K>) -> Result<(), Arrival<K>> {
+        let sent = self.clients.send(rt, arrival);
         // A wake that fails is made up for by the loop's next idle turn.
         let _ = self.waker.wake();
-        is_sent
+        match sent {
+            Ok(()) => Ok(()),
+            Err(error) => Err(error.into_inner()),
+        }
     }
 }
 
@@ -42,31 +47,36 @@ impl<K: Drop> Drop for Handover<K> {
     }
 }
 
-/// Where the loop takes them. The waker is kept here, so that a wake is not lost.
+/// Where a loop takes its clients and waits for events, as it is handed to the loop's thread.
 #[derive(Drop)]
-pub(crate) struct Arrivals<K> {
+pub struct Entry<K> {
+    pub(crate) poll: Poll,
     pub(crate) clients: Receiver<Arrival<K>>,
-    waker: Arc<Waker, Global>,
+    /// It is kept here, so that a wake is not lost.
+    pub(crate) waker: Arc<Waker, Global>,
 }
 
-/// A way to the loop with this registry, with room for so many clients.
-pub(crate) fn open<K: Drop>(
-    alloc: Global,
-    registry: &Registry,
-    token: Token,
-    room: usize,
-) -> io::Result<(Arrivals<K>, Handover<K>)> {
-    let Ok((sender, receiver)) = bounded(alloc, room) else {
-        return Err(ErrorKind::OutOfMemory.into());
-    };
-    let waker = Arc::new(alloc, Waker::new(registry, token)?)?;
-    let arrivals = Arrivals {
-        clients: receiver,
-        waker: Arc::try_clone(&waker)?,
-    };
-    let handover = Handover {
-        clients: sender,
-        waker,
-    };
-    Ok((arrivals, handover))
+impl<K: Drop> Entry<K> {
+    /// A way to a loop, where so many clients can wait to be taken in.
+    pub fn open<R: IoRuntime>(
+        rt: &R,
+        alloc: Global,
+        room: usize,
+    ) -> io::Result<(Entry<K>, Handover<K>)> {
+        let Ok((sender, receiver)) = bounded(alloc, room) else {
+            return Err(ErrorKind::OutOfMemory.into());
+        };
+        let poll = Poll::new(rt)?;
+        let waker = Arc::new(alloc, Waker::new(poll.registry(), WAKER)?)?;
+        let entry = Entry {
+            poll,
+            clients: receiver,
+            waker: Arc::try_clone(&waker)?,
+        };
+        let handover = Handover {
+            clients: sender,
+            waker,
+        };
+        Ok((entry, handover))
+    }
 }

@@ -3,10 +3,14 @@
 //!
 //! - `EventLoop`: the worker with its poll, its clock and its servers' addresses; `Turn`: whether
 //!   another turn follows.
-//! - `Handover`: the way of clients from another thread to the loop; `Arrival`: a client on it;
-//!   `Greeter`: makes the sessions of those that came.
+//! - `Handover` and `Entry`: the two ends of the way of clients from another thread to the loop;
+//!   `Arrival`: a client on it.
+//! - `Host`: makes the sessions of those that came, and runs a round at the end of each turn.
+//! - `LoopLimits`: how long the loop waits for clients and servers, and how many bytes of replies
+//!   may wait.
 //! - `Held`: a client's socket, and what is kept until that is closed.
 //! - `Addresses`: where a server may be, each tried in turn.
+//! - A walk is a look at each client, each 100 ms: one that does not keep its limits is to leave.
 //! - A seat is the place of a client's socket in the poll's tokens; the worker gives a client's
 //!   number only after its socket was registered.
 #![tactic(auto)]
@@ -14,19 +18,24 @@
 mod addresses;
 mod connecting;
 mod event_loop;
-mod greeter;
 mod handover;
 mod held;
+mod host;
+mod limits;
 mod noting;
+mod offering;
 mod pause;
 mod seats;
 mod targets;
+mod times;
+mod walk;
 
 pub use addresses::Addresses;
 pub use event_loop::{EventLoop, Turn};
-pub use greeter::Greeter;
-pub use handover::{Arrival, Handover};
+pub use handover::{Arrival, Entry, Handover};
 pub use held::Held;
+pub use host::Host;
+pub use limits::LoopLimits;
 
 #[cfg(test)]
 mod tests;

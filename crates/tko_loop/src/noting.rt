@@ -1,9 +1,7 @@
 //! What an event says.
 ghost use Rattle.std.specs.Prelude.{◌≡◌};
 ghost use Rattle.mio.specs.Event.{is_readable, is_writable};
-ghost use Rattle.tko_roster.specs.Rosters.{AreReady};
-ghost use Rattle.tko_mux.specs.Linking.{AreLinked};
-ghost use Rattle.tko_worker.specs.Workers.{NobodyForgotten};
+ghost use Rattle.tko_worker.specs.Workers.{IsInOrder};
 ghost use Rattle.tko_worker.specs.Turns.{OtherPeers, socket_at};
 ghost use Rattle.tko_loop.specs.Held.{held_port};
 ghost use Rattle.tko_loop.specs.Tellings.{IsNotedIf, IsToldAt, port_after, says_ended, told_of_reading, told_of_writing};
@@ -15,36 +13,26 @@ use crate::{Addresses, Held};
 use mio::Events;
 use mio::event::Event;
 use std::alloc::Global;
-use tko_mux::{Asking, Client};
-use tko_port::{Guest, Port, Shared, Talking};
-use tko_roster::Driven;
+use tko_io::IoRuntime;
+use tko_port::Talking;
 use tko_worker::{EventWorker, Worker};
 
 /// Notes all events of a turn, each at the socket that it is for.
-pub(crate) fn note_all<P, T: Talking<P> + Drop, K: Drop>(
+pub(crate) fn note_all<R: IoRuntime, P, T: Talking<P> + Drop, K: Drop>(
+    rt: &R,
     worker: &mut EventWorker<Held<K>, T, P>,
     servers: &mut Vec<Addresses>,
     seats: &Seats,
     alloc: Global,
     events: &Events,
 )
-    requires ready { AreReady ⟦<Client<Guest<Held<K>, T>> as Driven<Shared<P>>>⟧.ready
-        worker.old.clients.mux.roster }
-    requires linked { AreLinked ⟦<Guest<Held<K>, T> as Asking<Shared<P>>>⟧.awaited
-        worker.old.clients.mux.roster.slots worker.old.clients.mux.lines }
-    requires nobody { NobodyForgotten (T.awaited, T.talk, held_port)
-        worker.old.clients.mux.roster.slots worker.old.clients.touched worker.old.clients.spent }
-    ensures ready { AreReady ⟦<Client<Guest<Held<K>, T>> as Driven<Shared<P>>>⟧.ready
-        worker.new.clients.mux.roster }
-    ensures linked { AreLinked ⟦<Guest<Held<K>, T> as Asking<Shared<P>>>⟧.awaited
-        worker.new.clients.mux.roster.slots worker.new.clients.mux.lines }
-    ensures nobody { NobodyForgotten (T.awaited, T.talk, held_port)
-        worker.new.clients.mux.roster.slots worker.new.clients.touched worker.new.clients.spent }
+    requires order { IsInOrder (T.awaited, T.talk, held_port) T.ready worker.old.clients }
+    ensures order { IsInOrder (T.awaited, T.talk, held_port) T.ready worker.new.clients }
 {
     for event in events {
         match target_of(servers.len(), event.token()) {
             Target::Waker => {}
-            Target::Server(server) => note_server(worker, servers, server, event),
+            Target::Server(server) => note_server(rt, worker, servers, server, event),
             Target::Seat(seat) => note_client(worker, alloc, seats.number(seat), event),
         }
     }
@@ -57,21 +45,11 @@ fn note_client<P, T: Talking<P> + Drop, K: Drop>(
     number: Option<usize>,
     event: &Event,
 )
-    requires ready { AreReady ⟦<Client<Guest<Held<K>, T>> as Driven<Shared<P>>>⟧.ready
-        worker.old.clients.mux.roster }
-    requires linked { AreLinked ⟦<Guest<Held<K>, T> as Asking<Shared<P>>>⟧.awaited
-        worker.old.clients.mux.roster.slots worker.old.clients.mux.lines }
-    requires nobody { NobodyForgotten (T.awaited, T.talk, held_port)
-        worker.old.clients.mux.roster.slots worker.old.clients.touched worker.old.clients.spent }
+    requires order { IsInOrder (T.awaited, T.talk, held_port) T.ready worker.old.clients }
     ensures told { IsToldAt (T.awaited, T.talk, held_port) event.now worker.old.clients number
         worker.new.clients }
     ensures peers { worker.new.peers ≡ worker.old.peers }
-    ensures ready { AreReady ⟦<Client<Guest<Held<K>, T>> as Driven<Shared<P>>>⟧.ready
-        worker.new.clients.mux.roster }
-    ensures linked { AreLinked ⟦<Guest<Held<K>, T> as Asking<Shared<P>>>⟧.awaited
-        worker.new.clients.mux.roster.slots worker.new.clients.mux.lines }
-    ensures nobody { NobodyForgotten (T.awaited, T.talk, held_port)
-        worker.new.clients.mux.roster.slots worker.new.clients.touched worker.new.clients.spent }
+    ensures order { IsInOrder (T.awaited, T.talk, held_port) T.ready worker.new.clients }
 {
     let Some(number) = number else {
         return;
@@ -88,20 +66,10 @@ fn note_writable<P, T: Talking<P> + Drop, K: Drop>(
     number: usize,
     event: &Event,
 )
-    requires ready { AreReady ⟦<Client<Guest<Held<K>, T>> as Driven<Shared<P>>>⟧.ready
-        clients.old.mux.roster }
-    requires linked { AreLinked ⟦<Guest<Held<K>, T> as Asking<Shared<P>>>⟧.awaited
-        clients.old.mux.roster.slots clients.old.mux.lines }
-    requires nobody { NobodyForgotten (T.awaited, T.talk, held_port)
-        clients.old.mux.roster.slots clients.old.touched clients.old.spent }
+    requires order { IsInOrder (T.awaited, T.talk, held_port) T.ready clients.old }
     ensures told { IsNotedIf (T.awaited, T.talk, held_port)
         (told_of_writing (is_writable event.now)) clients.old number clients.new }
-    ensures ready { AreReady ⟦<Client<Guest<Held<K>, T>> as Driven<Shared<P>>>⟧.ready
-        clients.new.mux.roster }
-    ensures linked { AreLinked ⟦<Guest<Held<K>, T> as Asking<Shared<P>>>⟧.awaited
-        clients.new.mux.roster.slots clients.new.mux.lines }
-    ensures nobody { NobodyForgotten (T.awaited, T.talk, held_port)
-        clients.new.mux.roster.slots clients.new.touched clients.new.spent }
+    ensures order { IsInOrder (T.awaited, T.talk, held_port) T.ready clients.new }
 {
     if event.is_writable() {
         clients.writable(alloc, number);
@@ -115,21 +83,11 @@ fn note_readable<P, T: Talking<P> + Drop, K: Drop>(
     number: usize,
     event: &Event,
 )
-    requires ready { AreReady ⟦<Client<Guest<Held<K>, T>> as Driven<Shared<P>>>⟧.ready
-        clients.old.mux.roster }
-    requires linked { AreLinked ⟦<Guest<Held<K>, T> as Asking<Shared<P>>>⟧.awaited
-        clients.old.mux.roster.slots clients.old.mux.lines }
-    requires nobody { NobodyForgotten (T.awaited, T.talk, held_port)
-        clients.old.mux.roster.slots clients.old.touched clients.old.spent }
+    requires order { IsInOrder (T.awaited, T.talk, held_port) T.ready clients.old }
     ensures told { IsNotedIf (T.awaited, T.talk, held_port)
         (told_of_reading (says_ended event.now) (is_readable event.now))
         clients.old number clients.new }
-    ensures ready { AreReady ⟦<Client<Guest<Held<K>, T>> as Driven<Shared<P>>>⟧.ready
-        clients.new.mux.roster }
-    ensures linked { AreLinked ⟦<Guest<Held<K>, T> as Asking<Shared<P>>>⟧.awaited
-        clients.new.mux.roster.slots clients.new.mux.lines }
-    ensures nobody { NobodyForgotten (T.awaited, T.talk, held_port)
-        clients.new.mux.roster.slots clients.new.touched clients.new.spent }
+    ensures order { IsInOrder (T.awaited, T.talk, held_port) T.ready clients.new }
 {
     if has_ended(event) {
         clients.ended(alloc, number);
@@ -141,30 +99,21 @@ fn note_readable<P, T: Talking<P> + Drop, K: Drop>(
 }
 
 /// Notes an event at the socket of a server.
-fn note_server<P, T: Talking<P> + Drop, K: Drop>(
+fn note_server<R: IoRuntime, P, T: Talking<P> + Drop, K: Drop>(
+    rt: &R,
     worker: &mut EventWorker<Held<K>, T, P>,
     servers: &mut Vec<Addresses>,
     server: usize,
     event: &Event,
 )
-    requires ready { AreReady ⟦<Client<Guest<Held<K>, T>> as Driven<Shared<P>>>⟧.ready
-        worker.old.clients.mux.roster }
-    requires linked { AreLinked ⟦<Guest<Held<K>, T> as Asking<Shared<P>>>⟧.awaited
-        worker.old.clients.mux.roster.slots worker.old.clients.mux.lines }
-    requires nobody { NobodyForgotten (T.awaited, T.talk, held_port)
-        worker.old.clients.mux.roster.slots worker.old.clients.touched worker.old.clients.spent }
-    ensures ready { AreReady ⟦<Client<Guest<Held<K>, T>> as Driven<Shared<P>>>⟧.ready
-        worker.new.clients.mux.roster }
-    ensures linked { AreLinked ⟦<Guest<Held<K>, T> as Asking<Shared<P>>>⟧.awaited
-        worker.new.clients.mux.roster.slots worker.new.clients.mux.lines }
-    ensures nobody { NobodyForgotten (T.awaited, T.talk, held_port)
-        worker.new.clients.mux.roster.slots worker.new.clients.touched worker.new.clients.spent }
+    requires order { IsInOrder (T.awaited, T.talk, held_port) T.ready worker.old.clients }
+    ensures order { IsInOrder (T.awaited, T.talk, held_port) T.ready worker.new.clients }
 {
     if server >= servers.len() {
         return;
     }
     if worker.is_connecting(server) {
-        advance(worker, &mut servers[server], server);
+        advance(rt, worker, &mut servers[server], server);
     }
     note_ready(worker, server, event);
 }

@@ -1,25 +1,28 @@
 //! How long the poll may wait.
-ghost use Rattle.std.specs.Prelude.{◌≡◌, ◌<◌, ℕ, [], length};
-ghost use Rattle.std.specs.Bool.{OnFalse, OnTrue};
-ghost use Rattle.tko_mux.specs.Muxes.{line_at};
-ghost use Rattle.tko_worker.specs.Turns.{IsWanted, ServersRest, socket_at};
+ghost use Rattle.std.specs.Prelude.{◌≡◌, ◌<◌, ◌≤◌, ℕ, [], true, length, slice_get};
+ghost use Rattle.std.specs.Bool.{OnTrue};
+ghost use Rattle.tko_worker.specs.Turns.{ServersRest};
+ghost use Rattle.tko_loop.specs.Addresses.{IsLookedUp};
 ghost use Rattle.tko_loop.specs.Held.{held_port};
-ghost use Rattle.tko_loop.specs.Pauses.{pause_of};
-ghost use Rattle.tko_loop.specs.Waits.{AllRest, MayWait};
+ghost use Rattle.tko_loop.specs.Pauses.{longest, longest_look_up, pause_of};
+ghost use Rattle.tko_loop.specs.Waits.{IsWantedAt, MayWait};
 
-use crate::Held;
+use crate::{Addresses, Held};
 use tko_port::Talking;
 use tko_worker::EventWorker;
 
 /// The longest wait, in milliseconds. A turn without events follows it, for what goes by the clock.
 const IDLE: u64 = 100;
 
+/// The longest wait while the addresses of a server are looked up.
+const LOOK_UP: u64 = 10;
+
 /// How many milliseconds the poll may wait after a turn of this moment, at whose end the worker and
 /// the way of clients rest or not. A connection that is wanted is begun in the next turn, so that
 /// does not wait.
 pub(crate) fn pause_after<P, T: Talking<P> + Drop, K: Drop>(
     worker: &EventWorker<Held<K>, T, P>,
-    servers: usize,
+    servers: &Vec<Addresses>,
     rests: bool,
     now: u64,
 ) -> u64
@@ -27,40 +30,49 @@ pub(crate) fn pause_after<P, T: Talking<P> + Drop, K: Drop>(
     requires spent { OnTrue rests (worker.now.clients.spent ≡ []) }
     requires servers { OnTrue rests (ServersRest held_port now worker.now.clients.mux.lines
         worker.now.peers.items (length worker.now.peers.items)) }
-    ensures { MayWait now result servers worker.now }
+    ensures { MayWait now result servers.now.items worker.now }
 {
-    let all_rest = rests && !wants_any(worker, servers);
-    pause_of(all_rest, worker.next_due(), now)
+    let most = longest_wait(worker, servers, rests);
+    pause_of(most, worker.next_due(), now)
 }
 
-/// Whether a connection to one of so many servers is to be begun.
-fn wants_any<P, T: Talking<P> + Drop, K: Drop>(
+/// How long the poll may wait for the servers, where all else rests or not.
+fn longest_wait<P, T: Talking<P> + Drop, K: Drop>(
     worker: &EventWorker<Held<K>, T, P>,
-    servers: usize,
-) -> bool
-    ensures { OnFalse result ((server : ℕ) → server < servers
-        → server < length worker.now.peers.items
-        → IsWanted (line_at worker.now.clients.mux server)
-        (socket_at held_port worker.now.peers.items server) → ⊥) }
-{
-    for server in 0..servers {
-        if worker.wants(server) {
-            return true;
-        }
-    }
-    false
-}
-
-/// How many milliseconds the poll may wait, where a response is due at this moment and it is now:
-/// none, unless all rest.
-fn pause_of(rests: bool, due: Option<u64>, now: u64) -> u64
-    ensures { result ≡ pause_of rests due now }
+    servers: &Vec<Addresses>,
+    rests: bool,
+) -> u64
+    ensures rests { 0 < result → rests ≡ true }
+    ensures begun { 0 < result → (server : ℕ) → server < length servers.now.items
+        → server < length worker.now.peers.items → IsWantedAt worker.now server
+        → IsLookedUp (slice_get servers.now.items server) }
+    ensures look_up { (server : ℕ) → server < length servers.now.items
+        → server < length worker.now.peers.items → IsWantedAt worker.now server
+        → result ≤ longest_look_up }
+    ensures within { result ≤ longest }
 {
     if !rests {
         return 0;
     }
+    let mut most = IDLE;
+    for server in 0..servers.len() {
+        if worker.wants(server) {
+            if !servers[server].is_looked_up() {
+                return 0;
+            }
+            most = LOOK_UP;
+        }
+    }
+    most
+}
+
+/// How many milliseconds of these the poll may wait, where a response is due at this moment and it
+/// is now.
+fn pause_of(most: u64, due: Option<u64>, now: u64) -> u64
+    ensures { result ≡ pause_of most due now }
+{
     match due {
-        Some(moment) => moment.saturating_sub(now).min(IDLE),
-        None => IDLE,
+        Some(moment) => moment.saturating_sub(now).min(most),
+        None => most,
     }
 }

@@ -1,0 +1,120 @@
+-- The walk over the clients: how far each is, and which of them end by their limits.
+use Rattle.std.specs.Prelude.{◌≡◌, ◌≤◌, ◌<◌, ◌+◌, ◌-◌, ◌↔◌, nat_le, if◌then◌else◌, ℕ, zero, suc, List, Option, Some, None, is_some, length, slice_get}
+use Rattle.std.specs.Option.{option_and_then}
+use Rattle.tko_roster.specs.Rosters.{session_at}
+use Rattle.tko_mux.specs.declared.client.Client.{Client}
+use Rattle.tko_pace.specs.declared.client_time.ClientTime.{ClientTime}
+use Rattle.tko_pace.specs.declared.client_time.Progress.{Progress}
+use Rattle.tko_pace.specs.declared.client_time.Verdict.{Verdict}
+use Rattle.tko_pace.specs.declared.client_time.Verdict.TheVariants.{Silent, Slow, Stays}
+use Rattle.tko_pace.specs.ClientTimes.{IsSilentAt, IsSlowAt, after_look, is_in_time}
+use Rattle.tko_port.specs.declared.guest.Guest.{Guest}
+use Rattle.tko_port.specs.declared.guest.Presence.{Presence}
+use Rattle.tko_port.specs.declared.guest.Presence.TheVariants.{Here, Leaving}
+use Rattle.tko_port.specs.declared.settling.End.{End}
+use Rattle.tko_port.specs.declared.settling.End.TheVariants.{ReadFailed, WriteFailed}
+use Rattle.tko_port.specs.Talks.{Talk}
+use Rattle.tko_worker.specs.Workers.{Sight}
+
+-- how far a client is, unless it is to leave
+abbrev pub progress_by : Presence → Option ℕ → Talk → Option Progress
+progress_by Here awaited talk = Some (record {
+  requests = talk.answered;
+  taken = talk.taken;
+  waiting = length talk.output;
+  is_asking = is_some awaited;
+})
+progress_by (Leaving why) awaited talk = None
+
+abbrev pub progress_of : {L T : Type 0} → Sight L T → Option (Client (Guest L T)) → Option Progress
+progress_of sight slot =
+    option_and_then (λ client. progress_by client.session.presence (sight.0 client.session.talk)
+    (sight.1 client.session.talk)) slot
+
+-- the same of the client of a number, if one has it
+abbrev pub progress_at : {L T : Type 0} → Sight L T → List (Option (Client (Guest L T))) → ℕ
+    → Option Progress
+progress_at sight slots number = progress_of sight (session_at slots number)
+
+-- a client, if there is one, is to leave so
+abbrev pub LeavesBy : {L T : Type 0} → End → Option (Client (Guest L T)) → Type 0
+LeavesBy why None = Unit {0}
+LeavesBy why (Some client) = client.session.presence ≡ Leaving why
+
+-- by this verdict a client stays as it was, or it is to leave, or has left
+abbrev pub IsJudged : {L T : Type 0} → Verdict → (old new : Option (Client (Guest L T))) → Type 0
+IsJudged Stays old new = new ≡ old
+IsJudged Silent old new = LeavesBy ReadFailed new
+IsJudged Slow old new = LeavesBy WriteFailed new
+
+-- a client was looked at that was so far, and its verdict is that of its limits
+pub record IsSeen {L T : Type 0} (now idle : ℕ) (progress : Progress) (time : ClientTime)
+    (old : Option (Client (Guest L T))) (after : ClientTime) (new : Option (Client (Guest L T)))
+    : Type 0 where
+  pub verdict : Verdict
+  pub silent : (verdict ≡ Silent) ↔ IsSilentAt idle now progress time
+  pub slow : (verdict ≡ Slow) ↔ IsSlowAt now progress time
+  pub time_after : after ≡ after_look (is_in_time verdict) now progress time
+  pub judged : IsJudged verdict old new
+
+-- the client of a number was looked at, if one has it that is not to leave
+abbrev pub IsSeenIf : {L T : Type 0} → ℕ → ℕ → Option Progress → ClientTime
+    → Option (Client (Guest L T)) → ClientTime → Option (Client (Guest L T)) → Type 0
+IsSeenIf now idle None time old after new = (after ≡ time) × (new ≡ old)
+IsSeenIf now idle (Some progress) time old after new =
+    IsSeen now idle progress time old after new
+
+-- the client of a number was looked at in a walk, by the time that was known of it
+pub record IsSeenAt {L T : Type 0} (sight : Sight L T) (now idle number : ℕ)
+    (times : List ClientTime) (old : List (Option (Client (Guest L T)))) (after : List ClientTime)
+    (new : List (Option (Client (Guest L T)))) : Type 0 where
+  pub before : ClientTime
+  pub later : ClientTime
+  pub was : slice_get times number ≡ Some before
+  pub is : slice_get after number ≡ Some later
+  pub seen : IsSeenIf now idle (progress_at sight old number) before (session_at old number) later
+      (session_at new number)
+
+-- each number that has a time was looked at
+abbrev pub HasWalked : {L T : Type 0} → Sight L T → (now idle : ℕ) → List ClientTime
+    → List (Option (Client (Guest L T))) → List ClientTime → List (Option (Client (Guest L T)))
+    → Type 0
+HasWalked sight now idle times old after new = (number : ℕ) → number < length times
+    → IsSeenAt sight now idle number times old after new
+
+-- how many bytes of the replies of a number's client wait
+abbrev pub waiting_by : Option Progress → ℕ
+waiting_by None = 0
+waiting_by (Some progress) = progress.waiting
+
+abbrev pub waiting_at : {L T : Type 0} → Sight L T → List (Option (Client (Guest L T))) → ℕ → ℕ
+waiting_at sight slots number = waiting_by (progress_at sight slots number)
+
+-- and how many of all numbers below one
+abbrev pub waiting_below : {L T : Type 0} → Sight L T → List (Option (Client (Guest L T))) → ℕ → ℕ
+waiting_below sight slots zero = 0
+waiting_below sight slots (suc number) =
+    waiting_below sight slots number + waiting_at sight slots number
+
+-- what is left of a bound without so many bytes; none where it is passed
+abbrev pub without : Option ℕ → ℕ → Option ℕ
+without None waiting = None
+without (Some left) waiting = if nat_le waiting left then Some (left - waiting) else None
+
+-- so much is left of a bound without so many bytes, or it is passed
+abbrev pub IsLeft : (bound total : ℕ) → Option ℕ → Type 0
+IsLeft bound total None = bound < total
+IsLeft bound total (Some left) = total + left ≡ bound
+
+-- more bytes than the bound wait, and none of so many numbers has more of them than this one
+pub record IsHeaviest {L T : Type 0} (sight : Sight L T)
+    (slots : List (Option (Client (Guest L T)))) (bound number : ℕ) : Type 0 where
+  pub passed : bound < waiting_below sight slots (length slots)
+  pub most : (other : ℕ) → other < length slots
+      → waiting_at sight slots other ≤ waiting_at sight slots number
+
+-- the client with the most bytes that wait, where more wait than the bound; else there is none
+abbrev pub IsHeaviestIf : {L T : Type 0} → Sight L T → List (Option (Client (Guest L T))) → ℕ
+    → Option ℕ → Type 0
+IsHeaviestIf sight slots bound None = waiting_below sight slots (length slots) ≤ bound
+IsHeaviestIf sight slots bound (Some number) = IsHeaviest sight slots bound number

@@ -1,0 +1,42 @@
+//! What a loop is for: whose clients it serves.
+ghost use Rattle.std.specs.Prelude.{◌≡◌, length};
+
+use std::alloc::Global;
+use tko_bytes::NoMemory;
+use tko_port::{Port, Talking};
+use tko_worker::EventWorker;
+
+/// What a loop calls, whose sessions are over parts of type `P`.
+pub trait Host<P, T: Talking<P> + Drop> {
+    ghost use Rattle.std.specs.Prelude.{◌≡◌, ℕ, None, IfOk, length};
+    ghost use Rattle.tko_worker.specs.Workers.{IsInOrder};
+
+    /// What a round at this moment does to the parts.
+    ghost rounds: { P → ℕ → P → Type 0 };
+
+    /// The session of a client that came.
+    fn greet(&mut self, parts: &P) -> Result<T, NoMemory>
+        ensures ready { IfOk result (λ talk. T.ready parts.now talk) }
+        ensures idle { IfOk result (λ talk. T.awaited talk ≡ None) };
+
+    /// The round at the end of a turn of events of this moment, once its clients were served. A
+    /// request that is sent is due at the second moment.
+    fn round<L: Port + Drop>(
+        &mut self,
+        alloc: Global,
+        worker: &mut EventWorker<L, T, P>,
+        moment: u64,
+        due: u64,
+    )
+        requires order { IsInOrder (T.awaited, T.talk, L.port) T.ready worker.old.clients }
+        ensures round { rounds worker.old.clients.mux.roster.parts.parts moment
+            worker.new.clients.mux.roster.parts.parts }
+        ensures touched { worker.new.clients.touched ≡ worker.old.clients.touched }
+        ensures spent { worker.new.clients.spent ≡ worker.old.clients.spent }
+        ensures count { length worker.new.peers.items ≡ length worker.old.peers.items }
+        ensures order { IsInOrder (T.awaited, T.talk, L.port) T.ready worker.new.clients };
+
+    /// A client that came could not be taken in, and was closed: memory ran out, or its socket
+    /// could not be registered.
+    fn refused(&mut self);
+}

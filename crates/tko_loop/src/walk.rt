@@ -1,0 +1,184 @@
+//! The walk over the clients, each of which is to keep its limits.
+ghost use Rattle.std.specs.Prelude.{◌≡◌, ◌≤◌, ◌⊎◌, length};
+ghost use Rattle.tko_roster.specs.Rosters.{session_at};
+ghost use Rattle.tko_worker.specs.Workers.{IsInOrder, OthersStay};
+ghost use Rattle.tko_loop.specs.Walks.{HasWalked, IsHeaviestIf, IsJudged, IsSeenIf, LeavesBy, progress_at, waiting_at, without};
+
+use std::alloc::Global;
+use tko_pace::{ClientTime, Progress, Verdict};
+use tko_port::{End, Port, Talking};
+use tko_worker::Worker;
+
+/// Looks at each client. One that completed no request for `idle` milliseconds, or that took too
+/// little of its replies, is to leave.
+pub(crate) fn look_at_all<P, L: Port + Drop, T: Talking<P> + Drop>(
+    clients: &mut Worker<L, T, P>,
+    times: &mut Vec<ClientTime>,
+    alloc: Global,
+    now: u64,
+    idle: u32,
+)
+    requires order { IsInOrder (T.awaited, T.talk, L.port) T.ready clients.old }
+    ensures walked { HasWalked (T.awaited, T.talk, L.port) now idle times.old.items
+        clients.old.mux.roster.slots times.new.items clients.new.mux.roster.slots }
+    ensures order { IsInOrder (T.awaited, T.talk, L.port) T.ready clients.new }
+{
+    for number in 0..times.len() {
+        look_at(clients, &mut times[number], alloc, number, now, idle);
+    }
+}
+
+/// Looks at the client of a number, if one has it.
+fn look_at<P, L: Port + Drop, T: Talking<P> + Drop>(
+    clients: &mut Worker<L, T, P>,
+    time: &mut ClientTime,
+    alloc: Global,
+    number: usize,
+    now: u64,
+    idle: u32,
+)
+    requires order { IsInOrder (T.awaited, T.talk, L.port) T.ready clients.old }
+    ensures seen { IsSeenIf now idle
+        (progress_at (T.awaited, T.talk, L.port) clients.old.mux.roster.slots number)
+        time.old (session_at clients.old.mux.roster.slots number) time.new
+        (session_at clients.new.mux.roster.slots number) }
+    ensures others { OthersStay number clients.old.mux.roster.slots
+        clients.new.mux.roster.slots }
+    ensures order { IsInOrder (T.awaited, T.talk, L.port) T.ready clients.new }
+{
+    if let Some(progress) = progress_of(clients, number) {
+        let verdict = time.look(now, progress, idle);
+        judge(clients, alloc, number, verdict);
+    }
+}
+
+/// Has a client leave that does not keep its limits.
+fn judge<P, L: Port + Drop, T: Talking<P> + Drop>(
+    clients: &mut Worker<L, T, P>,
+    alloc: Global,
+    number: usize,
+    verdict: Verdict,
+)
+    requires order { IsInOrder (T.awaited, T.talk, L.port) T.ready clients.old }
+    ensures judged { IsJudged verdict (session_at clients.old.mux.roster.slots number)
+        (session_at clients.new.mux.roster.slots number) }
+    ensures others { OthersStay number clients.old.mux.roster.slots
+        clients.new.mux.roster.slots }
+    ensures order { IsInOrder (T.awaited, T.talk, L.port) T.ready clients.new }
+{
+    match verdict {
+        Verdict::Stays => {}
+        Verdict::Silent => end(clients, alloc, number, End::ReadFailed),
+        Verdict::Slow => end(clients, alloc, number, End::WriteFailed),
+    }
+}
+
+/// Has a client leave.
+fn end<P, L: Port + Drop, T: Talking<P> + Drop>(
+    clients: &mut Worker<L, T, P>,
+    alloc: Global,
+    number: usize,
+    why: End,
+)
+    requires order { IsInOrder (T.awaited, T.talk, L.port) T.ready clients.old }
+    ensures leaves { LeavesBy why (session_at clients.new.mux.roster.slots number) }
+    ensures others { OthersStay number clients.old.mux.roster.slots
+        clients.new.mux.roster.slots }
+    ensures order { IsInOrder (T.awaited, T.talk, L.port) T.ready clients.new }
+{
+    clients.gone(alloc, number, why);
+}
+
+/// How far the client of a number is, if one has it that is not to leave.
+fn progress_of<P, L: Port + Drop, T: Talking<P> + Drop>(
+    clients: &Worker<L, T, P>,
+    number: usize,
+) -> Option<Progress>
+    ensures { result
+        ≡ progress_at (T.awaited, T.talk, L.port) clients.now.mux.roster.slots number }
+{
+    let tally = clients.tally(number)?;
+    Some(Progress {
+        requests: tally.requests,
+        taken: tally.taken,
+        waiting: tally.waiting,
+        is_asking: !clients.is_idle(number),
+    })
+}
+
+/// While more bytes of replies wait than the bound, the client with the most of them is to leave.
+pub(crate) fn relieve<P, L: Port + Drop, T: Talking<P> + Drop>(
+    clients: &mut Worker<L, T, P>,
+    alloc: Global,
+    bound: usize,
+)
+    requires order { IsInOrder (T.awaited, T.talk, L.port) T.ready clients.old }
+    ensures order { IsInOrder (T.awaited, T.talk, L.port) T.ready clients.new }
+{
+    for _ in 0..clients.numbers() {
+        let Some(number) = heaviest(clients, bound) else {
+            return;
+        };
+        end(clients, alloc, number, End::WriteFailed);
+    }
+}
+
+/// The client with the most bytes that wait, where more wait than the bound.
+fn heaviest<P, L: Port + Drop, T: Talking<P> + Drop>(
+    clients: &Worker<L, T, P>,
+    bound: usize,
+) -> Option<usize>
+    ensures { IsHeaviestIf (T.awaited, T.talk, L.port) clients.now.mux.roster.slots bound
+        result }
+{
+    let mut left = Some(bound);
+    let mut most = 0;
+    for number in 0..clients.numbers() {
+        left = without(left, waiting_of(clients, number));
+        most = heavier(clients, most, number);
+    }
+    match left {
+        Some(_) => None,
+        None => Some(most),
+    }
+}
+
+/// The one of two clients with more bytes that wait.
+fn heavier<P, L: Port + Drop, T: Talking<P> + Drop>(
+    clients: &Worker<L, T, P>,
+    one: usize,
+    other: usize,
+) -> usize
+    ensures one { waiting_at (T.awaited, T.talk, L.port) clients.now.mux.roster.slots one
+        ≤ waiting_at (T.awaited, T.talk, L.port) clients.now.mux.roster.slots result }
+    ensures other { waiting_at (T.awaited, T.talk, L.port) clients.now.mux.roster.slots other
+        ≤ waiting_at (T.awaited, T.talk, L.port) clients.now.mux.roster.slots result }
+    ensures either { (result ≡ one) ⊎ (result ≡ other) }
+{
+    if waiting_of(clients, one) < waiting_of(clients, other) {
+        return other;
+    }
+    one
+}
+
+/// How many bytes of the replies of a number's client wait.
+pub(crate) fn waiting_of<P, L: Port + Drop, T: Talking<P> + Drop>(
+    clients: &Worker<L, T, P>,
+    number: usize,
+) -> usize
+    ensures { result
+        ≡ waiting_at (T.awaited, T.talk, L.port) clients.now.mux.roster.slots number }
+{
+    match progress_of(clients, number) {
+        Some(progress) => progress.waiting,
+        None => 0,
+    }
+}
+
+/// What is left of a bound without so many bytes; none where it is passed.
+fn without(left: Option<usize>, waiting: usize) -> Option<usize>
+    ensures { result ≡ without left waiting }
+{
+    let left = left?;
+    left.checked_sub(waiting)
+}
