@@ -1,0 +1,3 @@
+mod ProbeLemmas
+pub mod RoundLemmas
+mod VisitLemmas

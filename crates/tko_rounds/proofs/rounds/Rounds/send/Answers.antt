@@ -1,0 +1,15 @@
+use Rattle.std.proofs.Common.{refl, ◌∙◌}
+use Rattle.tko_rounds.specs.Workers.{parts_in, state_of}
+use Rattle.tko_rounds.proofs.VisitLemmas.{next_lost}
+use Rattle.tko_rounds.proofs.rounds.Rounds.send.Goals as goal
+
+pub returns-in-Err-clause-next : goal.returns-in-Err-clause-next
+returns-in-Err-clause-next g c =
+    let found = c.in-Some.ensures.does c.requires.health in
+    let kept = c.in-Err.ensures.err in
+    let settled = c.settle.ensures in
+    next_lost {health = g.H.Health} c.args.moment c.args.due c.args.server c.in-Some.duty
+    (state_of c.args.self.now c.args.worker.now) c.settle.new.clients.mux.limit (parts_in c.settle.new.clients).backend
+    (parts_in c.visit.new.self).backend c.settle.new.clients.mux.lines c.settle.new.self c.settle.result
+    (rw c.if-is_out.false at c.is_out.ensures) found.due (rw kept at settled.takes.has_come) (settled.uncounted refl)
+    (rw kept at settled.limit ∙ c.in-Some.ensures.limit) (rw kept at settled.lines ∙ c.in-Some.ensures.lines)

@@ -1,0 +1,4 @@
+pub mod Parts
+pub mod Probes
+pub mod Rounds
+pub mod Workers

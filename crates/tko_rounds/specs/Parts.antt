@@ -1,0 +1,45 @@
+-- The parts that the clients of a worker share, as a round changes them.
+use Rattle.std.specs.Prelude.{◌≡◌, ℕ, Option, Some, None}
+use Rattle.tko_model.specs.declared.mark.Reply.{Reply}
+use Rattle.tko_mux.specs.declared.asking.Came.{Came}
+use Rattle.tko_health.specs.declared.health.Health.{Ghosts as HealthGhosts}
+use Rattle.tko_prober.specs.declared.backend.Backend.{Backend}
+use Rattle.tko_prober.specs.Halves.{IsPassed, IsSent}
+use Rattle.tko_prober.specs.Probers.{begun_at}
+use Rattle.tko_reply.specs.declared.parts.Parts.{Parts}
+use Rattle.tko_rounds.specs.Rounds.{HasCome}
+
+-- the same parts with the health and the probers of this backend
+abbrev pub with_probing : {H L T C : Type 0} → Backend H L C → Parts H L T C → Parts H L T C
+with_probing backend parts = record parts {
+  backend = record parts.backend { health = backend.health; probers = backend.probers };
+}
+
+-- each server that was marked has a prober that begins at this moment
+abbrev pub with_begun : {H L T C : Type 0} → ℕ → Parts H L T C → Parts H L T C
+with_begun moment parts = record parts {
+  backend = record parts.backend { probers = begun_at moment parts.backend.probers };
+}
+
+module _ {H L C : Type 0} (health : HealthGhosts H) where
+  -- whether a probe is due at this server was found: none is, or this is the right to send it
+  abbrev pub DueAt : ℕ → ℕ → Backend H L C → Option ℕ → Backend H L C → Type 0
+  DueAt moment server old None new = IsPassed health.steps health.grants moment old server new
+  DueAt moment server old (Some duty) new =
+      (duty ≡ server) × IsSent health.grants moment old server new
+
+module _ {H L T C : Type 0} (health : HealthGhosts H) where
+  -- the same over the parts, which stay else
+  pub record FindsDue (moment server : ℕ) (old : Parts H L T C) (duty : Option ℕ)
+      (new : Parts H L T C) : Type 0 where
+    pub due : DueAt health moment server old.backend duty new.backend
+    pub others : new ≡ with_probing new.backend old
+    pub servers : health.servers new.backend.health ≡ health.servers old.backend.health
+
+  -- what came of a probe of this server was recorded
+  pub record TakesResult (moment server : ℕ) (came : Came) (old : Parts H L T C)
+      (reply : Option Reply) (new : Parts H L T C) : Type 0 where
+    pub has_come : HasCome health moment old.backend server (record { came = came; reply = reply })
+        new.backend
+    pub others : new ≡ with_probing new.backend old
+    pub servers : health.servers new.backend.health ≡ health.servers old.backend.health

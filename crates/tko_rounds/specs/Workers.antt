@@ -1,0 +1,45 @@
+-- A round as its worker sees it.
+use Rattle.std.specs.Prelude.{◌≡◌, ℕ, List, Option}
+use Rattle.tko_health.specs.declared.health.Health.{Ghosts as HealthGhosts}
+use Rattle.tko_reply.specs.declared.parts.Parts.{Parts}
+use Rattle.tko_session.specs.Awaiting.{awaited_in}
+use Rattle.tko_client.specs.Clients.{IsReadyOver}
+use Rattle.tko_client.specs.declared.client.EventClient.{EventClient}
+use Rattle.tko_client.specs.declared.lent.Lent.{Lent}
+use Rattle.tko_worker.specs.Turns.{probed_at}
+use Rattle.tko_worker.specs.Workers.{WorkerState}
+use Rattle.tko_worker.specs.declared.event_worker.EventWorker.{EventWorker}
+use Rattle.tko_rounds.specs.Probes.{ProbesState}
+use Rattle.tko_rounds.specs.Rounds.{RoundState}
+
+-- the server that a client's request is under way to
+abbrev pub awaits : EventClient → Option ℕ
+awaits client = awaited_in client.session.work
+
+-- a client can go on over these parts
+abbrev pub is_ready : {R H T C : Type 0} {health : HealthGhosts H} → Lent R H T C health
+    → EventClient → Type 0
+is_ready lent client = IsReadyOver lent.parts.config client
+
+module _ {L S R H T C : Type 0} {health : HealthGhosts H} where
+  -- the parts that the clients of a worker share
+  abbrev pub parts_in : WorkerState L S (Lent R H T C health) → Parts H (List ℕ) T C
+  parts_in worker = worker.mux.roster.parts.parts.parts
+
+  -- what a round works on, where this is known of the probes
+  abbrev pub state_of : ProbesState → EventWorker L S (Lent R H T C health)
+      → RoundState H (List ℕ) C
+  state_of probes worker = record {
+    limit = worker.clients.mux.limit;
+    backend = (parts_in worker.clients).backend;
+    lines = worker.clients.mux.lines;
+    came = probed_at worker.peers.items;
+    probes = probes;
+  }
+
+-- the clients stay, who of them is to be served in this turn and in the next, and how they ended
+pub record KeepsClients {L S P : Type 0} (old new : WorkerState L S P) : Type 0 where
+  pub slots : new.mux.roster.slots ≡ old.mux.roster.slots
+  pub touched : new.touched ≡ old.touched
+  pub spent : new.spent ≡ old.spent
+  pub ends : new.ends ≡ old.ends

@@ -1,0 +1,307 @@
+//! A round.
+ghost use Rattle.std.specs.Prelude.{◌≡◌, ◌<◌, ◌+◌, ℕ, false, is_err, length, min};
+ghost use Rattle.std.specs.Bool.{OnFalse, OnTrue};
+ghost use Rattle.tko_client.specs.Steps.{HasStayed};
+ghost use Rattle.tko_client.specs.Clients.{talk_of};
+ghost use Rattle.tko_links.specs.Links.{part_of};
+ghost use Rattle.tko_worker.specs.Turns.{socket_at};
+ghost use Rattle.tko_worker.specs.Workers.{IsInOrder};
+ghost use Rattle.tko_rounds.specs.Parts.{TakesResult, with_probing};
+ghost use Rattle.tko_rounds.specs.Probes.{count_of, is_probe};
+ghost use Rattle.tko_rounds.specs.Rounds.{AreVisited, HasNext, HasTaken, IsIdle, IsRound, IsVisited, servers_of};
+ghost use Rattle.tko_rounds.specs.Workers.{KeepsClients, awaits, is_ready, parts_in, state_of};
+
+use crate::Rounds;
+use crate::visits::{BeginProbers, FindDue, TakeResult};
+use std::alloc::Global;
+use tko_bytes::NoMemory;
+use tko_client::{EventClient, Lent};
+use tko_io::IoRuntime;
+use tko_model::Reply;
+use tko_mux::Came;
+use tko_pipe::Fate;
+use tko_port::{Port, Talking};
+use tko_route::Health;
+use tko_session::Trails;
+use tko_worker::{EventWorker, Worker};
+
+/// The clients of a worker.
+type Clients<'r, L, R, H, T, C> = Worker<L, EventClient, Lent<'r, R, H, T, C>>;
+
+/// A worker as a whole: its clients and its servers.
+type Whole<'r, L, R, H, T, C> = EventWorker<L, EventClient, Lent<'r, R, H, T, C>>;
+
+impl Rounds {
+    /// A round at this moment, at the end of a turn of events: a prober begins for each server that
+    /// was marked; then for each server, in number order, what came of its probe is taken, and the
+    /// next one is put on its line where it is due. Its response is due at the second moment. If
+    /// memory runs out for a probe, it has failed, and the round goes on to the other servers
+    /// before it returns `NoMemory`.
+    pub fn run<'r, L: Port + Drop, R: IoRuntime, H: Health, T: Trails, C>(
+        &mut self,
+        alloc: Global,
+        worker: &mut Whole<'r, L, R, H, T, C>,
+        moment: u64,
+        due: u64,
+    ) -> Result<(), NoMemory>
+        requires order { IsInOrder (awaits, talk_of, L.port) is_ready worker.old.clients }
+        ensures round { IsRound H.Health moment due (state_of self.old worker.old) (is_err result)
+            (state_of self.new worker.new) }
+        ensures idle { IsIdle (parts_in worker.old.clients).backend.probers self.old
+            → (self.new ≡ self.old) × (worker.new ≡ worker.old) }
+        ensures stays { HasStayed H.servers (parts_in worker.old.clients)
+            (parts_in worker.new.clients) }
+        ensures parts { parts_in worker.new.clients
+            ≡ with_probing (parts_in worker.new.clients).backend (parts_in worker.old.clients) }
+        ensures clients { KeepsClients worker.old.clients worker.new.clients }
+        ensures out { length self.new.out ≡ length self.old.out }
+        ensures lines { length worker.new.clients.mux.lines ≡ length worker.old.clients.mux.lines }
+        ensures health { H.servers (parts_in worker.new.clients).backend.health
+            ≡ H.servers (parts_in worker.old.clients).backend.health }
+        ensures sockets { (server : ℕ) → socket_at L.port worker.new.peers.items server
+            ≡ socket_at L.port worker.old.peers.items server }
+        ensures count { length worker.new.peers.items ≡ length worker.old.peers.items }
+        ensures order { IsInOrder (awaits, talk_of, L.port) is_ready worker.new.clients }
+    {
+        if self.is_idle(&worker.clients) {
+            return Ok(());
+        }
+        if self.work(alloc, worker, moment, due) {
+            return Err(NoMemory);
+        }
+        Ok(())
+    }
+
+    /// Whether no prober is at work or going to be, and no probe is out.
+    fn is_idle<'r, L: Port + Drop, R: IoRuntime, H: Health, T: Trails, C>(
+        &self,
+        clients: &Clients<'r, L, R, H, T, C>,
+    ) -> bool
+        ensures yes { OnTrue result (IsIdle (parts_in clients.now).backend.probers self.now) }
+        ensures no { OnFalse result (¬ IsIdle (parts_in clients.now).backend.probers self.now) }
+    {
+        if !self.has_none_out() {
+            return false;
+        }
+        clients.parts().parts.backend.probers.is_quiet()
+    }
+
+    /// A round in which there is something to do. Returns whether memory ran out for a probe.
+    fn work<'r, L: Port + Drop, R: IoRuntime, H: Health, T: Trails, C>(
+        &mut self,
+        alloc: Global,
+        worker: &mut Whole<'r, L, R, H, T, C>,
+        moment: u64,
+        due: u64,
+    ) -> bool
+        requires order { IsInOrder (awaits, talk_of, L.port) is_ready worker.old.clients }
+        ensures round { IsRound H.Health moment due (state_of self.old worker.old) result
+            (state_of self.new worker.new) }
+        ensures parts { parts_in worker.new.clients
+            ≡ with_probing (parts_in worker.new.clients).backend (parts_in worker.old.clients) }
+        ensures clients { KeepsClients worker.old.clients worker.new.clients }
+        ensures out { length self.new.out ≡ length self.old.out }
+        ensures lines { length worker.new.clients.mux.lines ≡ length worker.old.clients.mux.lines }
+        ensures health { H.servers (parts_in worker.new.clients).backend.health
+            ≡ H.servers (parts_in worker.old.clients).backend.health }
+        ensures sockets { (server : ℕ) → socket_at L.port worker.new.peers.items server
+            ≡ socket_at L.port worker.old.peers.items server }
+        ensures count { length worker.new.peers.items ≡ length worker.old.peers.items }
+        ensures order { IsInOrder (awaits, talk_of, L.port) is_ready worker.new.clients }
+    {
+        worker.clients.visit(BeginProbers { moment });
+        self.visit_all(alloc, worker, moment, due)
+    }
+
+    /// Visits each server in number order, and returns whether memory ran out for a probe.
+    fn visit_all<'r, L: Port + Drop, R: IoRuntime, H: Health, T: Trails, C>(
+        &mut self,
+        alloc: Global,
+        worker: &mut Whole<'r, L, R, H, T, C>,
+        moment: u64,
+        due: u64,
+    ) -> bool
+        requires order { IsInOrder (awaits, talk_of, L.port) is_ready worker.old.clients }
+        ensures visits { AreVisited H.Health moment due (state_of self.old worker.old)
+            (servers_of H.Health (state_of self.old worker.old)) result
+            (state_of self.new worker.new) }
+        ensures parts { parts_in worker.new.clients
+            ≡ with_probing (parts_in worker.new.clients).backend (parts_in worker.old.clients) }
+        ensures clients { KeepsClients worker.old.clients worker.new.clients }
+        ensures out { length self.new.out ≡ length self.old.out }
+        ensures lines { length worker.new.clients.mux.lines ≡ length worker.old.clients.mux.lines }
+        ensures health { H.servers (parts_in worker.new.clients).backend.health
+            ≡ H.servers (parts_in worker.old.clients).backend.health }
+        ensures sockets { (server : ℕ) → socket_at L.port worker.new.peers.items server
+            ≡ socket_at L.port worker.old.peers.items server }
+        ensures count { length worker.new.peers.items ≡ length worker.old.peers.items }
+        ensures order { IsInOrder (awaits, talk_of, L.port) is_ready worker.new.clients }
+    {
+        let mut short = false;
+        for server in 0..self.servers_of(&worker.clients) {
+            short |= self.visit(alloc, worker, server, moment, due);
+        }
+        short
+    }
+
+    /// How many servers a round visits: those that have a count, a line and a health.
+    fn servers_of<'r, L: Port + Drop, R: IoRuntime, H: Health, T: Trails, C>(
+        &self,
+        clients: &Clients<'r, L, R, H, T, C>,
+    ) -> usize
+        ensures { result ≡ min (length self.now.out) (min (length clients.now.mux.lines)
+            (H.servers (parts_in clients.now).backend.health)) }
+    {
+        let healthy = clients.parts().parts.backend.health.servers();
+        self.servers().min(clients.servers().min(healthy))
+    }
+
+    /// Visits a server. Returns whether memory ran out for its probe.
+    fn visit<'r, L: Port + Drop, R: IoRuntime, H: Health, T: Trails, C>(
+        &mut self,
+        alloc: Global,
+        worker: &mut Whole<'r, L, R, H, T, C>,
+        server: usize,
+        moment: u64,
+        due: u64,
+    ) -> bool
+        requires within { server < length self.old.out }
+        requires line { server < length worker.old.clients.mux.lines }
+        requires health { server < H.servers (parts_in worker.old.clients).backend.health }
+        requires order { IsInOrder (awaits, talk_of, L.port) is_ready worker.old.clients }
+        ensures visit { IsVisited H.Health moment due (state_of self.old worker.old) server result
+            (state_of self.new worker.new) }
+        ensures parts { parts_in worker.new.clients
+            ≡ with_probing (parts_in worker.new.clients).backend (parts_in worker.old.clients) }
+        ensures clients { KeepsClients worker.old.clients worker.new.clients }
+        ensures out { length self.new.out ≡ length self.old.out }
+        ensures lines { length worker.new.clients.mux.lines ≡ length worker.old.clients.mux.lines }
+        ensures health { H.servers (parts_in worker.new.clients).backend.health
+            ≡ H.servers (parts_in worker.old.clients).backend.health }
+        ensures sockets { (server : ℕ) → socket_at L.port worker.new.peers.items server
+            ≡ socket_at L.port worker.old.peers.items server }
+        ensures count { length worker.new.peers.items ≡ length worker.old.peers.items }
+        ensures order { IsInOrder (awaits, talk_of, L.port) is_ready worker.new.clients }
+    {
+        self.take(worker, server, moment);
+        self.send(alloc, worker, server, moment, due)
+    }
+
+    /// Takes what came of the probe of a server, if one is out and something came.
+    fn take<'r, L: Port + Drop, R: IoRuntime, H: Health, T: Trails, C>(
+        &mut self,
+        worker: &mut Whole<'r, L, R, H, T, C>,
+        server: usize,
+        moment: u64,
+    )
+        requires within { server < length self.old.out }
+        requires line { server < length worker.old.clients.mux.lines }
+        requires health { server < H.servers (parts_in worker.old.clients).backend.health }
+        requires order { IsInOrder (awaits, talk_of, L.port) is_ready worker.old.clients }
+        ensures taken { HasTaken H.Health moment (state_of self.old worker.old) server
+            (state_of self.new worker.new) }
+        ensures parts { parts_in worker.new.clients
+            ≡ with_probing (parts_in worker.new.clients).backend (parts_in worker.old.clients) }
+        ensures clients { KeepsClients worker.old.clients worker.new.clients }
+        ensures out { length self.new.out ≡ length self.old.out }
+        ensures lines { length worker.new.clients.mux.lines ≡ length worker.old.clients.mux.lines }
+        ensures health { H.servers (parts_in worker.new.clients).backend.health
+            ≡ H.servers (parts_in worker.old.clients).backend.health }
+        ensures sockets { (server : ℕ) → socket_at L.port worker.new.peers.items server
+            ≡ socket_at L.port worker.old.peers.items server }
+        ensures count { length worker.new.peers.items ≡ length worker.old.peers.items }
+        ensures order { IsInOrder (awaits, talk_of, L.port) is_ready worker.new.clients }
+    {
+        if !self.is_out(server) {
+            return;
+        }
+        let Some(came) = worker.probed(server) else {
+            return;
+        };
+        self.set_out(server, false);
+        self.settle(&mut worker.clients, server, moment, came);
+    }
+
+    /// Sends the next probe of a server, where none is out and it is due. Returns whether memory
+    /// ran out for it.
+    fn send<'r, L: Port + Drop, R: IoRuntime, H: Health, T: Trails, C>(
+        &mut self,
+        alloc: Global,
+        worker: &mut Whole<'r, L, R, H, T, C>,
+        server: usize,
+        moment: u64,
+        due: u64,
+    ) -> bool
+        requires within { server < length self.old.out }
+        requires line { server < length worker.old.clients.mux.lines }
+        requires health { server < H.servers (parts_in worker.old.clients).backend.health }
+        requires order { IsInOrder (awaits, talk_of, L.port) is_ready worker.old.clients }
+        ensures next { HasNext H.Health moment due (state_of self.old worker.old) server result
+            (state_of self.new worker.new) }
+        ensures peers { worker.new.peers ≡ worker.old.peers }
+        ensures parts { parts_in worker.new.clients
+            ≡ with_probing (parts_in worker.new.clients).backend (parts_in worker.old.clients) }
+        ensures clients { KeepsClients worker.old.clients worker.new.clients }
+        ensures out { length self.new.out ≡ length self.old.out }
+        ensures lines { length worker.new.clients.mux.lines ≡ length worker.old.clients.mux.lines }
+        ensures health { H.servers (parts_in worker.new.clients).backend.health
+            ≡ H.servers (parts_in worker.old.clients).backend.health }
+        ensures order { IsInOrder (awaits, talk_of, L.port) is_ready worker.new.clients }
+    {
+        if self.is_out(server) {
+            return false;
+        }
+        let Some(duty) = worker.clients.visit(FindDue { server, moment }) else {
+            return false;
+        };
+        match worker.clients.probe(alloc, duty, due) {
+            Ok(()) => {
+                self.set_out(server, true);
+                false
+            }
+            Err(_) => {
+                self.settle(
+                    &mut worker.clients,
+                    server,
+                    moment,
+                    Came::Fate(Fate::Memory),
+                );
+                true
+            }
+        }
+    }
+
+    /// Counts a probe that came to this, records that, and tells it. Returns how the health
+    /// replied.
+    fn settle<'r, L: Port + Drop, R: IoRuntime, H: Health, T: Trails, C>(
+        &mut self,
+        clients: &mut Clients<'r, L, R, H, T, C>,
+        server: usize,
+        moment: u64,
+        came: Came,
+    ) -> Option<Reply>
+        requires within { server < length self.old.out }
+        requires health { server < H.servers (parts_in clients.old).backend.health }
+        requires order { IsInOrder (awaits, talk_of, L.port) is_ready clients.old }
+        ensures takes { TakesResult H.Health moment server came (parts_in clients.old) result
+            (parts_in clients.new) }
+        ensures counted { (at : ℕ) → count_of self.new at
+            ≡ count_of self.old at + part_of (is_probe came) server at }
+        ensures uncounted { is_probe came ≡ false → self.new ≡ self.old }
+        ensures counts { length self.new.counts ≡ length self.old.counts }
+        ensures out { self.new.out ≡ self.old.out }
+        ensures lines { clients.new.mux.lines ≡ clients.old.mux.lines }
+        ensures limit { clients.new.mux.limit ≡ clients.old.mux.limit }
+        ensures clients { KeepsClients clients.old clients.new }
+        ensures order { IsInOrder (awaits, talk_of, L.port) is_ready clients.new }
+    {
+        self.count(clients.parts().rt, server, &came);
+        let probes = self.of(server);
+        clients.visit(TakeResult {
+            server,
+            moment,
+            came,
+            probes,
+        })
+    }
+}
