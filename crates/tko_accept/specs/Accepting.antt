@@ -35,12 +35,13 @@ is_broken (Err stop.Broken) = true
 is_broken (Err _) = false
 
 -- accepting `connections` connections, where 0 is no limit, came to this end
-pub record HasAccepted (connections : ℕ) (listening : Listening) (entrance : Entrance)
-    (ended : AcceptEnd) : Type 0 where
-  -- all of them were accepted, and none more
-  pub enough : ended ≡ Enough → (0 < connections) × (listening.accepted ≡ connections)
-  pub within : 0 < connections → listening.accepted ≤ connections
-  -- it ends for want of a worker exactly where there was none for a connection
-  pub no_worker : (ended ≡ NoWorker) ↔ (entrance.has_worker ≡ false)
-  -- it ends by a fault of its own exactly where the listener is broken
-  pub broken : (ended ≡ Broken) ↔ (listening.is_broken ≡ true)
+pub record HasAccepted {W : Type 0} (connections : ℕ) (listening : Listening)
+    (entrance : Entrance W) (ended : AcceptEnd) : Type 0
+  where
+    -- all of them were accepted, and none more
+    pub enough : ended ≡ Enough → (0 < connections) × (listening.accepted ≡ connections)
+    pub within : 0 < connections → listening.accepted ≤ connections
+    -- it ends for want of a worker exactly where there was none for a connection
+    pub no_worker : (ended ≡ NoWorker) ↔ (entrance.has_worker ≡ false)
+    -- it ends by a fault of its own exactly where the listener is broken
+    pub broken : (ended ≡ Broken) ↔ (listening.is_broken ≡ true)

@@ -1,11 +1,11 @@
 //! The thread that accepts connections.
 ghost use Rattle.std.specs.Prelude.{◌≡◌, ◌&&◌, false, true};
+ghost use Rattle.std.specs.Bool.{OnFalse};
 ghost use Rattle.tko_accept.specs.Accepting.{HasAccepted};
 
-use crate::clients::Client;
+use crate::Way;
 use crate::listening::{AcceptStop, Listening};
-use crate::room::{Place, Room};
-use crossbeam_channel::Sender;
+use crate::room::{ClientPlace, Room};
 use std::alloc::{AllocError, Global};
 use std::net::TcpStream;
 use std::sync::{Arc, Wait};
@@ -23,11 +23,11 @@ pub enum AcceptEnd {
     Broken,
 }
 
-/// The way of a connection to the workers.
+/// Where connections come in, each of which gets a place and goes on to the workers by this way.
 #[derive(Drop)]
-pub struct Entrance {
+pub struct Entrance<W> {
     room: Arc<Room, Global>,
-    clients: Sender<Client>,
+    way: W,
     patience: Patience,
     pub log: Log,
     /// Whether there was a worker for each connection so far.
@@ -37,17 +37,18 @@ pub struct Entrance {
 /// Accepts connections while there is room for them, and sends each to the workers, until there
 /// were `connections` of them, where 0 is no limit, or until no worker is left. An accept that
 /// failed is made again once a client has left, or after a tenth of a second.
-pub fn accept_all<R: Wait>(
+pub fn accept_all<R: Wait, W: Way>(
     rt: &R,
     alloc: Global,
     listening: &mut Listening<'_>,
-    entrance: &mut Entrance,
+    entrance: &mut Entrance<W>,
     connections: u64,
 ) -> AcceptEnd
     requires none { listening.old.accepted ≡ 0 }
     requires whole { listening.old.is_broken ≡ false }
     requires taken { entrance.old.has_worker ≡ true }
-    ensures { HasAccepted connections listening.new entrance.new result }
+    ensures accepted { HasAccepted connections listening.new entrance.new result }
+    ensures closed { result ≡ AcceptEnd.NoWorker → W.is_closed entrance.new.way }
 {
     let mut left = connections;
     for _ in rt.forever() {
@@ -73,20 +74,15 @@ pub fn accept_all<R: Wait>(
     unreachable!()
 }
 
-impl Entrance {
-    /// The way into this room, and to the workers that take from this channel.
-    pub fn new(
-        room: Arc<Room, Global>,
-        clients: Sender<Client>,
-        patience: Patience,
-        log: Log,
-    ) -> Entrance
+impl<W: Way> Entrance<W> {
+    /// The entrance to this room, from which clients go on by this way.
+    pub fn new(room: Arc<Room, Global>, way: W, patience: Patience, log: Log) -> Entrance<W>
         ensures worker { result.has_worker ≡ true }
         ensures patience { result.patience ≡ patience }
     {
         Entrance {
             room,
-            clients,
+            way,
             patience,
             log,
             has_worker: true,
@@ -97,7 +93,8 @@ impl Entrance {
     /// socket cannot be set up, or for which there is no memory, is closed at once. That is counted
     /// as a session that ended by a fault.
     fn admit<R: Wait>(&mut self, rt: &R, alloc: Global, stream: TcpStream) -> bool
-        ensures { self.new.has_worker ≡ (self.old.has_worker && result) }
+        ensures worker { self.new.has_worker ≡ (self.old.has_worker && result) }
+        ensures closed { OnFalse result (W.is_closed self.new.way) }
     {
         match self.client(alloc, stream) {
             Ok(Some(client)) => {
@@ -113,20 +110,21 @@ impl Entrance {
     }
 
     /// Sends a client to the workers, and returns whether there is one.
-    fn send<R: Wait>(&mut self, rt: &R, client: Client) -> bool
-        ensures { self.new.has_worker ≡ (self.old.has_worker && result) }
+    fn send<R: Wait>(&mut self, rt: &R, client: W::Client) -> bool
+        ensures worker { self.new.has_worker ≡ (self.old.has_worker && result) }
+        ensures closed { OnFalse result (W.is_closed self.new.way) }
     {
-        let is_sent = self.clients.send(rt, client).is_ok();
+        let is_sent = self.way.send(rt, client);
         self.has_worker = self.has_worker && is_sent;
         is_sent
     }
 
     /// The client at the other end of a connection, which has its place in the room.
-    fn client(&self, alloc: Global, stream: TcpStream) -> Result<Option<Client>, AllocError> {
+    fn client(&self, alloc: Global, stream: TcpStream) -> Result<Option<W::Client>, AllocError> {
         if self.patience.set(&stream).is_err() {
             return Ok(None);
         }
-        let place = Place::take(&self.room)?;
-        Ok(Some(Client::new(alloc, stream, place, self.patience)?))
+        let place = ClientPlace::take(&self.room)?;
+        Ok(Some(W::client(alloc, stream, place, self.patience)?))
     }
 }

@@ -2,7 +2,7 @@
 ghost use Rattle.std.specs.Prelude.{◌≡◌};
 
 use crate::first_asks::FirstAsk;
-use crate::room::Place;
+use crate::room::ClientPlace;
 use crossbeam_channel::{Receiver, RecvTimeoutError};
 use std::alloc::{AllocError, Global};
 use std::io;
@@ -18,7 +18,7 @@ use tko_threads::{IDLE, Next, Patience, Source};
 #[derive(Drop)]
 struct Connection {
     stream: TcpStream,
-    place: Place,
+    place: ClientPlace,
 }
 
 /// What a client sends.
@@ -46,7 +46,7 @@ impl Client {
     pub(crate) fn new(
         alloc: Global,
         stream: TcpStream,
-        place: Place,
+        place: ClientPlace,
         patience: Patience,
     ) -> Result<Client, AllocError> {
         let connection = Arc::new(alloc, Connection { stream, place })?;

@@ -3,10 +3,11 @@ ghost use Rattle.std.specs.Prelude.{◌≡◌, ◌⊎◌, ◌↔◌, ◌||◌, f
 ghost use Rattle.std.specs.IoError.{error_kind};
 ghost use Rattle.tko_accept.specs.Accepting.{IsBroken, count_after, is_broken, stop_of_kind};
 
+use libc::net::listen;
 use std::io;
 use std::io::ErrorKind;
 use std::net::{TcpListener, TcpStream};
-use std::os::fd::OwnedFd;
+use std::os::fd::{AsRawFd, OwnedFd};
 use std::time::Duration;
 
 /// The system's number of a descriptor that is not open.
@@ -20,6 +21,9 @@ const NO_SOCKET: i32 = 88;
 
 /// How many milliseconds an accept waits for a connection.
 const PATIENCE: u64 = 100;
+
+/// How many connections may wait to be accepted, where the system has no lower limit.
+const BACKLOG: i32 = 1_024;
 
 /// Why an accept gave no connection.
 #[derive(Clone, Copy, Debug, PartialEq, Eq)]
@@ -45,11 +49,13 @@ pub struct Listening<'a> {
 }
 
 impl<'a> Listening<'a> {
-    /// An accept waits for a connection for a tenth of a second. Where the system does not take
-    /// this limit, it waits until one comes.
+    /// So many connections wait to be accepted as `BACKLOG` says, or as the listener was made for
+    /// where the system refuses. An accept waits for a connection for a tenth of a second; where
+    /// the system does not take this limit, it waits until one comes.
     pub fn new(listener: &'a TcpListener) -> Listening<'a>
         ensures { (result.accepted ≡ 0) × (result.is_broken ≡ false) }
     {
+        let _status = listen(listener.as_raw_fd(), BACKLOG);
         let _limited = limit_accepts(listener);
         Listening {
             listener,

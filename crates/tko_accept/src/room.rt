@@ -54,26 +54,26 @@ impl Room {
 }
 
 /// One client's place in a room, which is given back when it is dropped.
-pub(crate) struct Place {
+pub struct ClientPlace {
     room: Arc<Room, Global>,
 }
 
-impl Place {
+impl ClientPlace {
     /// Takes a place.
-    pub(crate) fn take(room: &Arc<Room, Global>) -> Result<Place, AllocError> {
+    pub(crate) fn take(room: &Arc<Room, Global>) -> Result<ClientPlace, AllocError> {
         let room = Arc::try_clone(room)?;
         room.connected.fetch_add(1, Ordering::SeqCst);
         room.meter.enter();
-        Ok(Place { room })
+        Ok(ClientPlace { room })
     }
 }
 
-impl Drop for Place {
+impl Drop for ClientPlace {
     fn drop(self) {
         self.room.meter.leave();
         self.room.connected.fetch_sub(1, Ordering::SeqCst);
         self.room.connected.wake_one();
-        let Place { room } = self;
+        let ClientPlace { room } = self;
         drop(room);
     }
 }

@@ -1,7 +1,6 @@
 pub mod Accounts
 pub mod ClientEnds
 pub mod Leaving
-pub mod Pacing
 pub mod Reports
 pub mod Sums
 pub mod Watching

@@ -1,5 +1,6 @@
 -- A client's time: when a round is due while it is served, and when its time is over.
-use Rattle.std.specs.Prelude.{◌-◌, ◌==◌, ◌&&◌, nat_lt, nat_le, if◌then◌else◌, ℕ, Option, Some, None}
+use Rattle.std.specs.Prelude.{◌-◌, ◌==◌, nat_lt, if◌then◌else◌, ℕ, Option, Some, None}
+use Rattle.tko_pace.specs.Silence.{is_over}
 use Rattle.tko_threads.specs.declared.watch.Turn.{Turn}
 use Rattle.tko_threads.specs.declared.watch.Turn.TheVariants.{Read, Idle, Over}
 use Rattle.tko_threads.specs.declared.watch.Watch.{Watch}
@@ -8,7 +9,7 @@ use Rattle.tko_threads.specs.declared.watch.Watch.{Watch}
 -- request for so long; a round is due 100 ms after the last one ended; else bytes are read
 abbrev pub turn_at : Watch → ℕ → Turn
 turn_at watch now =
-    if nat_lt 0 watch.limit && nat_le watch.limit (now - watch.since) then Over
+    if is_over watch.limit watch.since now then Over
     else (if nat_lt (now - watch.rounded) 100 then Read else Idle)
 
 -- a round begins at an idle turn

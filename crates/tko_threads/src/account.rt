@@ -19,7 +19,7 @@ pub struct Account<'a> {
 impl Account<'_> {
     /// Adds what was counted to the book and to the share. Returns whether the ledger was full for
     /// a kind; of that kind nothing is added.
-    pub(crate) fn add<R: Wait>(&mut self, rt: &R, counts: &Counts) -> bool
+    pub fn add<R: Wait>(&mut self, rt: &R, counts: &Counts) -> bool
         ensures given { IsGiven counts.now self.old.share.now result self.new.share.now }
     {
         let mut book = self.book.lock(rt);

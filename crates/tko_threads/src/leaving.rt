@@ -2,28 +2,23 @@
 ghost use Rattle.tko_health.specs.Seating.{Leaves};
 ghost use Rattle.tko_threads.specs.Leaving.{ReleasesEach};
 
-use crate::metered::Metered;
+use crate::Metered;
 use std::sync::Wait;
 use tko_health::{Health, Seating};
-use tko_session::Parts;
 
-/// Releases each server, which is told, and gives the seat back.
-pub(crate) fn leave<R: Wait, S: Seating, L: Drop, M: Drop>(
+/// Releases each server, which the observer is told, and gives the seat back.
+pub fn leave<R: Wait, S: Seating>(
     rt: &R,
     seating: &S,
-    parts: Parts<S::Worker, L, Metered<'_>, M>,
+    health: S::Worker,
+    observer: &Metered<'_>,
 ) -> S::Idle
     ensures own { S.own seating.now result }
     ensures leaves { Leaves S.Worker.Health.steps (S.gives_back seating.now)
-        parts.entry.backend.health result }
+        health result }
 {
-    let Parts {
-        backend,
-        trails,
-        config: _,
-    } = parts;
-    let mut health = backend.health;
-    release_all(rt, &mut health, &trails);
+    let mut health = health;
+    release_all(rt, &mut health, observer);
     seating.leave(rt, health)
 }
 

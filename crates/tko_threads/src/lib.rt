@@ -6,6 +6,7 @@
 //!   `WorkerReport` says what it met.
 //! - `Member`: what one worker of a `pool` is started with. `lend_all` takes the passes of workers
 //!   from a desk, and `work` runs a pool whose passes go back there; a `PassMember` has one.
+//! - `Metered`: a worker's observer, which counts, meters and logs; `leave` gives a seat back.
 //! - `Patience`: how long a worker waits for a client.
 #![tactic(auto)]
 
@@ -15,7 +16,6 @@ mod keepalive;
 mod leaving;
 mod lending;
 mod metered;
-mod pace;
 mod paced;
 mod patience;
 mod pooling;
@@ -25,7 +25,9 @@ mod watch;
 mod working;
 
 pub use account::Account;
+pub use leaving::leave;
 pub use lending::{PassMember, lend_all, work};
+pub use metered::Metered;
 pub use patience::{IDLE, Patience};
 pub use pooling::{Member, pool};
 pub use report::WorkerReport;

@@ -28,7 +28,7 @@ const ONE_REQUEST: Increase = Increase {
 /// A worker's counts, with its end of the log and of the meter: what is recorded is counted there
 /// too, and each attempt, probe and release is told as it ends. Contracts see the counts.
 #[derive(Drop)]
-pub(crate) struct Metered<'r> {
+pub struct Metered<'r> {
     counts: Counts,
     log: WorkerLog,
     /// How many requests its worker has begun to answer, in all.
@@ -45,7 +45,7 @@ impl<'r> Model for Metered<'r> {
 
 impl<'r> Metered<'r> {
     /// Nothing was counted yet.
-    pub(crate) fn new(log: WorkerLog, requests: &'r AtomicU64) -> Metered<'r>
+    pub fn new(log: WorkerLog, requests: &'r AtomicU64) -> Metered<'r>
         ensures { result ≡ no_counts }
     {
         let counts = Counts::new();
@@ -57,7 +57,7 @@ impl<'r> Metered<'r> {
     }
 
     /// What was counted since the last time.
-    pub(crate) fn take(&mut self) -> Counts
+    pub fn take(&mut self) -> Counts
         ensures taken { result ≡ self.old }
         ensures left { self.new ≡ no_counts }
     {
@@ -67,9 +67,16 @@ impl<'r> Metered<'r> {
     }
 
     /// A session of its worker ended so.
-    pub(crate) fn end_session(&self, ending: Ending) {
+    pub fn end_session(&self, ending: Ending) {
         self.log.meter().end_session(ending);
         self.log.log().count_session(ending != Ending::Done);
+    }
+
+    /// A client that came to its worker could not be taken in, and was closed: a session that ended
+    /// by a fault.
+    pub fn refuse_client(&self) {
+        self.log.log().count_session(true);
+        self.log.log().meter().drop_client();
     }
 
     /// Its worker released a server as it ended, and the health replied so.

@@ -1,7 +1,7 @@
 //! Replies that are written at the pace at which a client must take them.
 
-use crate::pace::Pace;
 use tko_io::{Clock, IoRuntime, Outlet, Stop, raise};
+use tko_pace::Pace;
 
 /// A client's outlet, which fails where the client takes its replies too slowly.
 #[derive(Drop)]

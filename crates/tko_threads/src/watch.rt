@@ -3,6 +3,7 @@ ghost use Rattle.std.specs.Prelude.{◌≡◌, ◌≢◌, ◌-◌, None, Some};
 ghost use Rattle.tko_threads.specs.Watching.{after_turn, begun, caught_up, resting, turn_at};
 
 use crate::patience::IDLE;
+use tko_pace::is_over;
 
 /// What comes next, where a client's bytes are to be read.
 #[derive(Clone, Copy, Debug, PartialEq, Eq)]
@@ -113,7 +114,7 @@ impl Watch {
     fn turn(&self, now: u64) -> Turn
         ensures { result ≡ turn_at self.now now }
     {
-        if 0 < self.limit && u64::from(self.limit) <= now.saturating_sub(self.since) {
+        if is_over(self.limit, self.since, now) {
             return Turn::Over;
         }
         if now.saturating_sub(self.rounded) < u64::from(IDLE) {

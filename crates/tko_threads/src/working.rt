@@ -12,10 +12,8 @@ ghost use Rattle.tko_reply.specs.Answers.{Reaches};
 ghost use Rattle.tko_prober.specs.Ghosts.{backend_ghosts};
 
 use crate::attended::{Attendance, Attended};
-use crate::leaving::leave;
-use crate::metered::Metered;
 use crate::paced::Paced;
-use crate::{Account, Next, Source, WorkerReport};
+use crate::{Account, Metered, Next, Source, WorkerReport, leave};
 use std::alloc::Global;
 use std::sync::Wait;
 use std::sync::atomic::AtomicU64;
@@ -90,7 +88,12 @@ pub fn worker<R: IoRuntime, C: Source + Drop, S: Seating, L: Links + Drop, M: Cl
     serve_clients(rt, alloc, &mut source, &mut working, &mut account);
     working.settle(rt, &mut account);
     let Working { parts, report, .. } = working;
-    (leave(rt, seating, parts), report)
+    let Parts {
+        backend,
+        trails,
+        ..
+    } = parts;
+    (leave(rt, seating, backend.health, &trails), report)
 }
 
 /// Serves one connection after another, and settles after each, until the source gives none any
