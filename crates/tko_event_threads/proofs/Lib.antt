@@ -1,0 +1,3 @@
+mod AccountLemmas
+mod SeatLemmas
+mod TurnLemmas

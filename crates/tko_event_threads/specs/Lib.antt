@@ -1,0 +1,5 @@
+pub mod Accounting
+pub mod Ends
+pub mod Origins
+pub mod Turns
+pub mod Worked

@@ -1,0 +1,145 @@
+//! What the loop of an event-driven worker calls.
+ghost use Rattle.std.specs.Prelude.{◌≡◌, sum_by};
+ghost use Rattle.tko_io.specs.Io.{capped};
+ghost use Rattle.tko_client.specs.Clients.{talk_of};
+ghost use Rattle.tko_rounds.specs.Workers.{awaits, is_ready, parts_in};
+ghost use Rattle.tko_worker.specs.Counts.{no_ends};
+ghost use Rattle.tko_worker.specs.Workers.{IsInOrder};
+ghost use Rattle.tko_event_threads.specs.Turns.{IsTurnEnd};
+
+use crate::accounted::Accounted;
+use crate::ends::are_any;
+use crate::origin::Opening;
+use std::alloc::Global;
+use std::sync::Wait;
+use tko_bytes::NoMemory;
+use tko_client::{EventClient, Lent};
+use tko_health::Health;
+use tko_io::IoRuntime;
+use tko_loop::Host;
+use tko_port::Port;
+use tko_roster::Visit;
+use tko_rounds::Rounds;
+use tko_worker::{EndCounts, EventWorker};
+
+/// Makes the sessions of a worker's clients, runs its rounds, and counts those that ended.
+#[derive(Drop)]
+pub(crate) struct EventHost<'r, R> {
+    rt: &'r R,
+    rounds: Rounds,
+    /// The clients that could not be taken in since the last turn.
+    refused: u64,
+}
+
+/// What is counted at the end of a turn.
+#[derive(Drop)]
+struct TurnEnd<'r, R> {
+    rt: &'r R,
+    ends: EndCounts,
+    /// Whether memory ran out in the round.
+    ran_out: bool,
+    refused: u64,
+    /// How many probes were sent in all.
+    sent: u64,
+}
+
+impl<'r, R: IoRuntime> EventHost<'r, R> {
+    /// No round was run yet.
+    pub(crate) fn new(rt: &'r R, rounds: Rounds) -> EventHost<'r, R> {
+        EventHost {
+            rt,
+            rounds,
+            refused: 0,
+        }
+    }
+
+    /// How many probes were sent in all; it stays at 2^64 - 1.
+    pub(crate) fn probes(&self) -> u64
+        ensures { result ≡ capped (sum_by (λ count. count) self.now.rounds.counts) }
+    {
+        self.rounds.total()
+    }
+
+    /// Counts the clients that ended since the turn before, and settles the account where there are
+    /// any. Memory ran out in this turn's round, or did not.
+    fn end_turn<'c, 'a, 'm, L: Port + Drop, H: Health, N: Opening, C>(
+        &mut self,
+        worker: &mut EventWorker<L, EventClient, Lent<'c, R, H, Accounted<'a, 'm, N>, C>>,
+        ran_out: bool,
+    )
+        requires order { IsInOrder (awaits, talk_of, L.port) is_ready worker.old.clients }
+        ensures counted { IsTurnEnd worker.old.clients.ends ran_out
+            (capped (sum_by (λ count. count) self.old.rounds.counts))
+            (parts_in worker.old.clients) (parts_in worker.new.clients) }
+        ensures none { worker.new.clients.ends ≡ no_ends }
+        ensures touched { worker.new.clients.touched ≡ worker.old.clients.touched }
+        ensures spent { worker.new.clients.spent ≡ worker.old.clients.spent }
+        ensures peers { worker.new.peers ≡ worker.old.peers }
+        ensures order { IsInOrder (awaits, talk_of, L.port) is_ready worker.new.clients }
+    {
+        let turn = TurnEnd {
+            rt: self.rt,
+            ends: worker.clients.take_ends(),
+            ran_out,
+            refused: self.refused,
+            sent: self.probes(),
+        };
+        self.refused = 0;
+        worker.clients.visit(turn);
+    }
+}
+
+impl<'r, 'c, 'a, 'm, R: IoRuntime, H: Health, N: Opening, C> Visit<
+    Lent<'c, R, H, Accounted<'a, 'm, N>, C>,
+> for TurnEnd<'r, R> {
+    ghost use Rattle.tko_client.specs.Steps.{HasStayed};
+    ghost use Rattle.tko_event_threads.specs.Turns.{IsTurnEnd};
+
+    type Output = ();
+
+    ghost does = { λ turn old it new. IsTurnEnd turn.ends turn.ran_out turn.sent old.parts
+        new.parts };
+
+    ghost stays = { λ old new. HasStayed H.servers old.parts new.parts };
+
+    fn visit(self, lent: &mut Lent<'c, R, H, Accounted<'a, 'm, N>, C>) {
+        let trails = &mut lent.parts.trails;
+        trails.note_short(self.ran_out);
+        trails.count_ends(&self.ends);
+        trails.refuse_clients(self.refused);
+        if are_any(&self.ends) {
+            trails.settle(self.rt, self.sent);
+        }
+    }
+}
+
+impl<'r, 'c, 'a, 'm, R: IoRuntime, H: Health, N: Opening, C: Drop> Host<
+    Lent<'c, R, H, Accounted<'a, 'm, N>, C>,
+    EventClient,
+> for EventHost<'r, R> {
+    ghost use Rattle.tko_event_threads.specs.Turns.{IsHostRound};
+
+    ghost rounds = { λ old moment new. IsHostRound H.Health moment old.parts new.parts };
+
+    fn greet(
+        &mut self,
+        lent: &Lent<'c, R, H, Accounted<'a, 'm, N>, C>,
+    ) -> Result<EventClient, NoMemory> {
+        Ok(EventClient::new(lent.alloc))
+    }
+
+    fn round<L: Port + Drop>(
+        &mut self,
+        alloc: Global,
+        worker: &mut EventWorker<L, EventClient, Lent<'c, R, H, Accounted<'a, 'm, N>, C>>,
+        moment: u64,
+        due: u64,
+    ) {
+        let rounded = self.rounds.run(alloc, worker, moment, due);
+        self.end_turn(worker, rounded.is_err());
+    }
+
+    fn refused(&mut self) {
+        self.refused = self.refused.saturating_add(1);
+    }
+}
