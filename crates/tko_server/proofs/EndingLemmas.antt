@@ -10,7 +10,7 @@ use Rattle.tko_server.specs.Endings.{HasComeTo, ended_by}
 use Rattle.tko_threads.specs.declared.report.WorkerReport.{WorkerReport}
 
 -- accepting ended so, and the workers met this
-pub came_to : (asked : ℕ) (listening : Listening) (entrance : Entrance) (report : Result WorkerReport NoMemory)
+pub came_to : {W : Type 0} (asked : ℕ) (listening : Listening) (entrance : Entrance W) (report : Result WorkerReport NoMemory)
     (ended : AcceptEnd) → HasAccepted asked listening entrance ended
     → HasComeTo asked listening (ended_by report ended listening.accepted)
 came_to asked listening entrance (Ok report) Enough accepted = (accepted.enough refl, refl)

@@ -1,3 +1,4 @@
 mod EndingLemmas
+mod EventMemberLemmas
 mod MemberLemmas
 mod RunLemmas

@@ -1,6 +1,10 @@
 pub mod Announcing
 pub mod Beside
 pub mod Closing
+pub mod Crews
+pub mod Descriptors
 pub mod Endings
+pub mod EventMembers
 pub mod Members
 pub mod Runs
+pub mod Turns

@@ -4,13 +4,17 @@
 //!   `run_to_end` says what the workers met too, and `run_logged` has a `Logging` write the event
 //!   log meanwhile, and `run_metered` has the metrics answered for too. It takes an `Announce`,
 //!   which announces that clients can connect once the `FirstAsks` of all workers are there.
+//! - `run_events`: what `run_metered` does, by event-driven workers.
 //!
-//! The workers are those of tko_threads, and tko_accept hands the clients to them. The crates above
-//! get both from here too.
+//! The workers are those of tko_threads and tko_event_threads, and tko_accept hands the clients to
+//! them. The crates above get the first two from here too.
 #![tactic(auto)]
 
 mod announce;
+mod by_turns;
+mod crew;
 mod ending;
+mod event_members;
 mod logging;
 mod members;
 mod metering;
@@ -25,7 +29,7 @@ mod tracked;
 
 pub use announce::{Announce, AnnounceFault};
 pub use logging::{Logging, run_logged};
-pub use metering::{Metering, run_metered};
+pub use metering::{Metering, run_events, run_metered};
 pub use run_fault::RunFault;
 pub use running::{Ended, Options, Ran, run, run_to_end};
 pub use tko_accept::{Allotment, FirstAsks};

@@ -7,6 +7,7 @@ ghost use Rattle.tko_server.specs.Closing.{HasEnded};
 ghost use Rattle.tko_server.specs.Runs.{tracker_settings};
 
 use crate::announce::Silent;
+use crate::crew::WorkerKind;
 use crate::running::{Ended, Options, run_told};
 use crate::{Announce, RunFault};
 use std::alloc::{AllocError, Global};
@@ -79,13 +80,14 @@ pub fn run_logged<
         ↔ (first_fault (tracker_settings options.now) ≡ Some fault) }
     ensures ended { IfOk result (HasEnded options.now) }
 {
+    let kind = WorkerKind::Blocking;
     let meter = Meter::off();
-    let (_, ended) = run_beside_meter(rt, alloc, listener, options, logging, meter, Silent);
+    let (_, ended) = run_beside_meter(rt, alloc, listener, options, kind, logging, meter, Silent);
     ended
 }
 
-/// The same, where the workers count on this meter, and where it is announced that clients can
-/// connect. Returns the announcement too, as the run left it.
+/// The same by workers of this kind, which count on this meter, and where it is announced that
+/// clients can connect. Returns the announcement too, as the run left it.
 pub(crate) fn run_beside_meter<
     R: IoRuntime<Listener = TcpListener> + Threads + Sync + Copy + Send + 'static + Eprint,
     A: Announce + Drop,
@@ -94,6 +96,7 @@ pub(crate) fn run_beside_meter<
     alloc: Global,
     listener: &TcpListener,
     options: &Options,
+    kind: WorkerKind,
     logging: Option<Logging>,
     meter: Meter,
     announcement: A,
@@ -104,10 +107,21 @@ pub(crate) fn run_beside_meter<
     ensures announced { IsAnnounced A.announces A.fails announcement result.0 result.1 }
 {
     match logging {
-        Some(logging) => run_beside(rt, alloc, listener, options, logging, meter, announcement),
+        Some(logging) => {
+            run_beside(
+                rt,
+                alloc,
+                listener,
+                options,
+                kind,
+                logging,
+                meter,
+                announcement,
+            )
+        }
         None => {
             let log = Log::metered(meter);
-            run_told(rt, alloc, listener, options, Some(&log), announcement)
+            run_told(rt, alloc, listener, options, kind, Some(&log), announcement)
         }
     }
 }
@@ -121,6 +135,7 @@ fn run_and_end<
     alloc: Global,
     listener: &TcpListener,
     options: &Options,
+    kind: WorkerKind,
     log: &Log,
     announcement: A,
 ) -> (A, Result<Ended, RunFault>)
@@ -129,7 +144,7 @@ fn run_and_end<
     ensures ended { IfOk result.1 (HasEnded options.now) }
     ensures announced { IsAnnounced A.announces A.fails announcement result.0 result.1 }
 {
-    let ended = run_told(rt, alloc, listener, options, Some(log), announcement);
+    let ended = run_told(rt, alloc, listener, options, kind, Some(log), announcement);
     log.end(rt);
     ended
 }
@@ -143,6 +158,7 @@ fn run_beside<
     alloc: Global,
     listener: &TcpListener,
     options: &Options,
+    kind: WorkerKind,
     logging: Logging,
     meter: Meter,
     announcement: A,
@@ -168,7 +184,7 @@ fn run_beside<
             ensures ended { IfOk result.1 (HasEnded options.entry.now) }
             ensures announced { IsAnnounced A.announces A.fails announcement
                 result.0 result.1 }
-        { run_and_end(rt, alloc, listener, options, &log, announcement) },
+        { run_and_end(rt, alloc, listener, options, kind, &log, announcement) },
     );
     ended
 }

@@ -7,11 +7,12 @@ ghost use Rattle.tko_threads.specs.Workers.{IsEquipped};
 ghost use Rattle.tko_server.specs.Members.{AreMembersOf, HasOptions};
 
 use crate::Options;
+use crate::crew::WorkerKind;
 use crate::naming::Naming;
 use crossbeam_channel::Receiver;
 use std::alloc::Global;
 use std::sync::Mutex;
-use tko_accept::{Client, Clients, FirstAsk};
+use tko_accept::{Allotment, Client, Clients, FirstAsk};
 use tko_bytes::NoMemory;
 use tko_desk::{Book, Share};
 use tko_events::{Log, WorkerLog};
@@ -32,8 +33,10 @@ pub(crate) struct Shared<'o, N: Named> {
     pub(crate) log: Option<&'o Log>,
     /// Looks up the names of the servers meanwhile.
     pub(crate) naming: Naming,
-    /// How many workers serve clients; the others end at once.
-    pub(crate) workers: u32,
+    pub(crate) kind: WorkerKind,
+    /// How many of the workers serve clients: of blocking ones the others end at once, and of
+    /// event-driven ones no others are started.
+    pub(crate) allotment: Allotment,
 }
 
 /// What one worker of a server is started with.
@@ -88,9 +91,9 @@ impl<'o, N: Named> Shared<'o, N> {
         first_ask: &FirstAsk,
     ) -> Result<Clients, NoMemory>
         ensures { IfOk result (λ source. (number : ℕ) → idle.now.pass.state ≡ Idle number
-            → IsTrue (is_some source.accepted) ↔ (number < self.now.workers)) }
+            → IsTrue (is_some source.accepted) ↔ (number < self.now.allotment.workers)) }
     {
-        let accepted = if idle.number() < self.workers {
+        let accepted = if idle.number() < self.allotment.workers {
             Some(accepted.clone()?)
         } else {
             None

@@ -6,6 +6,7 @@ ghost use Rattle.tko_server.specs.Beside.{IsMeterOf};
 ghost use Rattle.tko_server.specs.Closing.{HasEnded};
 ghost use Rattle.tko_server.specs.Runs.{tracker_settings};
 
+use crate::crew::WorkerKind;
 use crate::logging::run_beside_meter;
 use crate::running::{Ended, Options};
 use crate::{Announce, Logging, RunFault};
@@ -63,6 +64,69 @@ pub fn run_metered<
     ensures ended { IfOk result.1 (HasEnded options.now) }
     ensures announced { IsAnnounced A.announces A.fails announcement result.0 result.1 }
 {
+    let kind = WorkerKind::Blocking;
+    run_by(
+        rt,
+        alloc,
+        listener,
+        options,
+        kind,
+        logging,
+        metering,
+        announcement,
+    )
+}
+
+/// The same by event-driven workers, each of which serves many clients at once.
+pub fn run_events<
+    R: IoRuntime<Listener = TcpListener> + Threads + Sync + Copy + Send + 'static + Eprint,
+    A: Announce + Drop,
+>(
+    rt: &R,
+    alloc: Global,
+    listener: &TcpListener,
+    options: &Options,
+    logging: Option<Logging>,
+    metering: Option<Metering>,
+    announcement: A,
+) -> (A, Result<Ended, RunFault>)
+    ensures settings { (fault : SettingsFault) → (result.1 ≡ Err (RunFault.Settings fault))
+        ↔ (first_fault (tracker_settings options.now) ≡ Some fault) }
+    ensures ended { IfOk result.1 (HasEnded options.now) }
+    ensures announced { IsAnnounced A.announces A.fails announcement result.0 result.1 }
+{
+    let kind = WorkerKind::Events;
+    run_by(
+        rt,
+        alloc,
+        listener,
+        options,
+        kind,
+        logging,
+        metering,
+        announcement,
+    )
+}
+
+/// The same by workers of this kind.
+fn run_by<
+    R: IoRuntime<Listener = TcpListener> + Threads + Sync + Copy + Send + 'static + Eprint,
+    A: Announce + Drop,
+>(
+    rt: &R,
+    alloc: Global,
+    listener: &TcpListener,
+    options: &Options,
+    kind: WorkerKind,
+    logging: Option<Logging>,
+    metering: Option<Metering>,
+    announcement: A,
+) -> (A, Result<Ended, RunFault>)
+    ensures settings { (fault : SettingsFault) → (result.1 ≡ Err (RunFault.Settings fault))
+        ↔ (first_fault (tracker_settings options.now) ≡ Some fault) }
+    ensures ended { IfOk result.1 (HasEnded options.now) }
+    ensures announced { IsAnnounced A.announces A.fails announcement result.0 result.1 }
+{
     match metering {
         Some(metering) => {
             run_beside(
@@ -70,6 +134,7 @@ pub fn run_metered<
                 alloc,
                 listener,
                 options,
+                kind,
                 logging,
                 metering,
                 announcement,
@@ -77,7 +142,16 @@ pub fn run_metered<
         }
         None => {
             let meter = Meter::off();
-            run_beside_meter(rt, alloc, listener, options, logging, meter, announcement)
+            run_beside_meter(
+                rt,
+                alloc,
+                listener,
+                options,
+                kind,
+                logging,
+                meter,
+                announcement,
+            )
         }
     }
 }
@@ -91,6 +165,7 @@ fn run_beside<
     alloc: Global,
     listener: &TcpListener,
     options: &Options,
+    kind: WorkerKind,
     logging: Option<Logging>,
     metering: Metering,
     announcement: A,
@@ -117,6 +192,7 @@ fn run_beside<
                 alloc,
                 listener,
                 options,
+                kind,
                 logging,
                 meter,
                 &scrapes,
@@ -136,6 +212,7 @@ fn run_and_end<
     alloc: Global,
     listener: &TcpListener,
     options: &Options,
+    kind: WorkerKind,
     logging: Option<Logging>,
     meter: Meter,
     scrapes: &Scrapes,
@@ -146,7 +223,16 @@ fn run_and_end<
     ensures ended { IfOk result.1 (HasEnded options.now) }
     ensures announced { IsAnnounced A.announces A.fails announcement result.0 result.1 }
 {
-    let ended = run_beside_meter(rt, alloc, listener, options, logging, meter, announcement);
+    let ended = run_beside_meter(
+        rt,
+        alloc,
+        listener,
+        options,
+        kind,
+        logging,
+        meter,
+        announcement,
+    );
     scrapes.end();
     ended
 }

@@ -1,11 +1,13 @@
 //! The server over TCP.
-ghost use Rattle.std.specs.Prelude.{◌≡◌, ◌↔◌, Err, IfOk, Some};
+ghost use Rattle.std.specs.Prelude.{◌≡◌, ◌<◌, ◌-◌, ◌^◌, ◌↔◌, Err, IfOk, MatchOption, Some, unwrap_or};
 ghost use Rattle.tko_model.specs.Ranges.{first_fault};
 ghost use Rattle.tko_server.specs.Announcing.{IsAnnounced};
 ghost use Rattle.tko_server.specs.Closing.{HasEnded};
+ghost use Rattle.tko_server.specs.Descriptors.{IsEventAllotment, IsThreadAllotment, clients_asked};
 ghost use Rattle.tko_server.specs.Runs.{tracker_settings};
 
 use crate::announce::Silent;
+use crate::crew::WorkerKind;
 use crate::opening::opened;
 use crate::tracked::run_with;
 use crate::{Announce, RunFault};
@@ -37,6 +39,8 @@ pub struct Options {
     pub patience: Patience,
     /// How many files the process may have open, where that is known.
     pub open_files: Option<u64>,
+    /// How many clients event-driven workers have at most; `None` is what the descriptors allow.
+    pub clients: Option<u64>,
     /// How many connections are accepted; 0 is no limit.
     pub connections: u64,
 }
@@ -64,9 +68,36 @@ pub struct Ended {
 
 impl Options {
     /// What the process has descriptors for.
-    pub fn allotment(&self) -> Allotment {
+    pub fn allotment(&self) -> Allotment
+        ensures { IsThreadAllotment self.now result }
+    {
         let threads = self.settings.threads.max(1);
         Allotment::of(self.open_files, threads, self.config.servers())
+    }
+
+    /// The same of event-driven workers.
+    pub fn event_allotment(&self) -> Allotment
+        ensures { IsEventAllotment self.now result }
+    {
+        let threads = self.settings.threads.max(1);
+        let servers = self.config.servers();
+        Allotment::of_events(
+            self.open_files,
+            threads,
+            servers,
+            at_least_one(self.clients),
+        )
+    }
+}
+
+/// How many clients may be connected, but one in any case.
+fn at_least_one(clients: Option<u64>) -> Option<u64>
+    ensures some { MatchOption result (Unit {0}) (λ count. 0 < count) }
+    ensures asked { unwrap_or result (2 ^ 32 - 1) ≡ clients_asked clients }
+{
+    match clients {
+        Some(count) => Some(count.max(1)),
+        None => None,
     }
 }
 
@@ -98,12 +129,13 @@ pub fn run_to_end<R: IoRuntime<Listener = TcpListener> + Threads + Sync + Copy +
         ↔ (first_fault (tracker_settings options.now) ≡ Some fault) }
     ensures ended { IfOk result (HasEnded options.now) }
 {
-    let (_, ended) = run_told(rt, alloc, listener, options, None, Silent);
+    let kind = WorkerKind::Blocking;
+    let (_, ended) = run_told(rt, alloc, listener, options, kind, None, Silent);
     ended
 }
 
-/// The same, where the workers tell the log what happens, if there is one, and where it is
-/// announced that clients can connect. Returns the announcement too, as the run left it.
+/// The same by workers of this kind, which tell the log what happens, if there is one, and where it
+/// is announced that clients can connect. Returns the announcement too, as the run left it.
 pub(crate) fn run_told<
     R: IoRuntime<Listener = TcpListener> + Threads + Sync + Copy + Send + 'static,
     A: Announce + Drop,
@@ -112,6 +144,7 @@ pub(crate) fn run_told<
     alloc: Global,
     listener: &TcpListener,
     options: &Options,
+    kind: WorkerKind,
     log: Option<&Log>,
     announcement: A,
 ) -> (A, Result<Ended, RunFault>)
@@ -129,6 +162,7 @@ pub(crate) fn run_told<
         alloc,
         listener,
         options,
+        kind,
         log,
         tracker,
         passes,

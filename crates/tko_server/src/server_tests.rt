@@ -1,6 +1,7 @@
 //! The server over loopback.
 
-use crate::{Options, Patience, RunFault, run};
+use crate::announce::Silent;
+use crate::{Options, Patience, RunFault, WorkerReport, run, run_events};
 use std::alloc::Global;
 use std::io::{Read, Write};
 use std::net::{Ipv4Addr, Net, SocketAddr, TcpListener, TcpStream};
@@ -50,6 +51,29 @@ fn serve<
     run(rt, alloc, listener, options)
 }
 
+/// `run_events` with no log and no metrics, with its bounds written out. Returns the totals, and
+/// what the workers met.
+fn serve_events<
+    R: Wait
+        + Net<Stream = TcpStream, Listener = TcpListener>
+        + Clock
+        + Threads
+        + Sync
+        + Copy
+        + Send
+        + Eprint
+        + 'static,
+>(
+    rt: &R,
+    alloc: Global,
+    listener: &TcpListener,
+    options: &Options,
+) -> Result<(Totals, WorkerReport), RunFault> {
+    let (_, ended) = run_events(rt, alloc, listener, options, None, None, Silent);
+    let ended = ended?;
+    Ok((ended.totals, ended.report))
+}
+
 /// What a client reads that sends this.
 fn ask<R: Net<Stream = TcpStream>>(
     rt: &R,
@@ -77,6 +101,7 @@ fn options(alloc: Global, port: u16) -> Result<Options, Fail> {
         timeout: 1_000,
         patience: PATIENCE,
         open_files: None,
+        clients: None,
         connections: 2,
     })
 }
@@ -98,6 +123,28 @@ fn totals_of_two_connections(rt: HostRuntime) -> Result<(), Fail> {
     assert_eq!(rt; read.1?.as_slice(), SERVER_ERROR);
     let counts = totals.map_err(|_| "run")?.counts;
     assert_eq!(rt; Kind::ALL.map(|kind| counts.of(kind)), [4, 1, 1, 0, 2, 0]);
+    Ok(())
+}
+
+/// The same by an event-driven worker, whose sessions end well.
+#[test]
+fn totals_by_event_driven_workers(rt: HostRuntime) -> Result<(), Fail> {
+    let alloc = rt.alloc();
+    let listener = listen(&rt)?;
+    let address = listener.local_addr()?;
+    let options = options(alloc, listen(&rt)?.local_addr()?.port())?;
+    let ask = || ask(&rt, alloc, address, b"get a\r\nquit\r\n");
+    let (ended, read) = thread::join(
+        &rt,
+        || serve_events(&rt, alloc, &listener, &options),
+        || (ask(), ask()),
+    );
+    assert_eq!(rt; read.0?.as_slice(), SERVER_ERROR);
+    assert_eq!(rt; read.1?.as_slice(), SERVER_ERROR);
+    let (totals, report) = ended.map_err(|_| "run")?;
+    let counts = totals.counts;
+    assert_eq!(rt; Kind::ALL.map(|kind| counts.of(kind)), [4, 1, 1, 0, 2, 0]);
+    assert_eq!(rt; (report.sessions, report.faults), (2, 0));
     Ok(())
 }
 

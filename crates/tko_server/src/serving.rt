@@ -1,20 +1,25 @@
 //! A server whose workers are on threads, and the thread that accepts for them.
 ghost use Rattle.std.specs.Prelude.{◌≡◌, IfErr, IfOk, false, length, true};
 ghost use Rattle.tko_server.specs.Announcing.{IsAnnounced};
+ghost use Rattle.tko_server.specs.Crews.{IsCrewOf};
+ghost use Rattle.tko_server.specs.EventMembers.{AreEventReadyAt};
+ghost use Rattle.tko_server.specs.Members.{AreReadyAt};
 ghost use Rattle.tko_server.specs.Endings.{HasComeTo, IsEnough};
 ghost use Rattle.tko_server.specs.Runs.{IsAfterOpening, tracker_settings};
-ghost use Rattle.tko_server.specs.Members.{AreReadyAt};
 
+use crate::crew::Crew;
 use crate::ending::{Served, ended_by};
 use crate::members::Shared;
 use crate::starting::{Start, start_of};
-use crate::threads::{WorkerThread, join_all, start_all};
-use crate::{Announce, RunFault};
+use crate::threads::{WorkerThread, join_all, start_all, start_events};
+use crate::{Announce, Options, RunFault};
 use std::alloc::Global;
 use std::net::TcpListener;
+use std::sync::Arc;
 use std::thread;
 use std::thread::Threads;
-use tko_accept::{Entrance, FirstAsks, Listening, accept_all};
+use tko_accept::{Entrance, FirstAsks, Listening, Room, Way, accept_all};
+use tko_bytes::NoMemory;
 use tko_desk::{Desk, Share};
 use tko_events::{Log, What};
 use tko_io::IoRuntime;
@@ -64,83 +69,90 @@ fn serve_from<
     start: Start<'_, '_, N>,
     announcement: A,
 ) -> (A, Result<Served, RunFault>)
-    requires { AreReadyAt N.tracker start.members.items }
+    requires { IsCrewOf start.crew (λ members. AreReadyAt N.tracker members.items)
+        (λ members. AreEventReadyAt N.tracker members.items) }
     ensures enough { IfOk result.1 (λ served.
         IsEnough shared.now.options.now.connections served.accepted) }
     ensures fault { IfErr result.1 IsAfterOpening }
     ensures announced { IsAnnounced A.announces A.fails announcement result.0 result.1 }
 {
     let Start {
-        members,
-        clients,
+        crew,
         first_asks,
         room,
         log,
     } = start;
     let options = shared.options;
+    let front = Front {
+        first_asks,
+        room,
+        log,
+    };
     thread::scope(
         thread::scope_env(),
         rt,
         move |scope| -> (A, Result<Served, RunFault>)
-            requires { AreReadyAt N.tracker members.items }
+            requires { IsCrewOf crew (λ members. AreReadyAt N.tracker members.items)
+                (λ members. AreEventReadyAt N.tracker members.items) }
             ensures enough { IfOk result.1 (λ served.
                 IsEnough options.entry.now.connections served.accepted) }
             ensures fault { IfErr result.1 IsAfterOpening }
             ensures announced { IsAnnounced A.announces A.fails announcement
                 result.0 result.1 }
         {
-            let Ok((threads, clients)) = start_all(scope, rt, alloc, desk, members, clients) else {
-                return (announcement, Err(RunFault::Memory));
-            };
-            let workers = Workers {
-                threads,
-                first_asks,
-            };
-            let entrance = Entrance::new(room, clients, options.patience, log);
-            workers.serve(
-                rt,
-                alloc,
-                listener,
-                entrance,
-                options.connections,
-                announcement,
-            )
+            match crew {
+                Crew::Blocking(members, way) => {
+                    let started = start_all(scope, rt, alloc, desk, members, way);
+                    front.serve(rt, alloc, listener, options, started, announcement)
+                }
+                Crew::Events(members, way) => {
+                    let started = start_events(scope, rt, alloc, desk, members, way);
+                    front.serve(rt, alloc, listener, options, started, announcement)
+                }
+            }
         },
     )
 }
 
-/// Workers on threads of their own.
+/// What the thread that accepts has beside the workers.
 #[derive(Drop)]
-struct Workers {
-    threads: Vec<WorkerThread>,
+struct Front {
     first_asks: FirstAsks,
+    room: Arc<Room, Global>,
+    log: Log,
 }
 
-impl Workers {
-    /// Accepts clients for them, once each has asked for its first one and that was announced.
-    /// Returns the announcement, and what they met.
-    fn serve<R: IoRuntime + Threads, A: Announce + Drop>(
+impl Front {
+    /// Accepts clients for these workers, which get them by this way, once each has asked for its
+    /// first one and that was announced. Returns the announcement, and what they met.
+    fn serve<R: IoRuntime + Threads, W: Way + Drop, A: Announce + Drop>(
         self,
         rt: &R,
         alloc: Global,
         listener: &TcpListener,
-        entrance: Entrance,
-        connections: u64,
+        options: &Options,
+        started: Result<(Vec<WorkerThread>, W), NoMemory>,
         mut announcement: A,
     ) -> (A, Result<Served, RunFault>)
-        requires { entrance.has_worker ≡ true }
-        ensures enough { IfOk result.1 (λ served. IsEnough connections served.accepted) }
+        ensures enough { IfOk result.1 (λ served.
+            IsEnough options.now.connections served.accepted) }
         ensures fault { IfErr result.1 IsAfterOpening }
         ensures announced { IsAnnounced A.announces A.fails announcement result.0 result.1 }
     {
-        let Workers {
-            threads,
+        let Front {
             first_asks,
+            room,
+            log,
         } = self;
-        if let Err(fault) = begin(rt, first_asks, &entrance.log, &mut announcement) {
+        let Ok((threads, way)) = started else {
+            return (announcement, Err(RunFault::Memory));
+        };
+        if let Err(fault) = begin(rt, first_asks, &log, &mut announcement) {
             return (announcement, Err(fault));
         }
         let mut listening = Listening::new(listener);
+        let entrance = Entrance::new(room, way, options.patience, log);
+        let connections = options.connections;
         let served = accept_for(rt, alloc, threads, &mut listening, entrance, connections);
         (announcement, served)
     }
@@ -148,12 +160,12 @@ impl Workers {
 
 /// Accepts clients for the workers on these threads, and waits for the workers to end.
 #[tactic(auto, using(crate::proofs::EndingLemmas::came_to))]
-fn accept_for<R: IoRuntime + Threads>(
+fn accept_for<R: IoRuntime + Threads, W: Way + Drop>(
     rt: &R,
     alloc: Global,
     threads: Vec<WorkerThread>,
     listening: &mut Listening<'_>,
-    mut entrance: Entrance,
+    mut entrance: Entrance<W>,
     connections: u64,
 ) -> Result<Served, RunFault>
     requires none { listening.old.accepted ≡ 0 }

@@ -1,15 +1,18 @@
 //! The threads of a server's workers.
 ghost use Rattle.std.specs.Prelude.{IfOk};
+ghost use Rattle.tko_server.specs.EventMembers.{AreEventReadyAt, IsEventReadyAt};
 ghost use Rattle.tko_server.specs.Members.{AreReadyAt, IsReadyAt};
 
+use crate::by_turns::ByTurns;
+use crate::event_members::{EventMember, ServerEventMember};
 use crate::members::ServerMember;
-use crossbeam_channel::Sender;
 use std::alloc::Global;
 use std::net::TcpListener;
 use std::thread::{JoinHandle, Scope, Threads};
-use tko_accept::Client;
+use tko_accept::OneQueue;
 use tko_bytes::NoMemory;
 use tko_desk::Desk;
+use tko_event_threads::event_worker;
 use tko_io::IoRuntime;
 use tko_threads::{WorkerReport, work};
 use tko_tracker::Named;
@@ -32,12 +35,12 @@ pub(crate) fn start_all<
     alloc: Global,
     desk: &'e Desk<N>,
     members: Vec<ServerMember<'e, 'o, N>>,
-    clients: Sender<Client>,
-) -> Result<(Vec<WorkerThread>, Sender<Client>), NoMemory>
+    way: OneQueue,
+) -> Result<(Vec<WorkerThread>, OneQueue), NoMemory>
     requires { AreReadyAt N.tracker members.items }
 {
     let mut threads = Vec::with_capacity(alloc, members.len())?;
-    let mut clients = Some(clients);
+    let mut way = Some(way);
     for member in members {
         let alone = pool_of(alloc, member)?;
         let works = move || -> Result<WorkerReport, NoMemory>
@@ -46,16 +49,73 @@ pub(crate) fn start_all<
         match scope.spawn(works) {
             Ok(thread) => threads.push(thread)?,
             Err(refused) => {
-                clients = None;
+                way = None;
                 let work_here = refused.value;
                 work_here()?;
             }
         }
     }
-    match clients {
-        Some(clients) => Ok((threads, clients)),
+    match way {
+        Some(way) => Ok((threads, way)),
         None => Err(NoMemory),
     }
+}
+
+/// Runs each of these event-driven workers on a thread that is made for it. Where a thread cannot
+/// be made it is as with the others.
+pub(crate) fn start_events<
+    's,
+    'e: 's,
+    'o: 'e,
+    R: IoRuntime<Listener = TcpListener> + Threads + Sync,
+    N: Named + Send + Sync,
+>(
+    scope: &Scope<'s, &'e ()>,
+    rt: &'e R,
+    alloc: Global,
+    desk: &'e Desk<N>,
+    members: Vec<ServerEventMember<'e, 'o, N>>,
+    way: ByTurns,
+) -> Result<(Vec<WorkerThread>, ByTurns), NoMemory>
+    requires { AreEventReadyAt N.tracker members.items }
+{
+    let mut threads = Vec::with_capacity(alloc, members.len())?;
+    let mut way = Some(way);
+    for member in members {
+        let works = move || -> Result<WorkerReport, NoMemory>
+            requires { IsEventReadyAt N.tracker member }
+        { work_events(rt, alloc, desk, member) };
+        match scope.spawn(works) {
+            Ok(thread) => threads.push(thread)?,
+            Err(refused) => {
+                way = None;
+                let work_here = refused.value;
+                work_here()?;
+            }
+        }
+    }
+    match way {
+        Some(way) => Ok((threads, way)),
+        None => Err(NoMemory),
+    }
+}
+
+/// Runs an event-driven worker, and gives its pass back to the desk. A desk that is full drops the
+/// pass, as with the others.
+fn work_events<R: IoRuntime, N: Named>(
+    rt: &R,
+    alloc: Global,
+    desk: &Desk<N>,
+    member: ServerEventMember<'_, '_, N>,
+) -> Result<WorkerReport, NoMemory>
+    requires { IsEventReadyAt N.tracker member }
+{
+    let EventMember { idle, parts } = member;
+    let (idle, report) = event_worker(rt, alloc, idle, parts);
+    if desk.give(rt, idle).is_err() {
+        return Err(NoMemory);
+    }
+    Ok(report)
 }
 
 /// A pool of one member.

@@ -6,6 +6,7 @@ ghost use Rattle.tko_server.specs.Closing.{HasFailed, HasRun, IsClosed, unclosed
 ghost use Rattle.tko_server.specs.Endings.{IsEnough};
 ghost use Rattle.tko_server.specs.Runs.{IsAfterOpening, tracker_settings};
 
+use crate::crew::WorkerKind;
 use crate::ending::Served;
 use crate::members::Shared;
 use crate::naming::Naming;
@@ -43,6 +44,7 @@ pub(crate) fn run_with<
     alloc: Global,
     listener: &TcpListener,
     options: &Options,
+    kind: WorkerKind,
     log: Option<&Log>,
     tracker: Tracker,
     passes: Vec<IdlePass>,
@@ -65,6 +67,7 @@ pub(crate) fn run_with<
         alloc,
         listener,
         options,
+        kind,
         log,
         &tracker,
         &desk,
@@ -119,6 +122,7 @@ fn serve_over<
     alloc: Global,
     listener: &TcpListener,
     options: &'o Options,
+    kind: WorkerKind,
     log: Option<&'o Log>,
     tracker: &'o Tracker,
     desk: &Desk<N>,
@@ -132,7 +136,8 @@ fn serve_over<
     ensures fault { IfErr result.1 IsAfterOpening }
     ensures announced { IsAnnounced A.announces A.fails announcement result.0 result.1 }
 {
-    let Ok((shared, mut shares)) = shared_by_all::<N, R>(rt, alloc, options, log, tracker) else {
+    let Ok((shared, mut shares)) = shared_by_all::<N, R>(rt, alloc, options, kind, log, tracker)
+    else {
         return (announcement, Err(RunFault::Memory));
     };
     let (announcement, served) = serve_all(
@@ -173,6 +178,7 @@ fn shared_by_all<
     rt: &R,
     alloc: Global,
     options: &'o Options,
+    kind: WorkerKind,
     log: Option<&'o Log>,
     tracker: &'o Tracker,
 ) -> Result<(Shared<'o, N>, Vec<Share>), NoMemory>
@@ -189,7 +195,8 @@ fn shared_by_all<
         book: Mutex::new(book),
         log,
         naming,
-        workers: options.allotment().workers,
+        kind,
+        allotment: kind.allotment(options),
     };
     Ok((shared, shares))
 }
