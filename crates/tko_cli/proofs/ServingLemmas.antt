@@ -16,7 +16,7 @@ use Rattle.tko_cli.specs.Announcements.{HasNotPrinted, HasPrinted, ready_text}
 use Rattle.tko_cli.specs.Serving.{HasFailed, HasNoListener, HasNoMetrics, HasPlan, IsExplained, IsNamed, IsRunnable, IsUnprepared, NotReady, NotWritten, PreparedFails, Ready, ServeFails, TotalsFail, fault_of_server}
 use Rattle.tko_cli.specs.declared.announcement.Announcement.{Announcement}
 use Rattle.tko_cli.specs.declared.planned.Plan.{Plan}
-use Rattle.tko_cli.specs.declared.serving.Prepared.{Prepared}
+use Rattle.tko_cli.specs.declared.prepared.Prepared.{Prepared}
 use Rattle.tko_options.specs.declared.serve_options.ServeOptions.{ServeOptions}
 
 -- what holds in any case, where it is Ok

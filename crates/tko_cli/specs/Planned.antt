@@ -43,8 +43,8 @@ pub record IsPlanned (options : ServeOptions) (plan : Plan) : Type 0 where
   pub greatest : plan.delays.greatest ≡ options.greatest_delay
   pub listen : is_address (string_bytes options.listen) ≡ true
 
--- a server of this plan, with the time limits and the number of connections that the options name,
--- in a process that may have `allowed` files open
+-- a server of this plan, with the time limits, the limit of clients and the number of connections
+-- that the options name, in a process that may have `allowed` files open
 pub record IsServerOf (plan : Plan) (options : ServeOptions) (allowed : Option ℕ)
     (server : Server) : Type 0 where
   pub config : server.config ≡ plan.config
@@ -53,6 +53,7 @@ pub record IsServerOf (plan : Plan) (options : ServeOptions) (allowed : Option �
   pub timeout : server.timeout ≡ options.timeout
   pub patience : server.patience ≡ serve_patience options
   pub open_files : server.open_files ≡ allowed
+  pub clients : server.clients ≡ options.clients
   pub connections : server.connections ≡ options.connections
 
 -- this is what is wrong with the JSON

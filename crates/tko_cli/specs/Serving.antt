@@ -9,7 +9,7 @@ use Rattle.tko_commands.specs.declared.fault.Fault.TheVariants as fault
 use Rattle.tko_commands.specs.declared.listen_fault.ListenFault.{ListenFault}
 use Rattle.tko_commands.specs.declared.listen_fault.ListenFault.TheVariants as listen_fault
 use Rattle.tko_cli.specs.declared.planned.Plan.{Plan}
-use Rattle.tko_cli.specs.declared.serving.Prepared.{Prepared}
+use Rattle.tko_cli.specs.declared.prepared.Prepared.{Prepared}
 use Rattle.tko_model.specs.Ranges.{IsWithinRanges}
 use Rattle.tko_server.specs.Beside.{IsLogOf, IsMeterOf}
 use Rattle.tko_server.specs.Closing.{HasEnded}
@@ -32,9 +32,10 @@ pub record IsNamed (options : ServeOptions) (server : Server) : Type 0 where
   pub open_files : Option ℕ
   pub of_plan : IsServerOf plan options open_files server
 
--- what is to run beside the server: an event log and metrics, each exactly where the options ask
--- for it, and of this server
+-- how the server serves, and what is to run beside it: an event log and metrics, each exactly where
+-- the options ask for it, and of this server
 pub record HasBeside (options : ServeOptions) (prepared : Prepared) : Type 0 where
+  pub mode : prepared.mode ≡ options.mode
   pub logs : is_some prepared.logging ≡ bytes_eq (string_bytes options.log) (codes "stderr")
   pub log_of : IfSome prepared.logging (IsLogOf (string_bytes options.listen) prepared.server)
   pub meters : is_some prepared.metering ≡ is_some options.metrics

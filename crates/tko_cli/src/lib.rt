@@ -10,6 +10,7 @@ mod announcement;
 mod notice;
 mod open_files;
 mod planned;
+mod prepared;
 mod program;
 mod serving;
 mod totals;

@@ -30,6 +30,7 @@ impl Plan {
             timeout: options.timeout,
             patience: patience_of(options),
             open_files,
+            clients: options.clients,
             connections: options.connections,
         }
     }

@@ -1,37 +1,29 @@
 //! The command `serve`: a server over TCP, and its totals.
-ghost use Rattle.std.specs.Prelude.{◌≡◌, IfOk, IfSome, OnOk, IfErr, OnErr, bytes_eq, codes, is_some, string_bytes};
+ghost use Rattle.std.specs.Prelude.{◌≡◌, ◌↔◌, Err, Some, IfErr, IfOk, OnErr, OnOk};
 ghost use Rattle.tko_cli.specs.Announcements.{IsReadyWritten};
 ghost use Rattle.tko_cli.specs.Notices.{HasNotices};
-ghost use Rattle.tko_cli.specs.Serving.{HasBeside, HasNoListener, HasNoMetrics, HasServed, HasTotals, IsExplained, IsNamed, IsRunnable, IsSilentOrNoted, IsUnprepared, PreparedFails, ServeFails, TotalsFail, fault_of_server};
+ghost use Rattle.tko_cli.specs.Serving.{HasServed, HasTotals, IsExplained, IsRunnable, IsSilentOrNoted, PreparedFails, ServeFails, TotalsFail, fault_of_server};
 ghost use Rattle.tko_cli.specs.Totals.{totals_text};
-ghost use Rattle.tko_server.specs.Beside.{IsLogOf, IsMeterOf};
+ghost use Rattle.tko_model.specs.Ranges.{first_fault};
+ghost use Rattle.tko_server.specs.Announcing.{IsAnnounced};
 ghost use Rattle.tko_server.specs.Closing.{HasEnded};
+ghost use Rattle.tko_server.specs.Runs.{tracker_settings};
 
 use crate::announcement::{Announcement, give_back};
 use crate::notice::{Notice, write_notice, write_notice_if};
-use crate::open_files::{has_no_memory_limit, open_file_limit};
-use crate::planned::plan_of;
+use crate::open_files::has_no_memory_limit;
+use crate::prepared::{Prepared, prepare};
 use crate::totals::totals_lines;
-use std::alloc::{AllocError, Global};
+use std::alloc::Global;
 use std::fs::{File, Files};
 use std::net::TcpListener;
 use std::thread::Threads;
-use tko_commands::{Fault, ListenFault, write_text};
+use tko_commands::{Fault, write_text};
 use tko_desk::Totals;
 use tko_io::{IoRuntime, Outlet};
-use tko_metrics::Process;
-use tko_options::ServeOptions;
-use tko_pools::is_address;
-use tko_server::{Ended, Logging, Metering, RunFault, WorkerReport, run_metered};
-
-/// A server that is ready to run, with its listener.
-#[derive(Drop)]
-pub(crate) struct Prepared {
-    pub server: tko_server::Options,
-    listener: TcpListener,
-    logging: Option<Logging>,
-    metering: Option<Metering>,
-}
+use tko_model::SettingsFault;
+use tko_options::{Mode, ServeOptions};
+use tko_server::{Announce, Ended, RunFault, WorkerReport, run_events, run_metered};
 
 /// Serves clients over TCP until the last of the connections has ended, and then prints the totals.
 /// `ready` is printed once clients can connect: when each worker has asked for its first one.
@@ -67,30 +59,6 @@ pub(crate) fn serve<
     run_prepared(rt, alloc, prepared, output, faults)
 }
 
-/// What the options name, with a listener for its clients, and with the event log and the metrics
-/// that the options ask for.
-fn prepare<R: IoRuntime<Listener = TcpListener> + Files<File = File>>(
-    rt: &R,
-    alloc: Global,
-    options: &ServeOptions,
-) -> Result<Prepared, Fault>
-    ensures ok { IfOk result (λ prepared. IsNamed options.now prepared.server) }
-    ensures beside { IfOk result (HasBeside options.now) }
-    ensures err { IfErr result (IsUnprepared options.now) }
-{
-    let plan = plan_of(alloc, options)?;
-    let server = plan.server(options, open_file_limit(rt, alloc));
-    let logging = logging_of(rt, alloc, options, &server)?;
-    let listener = listener_of(rt, alloc, options.listen.as_str())?;
-    let metering = metering_of(rt, alloc, options, &server)?;
-    Ok(Prepared {
-        server,
-        listener,
-        logging,
-        metering,
-    })
-}
-
 /// Runs the server to its end, with `ready` before and the totals after it.
 fn run_prepared<
     R: IoRuntime<Listener = TcpListener>
@@ -109,7 +77,7 @@ fn run_prepared<
     ensures err { IfErr result (PreparedFails O.takes O.failures output.old output.new) }
     ensures noted { HasNotices F.takes F.failures faults.old faults.new }
 {
-    note_descriptors(rt, alloc, faults, &prepared.server);
+    note_descriptors(rt, alloc, faults, prepared.mode, &prepared.server);
     match run_announced(rt, alloc, prepared, output) {
         Ok(ended) => {
             report(rt, alloc, faults, &ended.report);
@@ -130,25 +98,54 @@ fn run_announced<
     ensures err { IfErr result (λ cause.
         PreparedFails O.takes O.failures output.old output.new (fault_of_server cause)) }
 {
+    let announcement = Announcement { output };
+    let (announcement, ended) = run_in_mode(rt, alloc, prepared, announcement);
+    let Announcement { output } = announcement;
+    give_back(output);
+    ended
+}
+
+/// Runs the server to its end, by the workers of its mode.
+fn run_in_mode<
+    R: IoRuntime<Listener = TcpListener> + Threads + Sync + Copy + Send + 'static + Eprint,
+    A: Announce + Drop,
+>(rt: &R, alloc: Global, prepared: Prepared, announcement: A) -> (A, Result<Ended, RunFault>)
+    ensures settings { (fault : SettingsFault) → (result.1 ≡ Err (RunFault.Settings fault))
+        ↔ (first_fault (tracker_settings prepared.server) ≡ Some fault) }
+    ensures ended { IfOk result.1 (HasEnded prepared.server) }
+    ensures announced { IsAnnounced A.announces A.fails announcement result.0 result.1 }
+{
     let Prepared {
+        mode,
         server,
         listener,
         logging,
         metering,
     } = prepared;
-    let announcement = Announcement { output };
-    let (announcement, ended) = run_metered(
-        rt,
-        alloc,
-        &listener,
-        &server,
-        logging,
-        metering,
-        announcement,
-    );
-    let Announcement { output } = announcement;
-    give_back(output);
-    ended
+    match mode {
+        Mode::Threads => {
+            run_metered(
+                rt,
+                alloc,
+                &listener,
+                &server,
+                logging,
+                metering,
+                announcement,
+            )
+        }
+        Mode::Events => {
+            run_events(
+                rt,
+                alloc,
+                &listener,
+                &server,
+                logging,
+                metering,
+                announcement,
+            )
+        }
+    }
 }
 
 /// Writes a line for each kind of total.
@@ -178,85 +175,23 @@ fn fault_of_server(cause: RunFault) -> Fault
     }
 }
 
-/// A listener at this address, or what the system says against it.
-fn listener_of<R: IoRuntime<Listener = TcpListener>>(
-    rt: &R,
-    alloc: Global,
-    address: &str,
-) -> Result<TcpListener, Fault>
-    ensures { IfErr result HasNoListener }
-{
-    match TcpListener::bind(rt, address) {
-        Ok(listener) => Ok(listener),
-        Err(error) => {
-            let words = format!(in alloc; "{error}")?;
-            Err(Fault::Listen(ListenFault::System(words)))
-        }
-    }
-}
-
-/// The event log of this server that the options ask for, if they do. Its lines go to the standard
-/// error of the runtime, and not to the outlet of the faults.
-fn logging_of<R: IoRuntime>(
-    rt: &R,
-    alloc: Global,
-    options: &ServeOptions,
-    server: &tko_server::Options,
-) -> Result<Option<Logging>, AllocError>
-    ensures asked { IfOk result (λ logging.
-        is_some logging ≡ bytes_eq (string_bytes options.now.log) (codes "stderr")) }
-    ensures of { IfOk result (λ logging.
-        IfSome logging (IsLogOf (string_bytes options.now.listen) server.now)) }
-{
-    if !options.has_log() {
-        return Ok(None);
-    }
-    let logging = Logging::start(rt, alloc, options.listen.as_str(), server)?;
-    Ok(Some(logging))
-}
-
-/// The metrics of this server that the options ask for, if they do.
-fn metering_of<R: IoRuntime<Listener = TcpListener> + Files<File = File>>(
-    rt: &R,
-    alloc: Global,
-    options: &ServeOptions,
-    server: &tko_server::Options,
-) -> Result<Option<Metering>, Fault>
-    ensures asked { IfOk result (λ metering. is_some metering ≡ is_some options.now.metrics) }
-    ensures of { IfOk result (λ metering. IfSome metering (IsMeterOf server.now)) }
-    ensures err { IfErr result (HasNoMetrics options.now) }
-{
-    let Some(address) = &options.metrics else {
-        return Ok(None);
-    };
-    let Some(listener) = listener_at(rt, address.as_str()) else {
-        return Err(Fault::Metrics);
-    };
-    let process = Process::open(rt, server.open_files);
-    let metering = Metering::start(alloc, listener, server, process)?;
-    Ok(Some(metering))
-}
-
-/// A listener at this address, where it is one and something can listen there.
-fn listener_at<R: IoRuntime<Listener = TcpListener>>(rt: &R, address: &str) -> Option<TcpListener> {
-    if !is_address(address.as_bytes()) {
-        return None;
-    }
-    TcpListener::bind(rt, address).ok()
-}
-
 /// Writes what a server does with the descriptors that it may have open.
 fn note_descriptors<R: IoRuntime, F: Outlet>(
     rt: &R,
     alloc: Global,
     faults: &mut F,
+    mode: Mode,
     server: &tko_server::Options,
 )
     ensures { HasNotices F.takes F.failures faults.old faults.new }
 {
+    let allotment = match mode {
+        Mode::Threads => server.allotment(),
+        Mode::Events => server.event_allotment(),
+    };
     let notice = match server.open_files {
-        Some(limit) => Notice::Descriptors(server.allotment(), limit),
-        None => Notice::UnknownLimit(server.allotment()),
+        Some(limit) => Notice::Descriptors(allotment, limit),
+        None => Notice::UnknownLimit(allotment),
     };
     write_notice(rt, alloc, faults, notice);
 }

@@ -1,12 +1,14 @@
 -- The command that clap found.
-use Rattle.std.proofs.Common.{◌≡◌, ℕ, Bool, true, false, List, Some, refl, subst}
+use Rattle.std.proofs.Common.{◌≡◌, ℕ, Bool, true, false, List, Some, inl, inr, refl, subst}
 use Rattle.std.specs.Prelude.{option_map}
 use Rattle.clap.specs.Simple.{subcommand_rows_of}
 use Rattle.clap.specs.Words.{App, HasMatchesOf, found_of, rows_of, subcommand_name_of}
 use Rattle.clap.specs.declared.parser.matches.ArgMatches.{ArgMatches}
 use Rattle.clap.specs.declared.parser.matches.Found.{Found}
 use Rattle.clap.specs.Takes.{takes}
-use Rattle.tko_options.specs.Asked.{AsksFor, IsCommandWith, IsNoAnswer, IsReadFrom, IsRefusal}
+use Rattle.tko_options.specs.Asked.{AsksFor, IsReadFrom, IsRefusal}
+use Rattle.tko_options.specs.Commands.{IsCommandWith}
+use Rattle.tko_options.specs.Misfits.{IsRefusedFor}
 use Rattle.tko_options.specs.Program.{program_app}
 use Rattle.tko_options.specs.declared.asked.Asked.{Asked}
 use Rattle.tko_options.specs.declared.refusal.Refusal.{Refusal}
@@ -33,11 +35,19 @@ pub refused_by : {K : Type 0} (words : List (List ℕ)) (app : App) (text : Refu
     → (takes app words ≡ true → K) → (K → text ≡ refusal.Memory) → IsRefusal words text
 refused_by words app (refusal.Answer text) is passes memory =
     subst (λ it. takes it words ≡ false) is (untaken (takes app words) passes (λ k. let no = memory k in cc))
-refused_by words app (refusal.Wrong text) is passes memory = tt
+refused_by words app (refusal.Wrong text) is passes memory =
+    inl (subst (λ it. takes it words ≡ false) is
+    (untaken (takes app words) passes (λ k. let no = memory k in cc)))
 refused_by words app refusal.Memory is passes memory = tt
 
--- a refusal of words that clap takes
-pub no_answer : (words : List (List ℕ)) (text : Refusal) → IsNoAnswer text → IsRefusal words text
-no_answer words (refusal.Answer text) none = absurd none
-no_answer words (refusal.Wrong text) none = tt
-no_answer words refusal.Memory none = tt
+-- or for what clap found
+pub refused_among : (words : List (List ℕ)) (app : App) (matches : ArgMatches) (why : Refusal)
+    → app ≡ program_app → HasMatchesOf app words matches → IsRefusedFor matches why → IsRefusal words why
+refused_among words app matches (refusal.Answer text) is has why = absurd why
+refused_among words app matches (refusal.Wrong text) is has why =
+    inr (record {
+      matches = matches;
+      of_words = subst (λ it. HasMatchesOf it words matches) is has;
+      misread = why;
+    })
+refused_among words app matches refusal.Memory is has why = tt

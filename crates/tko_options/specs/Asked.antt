@@ -1,28 +1,17 @@
 -- What the words of the command line ask for.
-use Rattle.std.specs.Prelude.{◌≡◌, ℕ, Bool, true, false, List, Some, codes, option_map, string_bytes}
-use Rattle.clap.specs.Simple.{subcommand_rows_of}
+use Rattle.std.specs.Prelude.{◌≡◌, ◌⊎◌, ℕ, Bool, true, false, List, Some, codes, string_bytes}
 use Rattle.clap.specs.Takes.{takes}
-use Rattle.clap.specs.Words.{HasMatchesOf, rows_of, subcommand_name_of}
+use Rattle.clap.specs.Words.{HasMatchesOf, subcommand_name_of}
 use Rattle.clap.specs.declared.parser.matches.ArgMatches.{ArgMatches}
-use Rattle.clap.specs.declared.parser.matches.Found.{Found}
+use Rattle.tko_options.specs.Commands.{IsCommandWith}
 use Rattle.tko_options.specs.Found.{AreCheckFound, AreDryFound, AreFound, is_log_place}
+use Rattle.tko_options.specs.Misfits.{AreMisread}
+use Rattle.tko_options.specs.Modes.{may_limit}
 use Rattle.tko_options.specs.Program.{program_app}
 use Rattle.tko_options.specs.declared.asked.Asked.{Asked}
 use Rattle.tko_options.specs.declared.asked.Asked.TheVariants as asked
 use Rattle.tko_options.specs.declared.refusal.Refusal.{Refusal}
 use Rattle.tko_options.specs.declared.refusal.Refusal.TheVariants as refusal
-
--- the words name this command, and clap found this for its options
-pub record IsCommand (name : List ℕ) (matches : ArgMatches) (found : Found) : Type 0 where
-  pub named : subcommand_name_of matches ≡ Some name
-  pub rows : option_map (λ entry. entry.1) (subcommand_rows_of matches) ≡ Some (rows_of found)
-
--- a command whose options are what clap found for it
-pub record IsCommandWith (name : List ℕ) (are : Found → Type 0) (matches : ArgMatches) : Type 0
-  where
-    pub found : Found
-    pub command : IsCommand name matches found
-    pub options : are found
 
 -- what was asked for is the command that clap found, with the options that it found for it
 abbrev pub AsksFor : ArgMatches → Asked → Type 0
@@ -39,16 +28,22 @@ abbrev pub names_log : Asked → Bool
 names_log (asked.Serve options) = is_log_place (string_bytes options.log)
 names_log wanted = true
 
+-- a server has a limit of clients only where they may have one
+abbrev pub may_limit_clients : Asked → Bool
+may_limit_clients (asked.Serve options) = may_limit options.mode options.clients
+may_limit_clients wanted = true
+
 -- what was asked for is what clap finds in the words, as it reads the program
 pub record IsReadFrom (words : List (List ℕ)) (wanted : Asked) : Type 0 where
   pub matches : ArgMatches
   pub of_words : HasMatchesOf program_app words matches
   pub asks : AsksFor matches wanted
 
--- words that clap takes are not answered with a text of its own, as the help or the version
+-- a text is shown in place of a command, as the help, only where clap takes no command from the
+-- words; they are wrong where it takes none, or where what it takes does not fit
 abbrev pub IsRefusal : List (List ℕ) → Refusal → Type 0
 IsRefusal words (refusal.Answer text) = takes program_app words ≡ false
-IsRefusal words (refusal.Wrong text) = Unit {0}
+IsRefusal words (refusal.Wrong text) = (takes program_app words ≡ false) ⊎ AreMisread words
 IsRefusal words refusal.Memory = Unit {0}
 
 -- there is no text for the standard output

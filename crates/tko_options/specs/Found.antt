@@ -1,8 +1,9 @@
 -- The options of the commands, as clap read them.
-use Rattle.std.specs.Prelude.{◌≡◌, ◌<◌, ◌^◌, ℕ, Bool, true, false, ◌||◌, List, [], Some, bytes_eq, codes, map, option_map, string_bytes, unwrap_or}
+use Rattle.std.specs.Prelude.{◌≡◌, ◌<◌, ◌^◌, ℕ, Bool, true, false, ◌||◌, List, [], Option, Some, None, bytes_eq, codes, map, option_map, string_bytes, unwrap_or}
 use Rattle.std.specs.Str.Parse.{IsNumeral, digits_value, without_leading_plus}
 use Rattle.clap.specs.Words.{first_value, matched_of, one_text, raw_values}
 use Rattle.clap.specs.declared.parser.matches.Found.{Found}
+use Rattle.tko_options.specs.Modes.{default_workers, mode_at}
 use Rattle.tko_options.specs.declared.check_options.CheckOptions.{CheckOptions}
 use Rattle.tko_options.specs.declared.dry_options.DryOptions.{DryOptions}
 use Rattle.tko_options.specs.declared.serve_options.ServeOptions.{ServeOptions}
@@ -13,6 +14,20 @@ IsNumberAt bits found name number = (text : List ℕ) → one_text found name �
     → IsNumeral 10 (without_leading_plus text)
     → digits_value 10 (without_leading_plus text) < 2 ^ bits
     → number ≡ digits_value 10 (without_leading_plus text)
+
+-- the same of an option that may be left out: it is another number there
+pub record IsNumberOr (default bits : ℕ) (found : Found) (name : List ℕ) (number : ℕ) : Type 0 where
+  pub given : IsNumberAt bits found name number
+  pub left_out : one_text found name ≡ None → number ≡ default
+
+-- the same where there is no number then
+pub record IsNumberIfAny (bits : ℕ) (found : Found) (name : List ℕ) (number : Option ℕ) : Type 0
+  where
+    pub given : (text : List ℕ) → one_text found name ≡ Some text
+        → IsNumeral 10 (without_leading_plus text)
+        → digits_value 10 (without_leading_plus text) < 2 ^ bits
+        → number ≡ Some (digits_value 10 (without_leading_plus text))
+    pub left_out : one_text found name ≡ None → number ≡ None
 
 -- the text of an option, and the empty one where it was not given
 abbrev pub IsTextAt : Found → List ℕ → List ℕ → Type 0
@@ -56,7 +71,9 @@ pub record AreFound (found : Found) (options : ServeOptions) : Type 0 where
   pub config : IsTextAt found (codes "config") (string_bytes options.config)
   pub config_file :
       option_map string_bytes options.config_file ≡ first_value found (codes "config-file")
-  pub threads : IsNumberAt 32 found (codes "threads") options.threads
+  pub mode : mode_at found ≡ Some options.mode
+  pub threads : IsNumberOr (default_workers options.mode) 32 found (codes "threads") options.threads
+  pub clients : IsNumberIfAny 64 found (codes "clients") options.clients
   pub connections : IsNumberAt 64 found (codes "connections") options.connections
   pub timeout : IsNumberAt 32 found (codes "timeout") options.timeout
   pub write_timeout : IsNumberAt 32 found (codes "write-timeout") options.write_timeout

@@ -1,7 +1,10 @@
 pub mod Asked
 pub mod CheckCommand
 pub mod CommandLine
+pub mod Commands
 pub mod Found
+pub mod Misfits
+pub mod Modes
 pub mod Program
 pub mod ServeCommand
 pub mod Trackers

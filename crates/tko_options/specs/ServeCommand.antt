@@ -3,10 +3,10 @@ use Rattle.std.specs.Prelude.{ℕ, true, pos, Some, [], ◌∷◌, codes}
 use Rattle.clap.specs.Words.{App, Rule, Text, new_app, with_rule}
 use Rattle.clap.specs.declared.builder.value_parser.ValueParser.{ValueParser}
 use Rattle.clap.specs.declared.builder.value_parser.ValueParser.TheVariants as parser
-use Rattle.tko_options.specs.CommandLine.{config_file_option, max_number, number_option, required_config, text_option, with_tracker}
+use Rattle.tko_options.specs.CommandLine.{any_number, config_file_option, max_number, number_option, required_config, text_option, with_tracker}
 
-abbrev pub default_threads : Text
-default_threads = codes "4"
+abbrev pub default_mode : Text
+default_mode = codes "threads"
 
 abbrev pub default_connections : Text
 default_connections = codes "0"
@@ -38,13 +38,13 @@ max_connections = 18446744073709551615
 abbrev pub any_connections : ValueParser
 any_connections = parser.Unsigned 0 max_connections
 
--- the least time limit
-abbrev pub min_limit : ℕ
-min_limit = 1
+-- a number of 32 bits that is not 0
+abbrev pub any_from_one : ValueParser
+any_from_one = parser.Signed (pos 1) (pos max_number)
 
--- a number of 32 bits that is no less than the least time limit
-abbrev pub any_limit : ValueParser
-any_limit = parser.Signed (pos min_limit) (pos max_number)
+-- the option with such numbers alone
+abbrev pub from_one : Rule → Rule
+from_one rule = record rule { parser = Some any_from_one }
 
 -- `--listen ADDRESS`, which is required
 abbrev pub listen_option : Rule
@@ -58,6 +58,18 @@ log_option = record (text_option (codes "log")) { defaults = default_log ∷ [] 
 abbrev pub metrics_option : Rule
 metrics_option = text_option (codes "metrics")
 
+-- `--mode MODE`
+abbrev pub mode_option : Rule
+mode_option = record (text_option (codes "mode")) { defaults = default_mode ∷ [] }
+
+-- `--threads N`, a number of 32 bits that may be left out
+abbrev pub threads_option : Rule
+threads_option = record (text_option (codes "threads")) { parser = Some any_number }
+
+-- `--clients N`, a number from 1 that may be left out
+abbrev pub clients_option : Rule
+clients_option = from_one (text_option (codes "clients"))
+
 -- `--connections N`, a number of 64 bits
 abbrev pub connections_option : Rule
 connections_option = record (number_option (codes "connections") default_connections) {
@@ -66,19 +78,18 @@ connections_option = record (number_option (codes "connections") default_connect
 
 -- `--name MS`, a number from 1
 abbrev pub limit_option : Text → Text → Rule
-limit_option name default = record (number_option name default) {
-  parser = Some any_limit;
-}
+limit_option name default = from_one (number_option name default)
 
 -- where it listens, and to whom it speaks
 abbrev pub with_ends : App → App
 with_ends app =
     with_rule (with_rule (with_rule app listen_option) required_config) config_file_option
 
--- how many clients it serves
+-- how it serves its clients, and how many
 abbrev pub with_clients : App → App
 with_clients app =
-    with_rule (with_rule app (number_option (codes "threads") default_threads)) connections_option
+    with_rule (with_rule (with_rule (with_rule app mode_option) threads_option) clients_option)
+    connections_option
 
 -- how long it waits for a client
 abbrev pub with_patience : App → App

@@ -2,6 +2,7 @@
 //! it finds.
 //!
 //! - `Asked`: what the words ask for; `Refusal`: why they ask for nothing, or the help.
+//! - `Mode`: how a server serves its clients.
 //! - `DryOptions`, `ServeOptions`, `CheckOptions`: the options of the commands, a field for each.
 #![tactic(auto)]
 
@@ -12,12 +13,15 @@ mod command_line;
 mod dry_command;
 mod dry_options;
 mod found;
+mod mode;
 mod refusal;
+mod serve_clients;
 mod serve_command;
 mod serve_options;
 
 pub use asked::Asked;
 pub use check_options::CheckOptions;
 pub use dry_options::DryOptions;
+pub use mode::Mode;
 pub use refusal::Refusal;
 pub use serve_options::ServeOptions;

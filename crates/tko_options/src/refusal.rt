@@ -2,7 +2,9 @@
 ghost use Rattle.std.specs.Prelude.{◌≡◌};
 ghost use Rattle.clap.specs.declared.error.kind.ErrorKind.TheVariants.{OutOfMemory};
 ghost use Rattle.clap.specs.Values.{kind_of};
+ghost use Rattle.tko_options.specs.Asked.{IsNoAnswer};
 
+use crate::command_line::program;
 use clap::Error;
 use clap::error::ErrorKind;
 use std::alloc::{AllocError, Global};
@@ -42,4 +44,20 @@ impl Refusal {
             Err(_) => Refusal::Memory,
         }
     }
+
+    /// Of words that clap takes, for this reason.
+    pub(crate) fn by(alloc: Global, kind: ErrorKind, reason: &str) -> Refusal
+        ensures { IsNoAnswer result }
+    {
+        match reason_text(alloc, kind, reason) {
+            Ok(text) => Refusal::Wrong(text),
+            Err(_) => Refusal::Memory,
+        }
+    }
+}
+
+/// The reason, and how the program is used.
+fn reason_text(alloc: Global, kind: ErrorKind, reason: &str) -> Result<String, AllocError> {
+    let error = program(alloc)?.error(kind, reason)?;
+    format!(in alloc; "{error}")
 }

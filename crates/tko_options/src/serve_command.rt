@@ -2,31 +2,24 @@
 ghost use Rattle.std.specs.Prelude.{◌≡◌, false, IfOk, codes};
 ghost use Rattle.clap.specs.Words.{App, rule_of};
 ghost use Rattle.tko_options.specs.CommandLine.{IsOption, ReadsAs, config_file_option, number_option, required_config};
-ghost use Rattle.tko_options.specs.ServeCommand.{connections_option, default_timeout, limit_option, listen_option, log_option, metrics_option, serve_command, with_clients, with_ends, with_patience, with_reports, with_times};
+ghost use Rattle.tko_options.specs.ServeCommand.{default_timeout, from_one, limit_option, listen_option, log_option, metrics_option, serve_command, with_ends, with_reports, with_times};
 
 use crate::command_line::{number, text, with_tracker};
+use crate::serve_clients::{with_clients, with_patience};
 use clap::builder::ValueParser;
-use clap::{Arg, Command, value_parser};
+use clap::{Arg, Command};
 use std::alloc::{AllocError, Global};
-
-const DEFAULT_THREADS: &str = "4";
 
 const DEFAULT_LOG: &str = "stderr";
 
-const DEFAULT_CONNECTIONS: &str = "0";
-
 const DEFAULT_TIMEOUT: &str = "1000";
-
-const DEFAULT_WRITE_TIMEOUT: &str = "5000";
-
-const DEFAULT_IDLE_TIMEOUT: &str = "0";
 
 const DEFAULT_FIRST_DELAY: &str = "10000";
 
 const DEFAULT_GREATEST_DELAY: &str = "60000";
 
-/// The least and the greatest of a time limit in milliseconds.
-const TIME_LIMITS: (i64, i64) = (1, 4_294_967_295);
+/// The least and the greatest number of 32 bits that is not 0.
+const FROM_ONE: (i64, i64) = (1, 4_294_967_295);
 
 const SERVE_HELP: &str = "\
 Times are in milliseconds.
@@ -61,28 +54,6 @@ fn with_ends<'a>(alloc: Global, command: Command<'a>) -> Result<Command<'a>, All
         .arg(listen(alloc))?
         .arg(config(alloc)?)?
         .arg(required_file(alloc)?)
-}
-
-/// With the options of the clients.
-fn with_clients<'a>(alloc: Global, command: Command<'a>) -> Result<Command<'a>, AllocError>
-    ensures { (app : App) → ReadsAs app command.entry → IfOk result (ReadsAs (with_clients app)) }
-{
-    let threads = "How many workers there are, each for one client at a time, 1 to 1024";
-    command
-        .arg(number(alloc, "threads", DEFAULT_THREADS, threads))?
-        .arg(connections(alloc))
-}
-
-/// With the options on how long it waits for a client.
-fn with_patience<'a>(alloc: Global, command: Command<'a>) -> Result<Command<'a>, AllocError>
-    ensures { (app : App) → ReadsAs app command.entry → IfOk result (ReadsAs (with_patience app)) }
-{
-    let write =
-        "In how long a client must take 64 KiB of its replies or all, in milliseconds, from 1";
-    let idle = "How long a client may complete no request, in milliseconds; 0 for no limit";
-    command
-        .arg(limit(alloc, "write-timeout", DEFAULT_WRITE_TIMEOUT, write))?
-        .arg(delay(alloc, "idle-timeout", DEFAULT_IDLE_TIMEOUT, idle))
 }
 
 /// With the options that are times.
@@ -157,14 +128,6 @@ pub(crate) fn required_file<'a>(alloc: Global) -> Result<Arg<'a>, AllocError>
         .conflicts_with("config")
 }
 
-fn connections<'a>(alloc: Global) -> Arg<'a>
-    ensures rule { rule_of result ≡ connections_option }
-    ensures local { result.global ≡ false }
-{
-    let help = "After how many connections it ends; 0 for never";
-    number(alloc, "connections", DEFAULT_CONNECTIONS, help).value_parser(value_parser!(u64))
-}
-
 fn timeout<'a>(alloc: Global) -> Arg<'a>
     ensures rule { rule_of result ≡ limit_option (codes "timeout") default_timeout }
     ensures local { result.global ≡ false }
@@ -174,17 +137,23 @@ fn timeout<'a>(alloc: Global) -> Arg<'a>
 }
 
 /// `--name MS`, a number of milliseconds from 1.
-fn limit<'a>(alloc: Global, name: &'a str, default: &'a str, help: &'a str) -> Arg<'a>
+pub(crate) fn limit<'a>(alloc: Global, name: &'a str, default: &'a str, help: &'a str) -> Arg<'a>
     ensures rule { rule_of result ≡ limit_option name.now default.now }
     ensures local { result.global ≡ false }
 {
-    number(alloc, name, default, help)
-        .value_name("MS")
-        .value_parser(ValueParser::signed(TIME_LIMITS.0, TIME_LIMITS.1))
+    from_one(number(alloc, name, default, help).value_name("MS"))
+}
+
+/// The option with its numbers from 1.
+pub(crate) fn from_one<'a>(arg: Arg<'a>) -> Arg<'a>
+    ensures rule { rule_of result ≡ from_one (rule_of arg.entry) }
+    ensures local { result.global ≡ arg.entry.global }
+{
+    arg.value_parser(ValueParser::signed(FROM_ONE.0, FROM_ONE.1))
 }
 
 /// `--name MS`, a number of milliseconds.
-fn delay<'a>(alloc: Global, name: &'a str, default: &'a str, help: &'a str) -> Arg<'a>
+pub(crate) fn delay<'a>(alloc: Global, name: &'a str, default: &'a str, help: &'a str) -> Arg<'a>
     ensures rule { rule_of result ≡ number_option name.now default.now }
     ensures local { result.global ≡ false }
 {

@@ -1,13 +1,25 @@
 //! The options of `serve`.
-ghost use Rattle.std.specs.Prelude.{◌≡◌, IfOk, bytes_eq, codes, string_bytes};
+ghost use Rattle.std.specs.Prelude.{◌≡◌, IfErr, IfOk, Some, bytes_eq, codes, string_bytes, true};
 ghost use Rattle.clap.specs.Words.{found_of};
-ghost use Rattle.tko_options.specs.Found.{AreFound, IsNumberAt, is_log_place};
+ghost use Rattle.tko_options.specs.Found.{AreFound, IsNumberAt, IsNumberIfAny, IsNumberOr, is_log_place};
+ghost use Rattle.tko_options.specs.Misfits.{IsUnfit};
+ghost use Rattle.tko_options.specs.Modes.{default_workers, may_limit, mode_at};
 ghost use Rattle.tko_options.specs.Trackers.{serve_settings};
 
 use crate::found::{number_of, optional_text, text_of};
+use crate::mode::Mode;
+use crate::refusal::Refusal;
 use clap::ArgMatches;
+use clap::error::ErrorKind;
 use std::alloc::{AllocError, Global};
 use tko_model::OneGroup;
+
+const LOG_NOWHERE: &str = "invalid value for '--log <WHERE>'\n  [possible values: stderr, off]";
+
+const NO_MODE: &str = "invalid value for '--mode <MODE>'\n  [possible values: threads, events]";
+
+const CLIENTS_IN_THREADS: &str =
+    "the argument '--clients <N>' cannot be used with '--mode threads'";
 
 /// The options of `serve`.
 #[derive(Debug, Drop)]
@@ -18,8 +30,11 @@ pub struct ServeOptions {
     pub config: String,
     /// The path of the configuration's file.
     pub config_file: Option<String>,
+    pub mode: Mode,
     /// How many workers there are.
     pub threads: u32,
+    /// How many clients there may be at once, where that is limited; never in threads.
+    pub clients: Option<u64>,
     /// After how many connections it ends; 0 for never.
     pub connections: u64,
     /// How long an exchange may take, in milliseconds.
@@ -42,14 +57,43 @@ pub struct ServeOptions {
 }
 
 impl ServeOptions {
-    pub(crate) fn of(alloc: Global, found: &ArgMatches<'_>) -> Result<ServeOptions, AllocError>
+    /// Reads the options. clap's own parser of names takes a list by reference, which no definition
+    /// of the command can name, so clap reads any text of `--log` and `--mode`.
+    pub(crate) fn of(alloc: Global, found: &ArgMatches<'_>) -> Result<ServeOptions, Refusal>
+        ensures ok { IfOk result (AreFound (found_of found.now)) }
+        ensures log { IfOk result (λ options. is_log_place (string_bytes options.log) ≡ true) }
+        ensures clients { IfOk result (λ options. may_limit options.mode options.clients ≡ true) }
+        ensures err { IfErr result (IsUnfit (found_of found.now)) }
+    {
+        let Some(mode) = mode_of(found) else {
+            return Err(Refusal::by(alloc, ErrorKind::InvalidValue, NO_MODE));
+        };
+        let options = ServeOptions::in_mode(alloc, found, mode)?;
+        if !options.names_log() {
+            return Err(Refusal::by(alloc, ErrorKind::InvalidValue, LOG_NOWHERE));
+        }
+        if !options.may_limit_clients() {
+            return Err(Refusal::by(alloc, ErrorKind::ArgumentConflict, CLIENTS_IN_THREADS));
+        }
+        Ok(options)
+    }
+
+    /// The options in this mode, whether they fit one another or not.
+    fn in_mode(
+        alloc: Global,
+        found: &ArgMatches<'_>,
+        mode: Mode,
+    ) -> Result<ServeOptions, AllocError>
+        requires { mode_at (found_of found.now) ≡ Some mode }
         ensures { IfOk result (AreFound (found_of found.now)) }
     {
         Ok(ServeOptions {
             listen: text_of(alloc, found, "listen")?,
             config: text_of(alloc, found, "config")?,
             config_file: optional_text(alloc, found, "config-file")?,
-            threads: number_of(found, "threads"),
+            mode,
+            threads: threads_of(found, mode),
+            clients: clients_of(found),
             connections: connections_of(found),
             timeout: number_of(found, "timeout"),
             write_timeout: number_of(found, "write-timeout"),
@@ -72,10 +116,17 @@ impl ServeOptions {
     }
 
     /// Whether the event log goes where one can go.
-    pub(crate) fn names_log(&self) -> bool
+    fn names_log(&self) -> bool
         ensures { result ≡ is_log_place (string_bytes self.now.log) }
     {
         self.has_log() || self.log.as_str() == "off"
+    }
+
+    /// Whether the number of clients may be limited, where it is.
+    fn may_limit_clients(&self) -> bool
+        ensures { result ≡ may_limit self.now.mode self.now.clients }
+    {
+        self.mode == Mode::Events || self.clients.is_none()
     }
 
     /// The settings of a tracker of `servers` servers without groups, with the limit of all that
@@ -92,6 +143,27 @@ impl ServeOptions {
             opening_stamp: 0,
         }
     }
+}
+
+/// The mode, where the option names one.
+fn mode_of(found: &ArgMatches<'_>) -> Option<Mode>
+    ensures { result ≡ mode_at (found_of found.now) }
+{
+    Mode::named(found.get_str("mode").unwrap_or(""))
+}
+
+/// The number of workers, which follows from the mode where it is not given.
+fn threads_of(found: &ArgMatches<'_>, mode: Mode) -> u32
+    ensures { IsNumberOr (default_workers mode) 32 (found_of found.now) (codes "threads") result }
+{
+    found.get_one("threads").unwrap_or(mode.workers())
+}
+
+/// The greatest number of clients, if one is given.
+fn clients_of(found: &ArgMatches<'_>) -> Option<u64>
+    ensures { IsNumberIfAny 64 (found_of found.now) (codes "clients") result }
+{
+    found.get_one("clients")
 }
 
 /// The number of connections, which may have 64 bits.

@@ -1,6 +1,6 @@
 use Rattle.std.proofs.lemmas.Result.{err_from_is_err_and}
 use Rattle.tko_cli.proofs.ServingLemmas.{no_listener, no_metrics}
-use Rattle.tko_cli.proofs.serving.prepare.Goals as goal
+use Rattle.tko_cli.proofs.prepared.prepare.Goals as goal
 
 pub returns-in_err-listener-clause-err : goal.returns-in_err-listener-clause-err
 returns-in_err-listener-clause-err g c =

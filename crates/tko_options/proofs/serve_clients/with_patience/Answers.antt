@@ -4,7 +4,7 @@ use Rattle.clap.specs.Words.{rule_of}
 use Rattle.tko_options.specs.CommandLine.{number_option}
 use Rattle.tko_options.specs.ServeCommand.{default_idle_timeout, default_write_timeout, limit_option}
 use Rattle.tko_options.proofs.CommandLineLemmas.{adds_option}
-use Rattle.tko_options.proofs.serve_command.with_patience.Goals as goal
+use Rattle.tko_options.proofs.serve_clients.with_patience.Goals as goal
 
 pub returns : goal.returns
 returns c app reads =

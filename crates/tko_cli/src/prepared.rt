@@ -1,0 +1,119 @@
+//! A server that is ready to run, with what runs beside it.
+ghost use Rattle.std.specs.Prelude.{◌≡◌, IfErr, IfOk, IfSome, bytes_eq, codes, is_some, string_bytes};
+ghost use Rattle.tko_cli.specs.Serving.{HasBeside, HasNoListener, HasNoMetrics, IsNamed, IsUnprepared};
+ghost use Rattle.tko_server.specs.Beside.{IsLogOf, IsMeterOf};
+
+use crate::open_files::open_file_limit;
+use crate::planned::plan_of;
+use std::alloc::{AllocError, Global};
+use std::fs::{File, Files};
+use std::net::TcpListener;
+use tko_commands::{Fault, ListenFault};
+use tko_io::IoRuntime;
+use tko_metrics::Process;
+use tko_options::{Mode, ServeOptions};
+use tko_pools::is_address;
+use tko_server::{Logging, Metering};
+
+/// A server that is ready to run, with its listener.
+#[derive(Drop)]
+pub(crate) struct Prepared {
+    /// How the server serves its clients.
+    pub mode: Mode,
+    pub server: tko_server::Options,
+    pub listener: TcpListener,
+    pub logging: Option<Logging>,
+    pub metering: Option<Metering>,
+}
+
+/// What the options name, with a listener for its clients, and with the event log and the metrics
+/// that the options ask for.
+pub(crate) fn prepare<R: IoRuntime<Listener = TcpListener> + Files<File = File>>(
+    rt: &R,
+    alloc: Global,
+    options: &ServeOptions,
+) -> Result<Prepared, Fault>
+    ensures ok { IfOk result (λ prepared. IsNamed options.now prepared.server) }
+    ensures beside { IfOk result (HasBeside options.now) }
+    ensures err { IfErr result (IsUnprepared options.now) }
+{
+    let plan = plan_of(alloc, options)?;
+    let server = plan.server(options, open_file_limit(rt, alloc));
+    let logging = logging_of(rt, alloc, options, &server)?;
+    let listener = listener_of(rt, alloc, options.listen.as_str())?;
+    let metering = metering_of(rt, alloc, options, &server)?;
+    Ok(Prepared {
+        mode: options.mode,
+        server,
+        listener,
+        logging,
+        metering,
+    })
+}
+
+/// A listener at this address, or what the system says against it.
+fn listener_of<R: IoRuntime<Listener = TcpListener>>(
+    rt: &R,
+    alloc: Global,
+    address: &str,
+) -> Result<TcpListener, Fault>
+    ensures { IfErr result HasNoListener }
+{
+    match TcpListener::bind(rt, address) {
+        Ok(listener) => Ok(listener),
+        Err(error) => {
+            let words = format!(in alloc; "{error}")?;
+            Err(Fault::Listen(ListenFault::System(words)))
+        }
+    }
+}
+
+/// The event log of this server that the options ask for, if they do. Its lines go to the standard
+/// error of the runtime, and not to the outlet of the faults.
+fn logging_of<R: IoRuntime>(
+    rt: &R,
+    alloc: Global,
+    options: &ServeOptions,
+    server: &tko_server::Options,
+) -> Result<Option<Logging>, AllocError>
+    ensures asked { IfOk result (λ logging.
+        is_some logging ≡ bytes_eq (string_bytes options.now.log) (codes "stderr")) }
+    ensures of { IfOk result (λ logging.
+        IfSome logging (IsLogOf (string_bytes options.now.listen) server.now)) }
+{
+    if !options.has_log() {
+        return Ok(None);
+    }
+    let logging = Logging::start(rt, alloc, options.listen.as_str(), server)?;
+    Ok(Some(logging))
+}
+
+/// The metrics of this server that the options ask for, if they do.
+fn metering_of<R: IoRuntime<Listener = TcpListener> + Files<File = File>>(
+    rt: &R,
+    alloc: Global,
+    options: &ServeOptions,
+    server: &tko_server::Options,
+) -> Result<Option<Metering>, Fault>
+    ensures asked { IfOk result (λ metering. is_some metering ≡ is_some options.now.metrics) }
+    ensures of { IfOk result (λ metering. IfSome metering (IsMeterOf server.now)) }
+    ensures err { IfErr result (HasNoMetrics options.now) }
+{
+    let Some(address) = &options.metrics else {
+        return Ok(None);
+    };
+    let Some(listener) = listener_at(rt, address.as_str()) else {
+        return Err(Fault::Metrics);
+    };
+    let process = Process::open(rt, server.open_files);
+    let metering = Metering::start(alloc, listener, server, process)?;
+    Ok(Some(metering))
+}
+
+/// A listener at this address, where it is one and something can listen there.
+fn listener_at<R: IoRuntime<Listener = TcpListener>>(rt: &R, address: &str) -> Option<TcpListener> {
+    if !is_address(address.as_bytes()) {
+        return None;
+    }
+    TcpListener::bind(rt, address).ok()
+}
