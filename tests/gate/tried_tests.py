@@ -11,7 +11,8 @@ import costs
 
 # Crates whose tests take three processor minutes and more to prove. Those of the other crates are proved.
 TRIED = frozenset({"tko_text", "tko_tracker", "tko_runs", "tko_desk", "tko_links", "tko_tcp", "tko_route", "tko_session",
-                   "tko_threads", "tko_server", "tko_cli", "tko_worker", "tko_socket", "tko_client", "tko_loop"})
+                   "tko_threads", "tko_server", "tko_cli", "tko_worker", "tko_socket", "tko_client", "tko_loop",
+                   "tko_rounds", "tko_event_threads"})
 # The memory that such a run takes, in bytes: 0.6 to 2.2 GB were seen.
 NEEDS = 2_300_000_000
 LISTED = re.compile(r"^tests: (\d+)$", re.M)

@@ -1,6 +1,7 @@
 """What the tests run: memcached servers and the proxy, each on a free port of 127.0.0.1.
 
-Every process is ended by its own handle, also where a test fails."""
+Every process is ended by its own handle, also where a test fails. TKO_MODE is the proxy's `--mode`; without it the
+program has none of the word, and serves in its default mode."""
 import atexit
 import json
 import os
@@ -17,8 +18,12 @@ from ports import HOST, free_port, is_open, wait_until
 from talk import Client
 
 PROGRAM = os.environ["TKOPROXY"]
+MODE = os.environ.get("TKO_MODE", "threads")
+MODE_WORDS = ["--mode", MODE] if "TKO_MODE" in os.environ else []
 # A line of the event log: its time, the event, and what is told of it.
 LOG_LINE = rb"\d{4}-\d\d-\d\dT\d\d:\d\d:\d\d\.\d{3}Z [a-z]+( [a-z]+=[^ \n]+)*"
+# As /proc/net/tcp lists them.
+HOST_AS_LISTED, ESTABLISHED = "0100007F", "01"
 started = []
 
 
@@ -40,6 +45,11 @@ def stop(process):
 def stop_all():
     for process in list(started):
         stop(process)
+
+
+def only_in(mode, why):
+    """Of a test, or of all tests of a class, that hold in this mode alone."""
+    return unittest.skipUnless(MODE == mode, f"in {mode} alone: {why}")
 
 
 class Memcached:
@@ -90,7 +100,7 @@ def configuration(failover_exptime=60, **pools):
 
 def serve_words(port, config, options):
     named = [word for name, value in options.items() for word in ("--" + name.replace("_", "-"), str(value))]
-    return [PROGRAM, "serve", "--listen", f"{HOST}:{port}", "--config", config, *named]
+    return [PROGRAM, "serve", *MODE_WORDS, "--listen", f"{HOST}:{port}", "--config", config, *named]
 
 
 class Proxy:
@@ -151,6 +161,12 @@ class Proxy:
             fields = file.read().rsplit(")", 1)[1].split()
         return (int(fields[11]) + int(fields[12])) / os.sysconf("SC_CLK_TCK")
 
+    def connections_to(self, server):
+        """How many connections of this machine to the server stand: those of the proxy, if nobody else has one."""
+        ends = f"{HOST_AS_LISTED}:{server.port:04X}"
+        with open("/proc/net/tcp", encoding="ascii") as file:
+            return sum(words[2] == ends and words[3] == ESTABLISHED for words in map(str.split, file))
+
     def files(self):
         return len(os.listdir(f"/proc/{self.process.pid}/fd"))
 
@@ -203,8 +219,20 @@ class ServerTest(unittest.TestCase):
         self.assertTrue(running or may_end, "the program ended before the test did")
         self.assertRegex(text, rb"\A(note: [^\n]+\n|" + LOG_LINE + rb"\n)+\Z")
 
-    def client(self, port):
-        return self.kept(Client(port))
+    def client(self, port, **options):
+        return self.kept(Client(port, **options))
+
+    def allow_files(self, count):
+        """This process and those that it starts may have so many files open, if the system allows it. How many they
+        may have."""
+        before = resource.getrlimit(resource.RLIMIT_NOFILE)
+        self.addCleanup(resource.setrlimit, resource.RLIMIT_NOFILE, before)
+        soft, hard = before
+        wanted = count if hard == resource.RLIM_INFINITY else min(count, hard)
+        if soft != resource.RLIM_INFINITY and soft < wanted:
+            resource.setrlimit(resource.RLIMIT_NOFILE, (wanted, hard))
+        soft, _ = resource.getrlimit(resource.RLIMIT_NOFILE)
+        return count if soft == resource.RLIM_INFINITY else soft
 
     def kept(self, part):
         """Until the test has ended, and then closed."""

@@ -7,7 +7,7 @@ import threading
 import time
 import unittest
 
-from parts import ServerTest, configuration
+from parts import MODE, ServerTest, configuration, only_in
 from ports import HOST, free_port, wait_until
 from talk import Client, store, values
 from test_metrics import ask, numbers_in
@@ -50,6 +50,7 @@ class Descriptors(ServerTest):
             client.send(b"version\r\n")
         return clients
 
+    @only_in("threads", "workers need other descriptors there")
     def test_it_says_what_it_needs_and_has(self):
         servers = [self.closed() for _ in range(6)]
         for open_files, threads, line in (
@@ -57,6 +58,22 @@ class Descriptors(ServerTest):
                 (128, 16, b"note: 224 descriptors needed at most, 128 allowed: 12 workers, 16 clients at once\n"),
                 (20, 16, b"note: 224 descriptors needed at most, 20 allowed: 1 workers, 1 clients at once\n")):
             proxy = self.proxy(configuration(only=servers), open_files=open_files, threads=threads, log="off")
+            self.assertEqual(proxy.error_text().splitlines(True)[-1], line)
+
+    @only_in("events", "workers need other descriptors there")
+    def test_it_says_what_event_driven_workers_need_and_have(self):
+        servers = [self.closed() for _ in range(6)]
+        for open_files, options, line in (
+                (1000, {}, b"note: 1000 descriptors needed at most, 1000 allowed: 2 workers, 966 clients at once\n"),
+                (1000, {"clients": 100},
+                 b"note: 134 descriptors needed at most, 1000 allowed: 2 workers, 100 clients at once\n"),
+                (60, {"threads": 4},
+                 b"note: 60 descriptors needed at most, 60 allowed: 4 workers, 8 clients at once\n"),
+                (60, {"threads": 8, "clients": 1000},
+                 b"note: 1088 descriptors needed at most, 60 allowed: 4 workers, 8 clients at once\n"),
+                (20, {"threads": 8, "clients": 1000},
+                 b"note: 1088 descriptors needed at most, 20 allowed: 1 workers, 1 clients at once\n")):
+            proxy = self.proxy(configuration(only=servers), open_files=open_files, log="off", **options)
             self.assertEqual(proxy.error_text().splitlines(True)[-1], line)
 
     @unittest.skipIf(resource.getrlimit(resource.RLIMIT_AS)[1] != resource.RLIM_INFINITY, "memory is limited here")
@@ -70,6 +87,7 @@ class Descriptors(ServerTest):
         proxy = self.proxy(configuration(only=[self.closed()]), log="off", memory=4_000_000)
         self.assertRegex(proxy.error_text(), rb"\Anote: .* descriptors needed at most, [^\n]*\n\Z")
 
+    @only_in("threads", "as many clients are served at once as there are workers")
     def test_more_clients_than_descriptors(self):
         server = self.memcached()
         proxy = self.proxy(configuration(only=[server]), open_files=60, threads=4)
@@ -88,6 +106,43 @@ class Descriptors(ServerTest):
                 self.assertEqual(client.reply(), VERSION)
             client.close()
 
+    @only_in("events", "a worker serves many clients at once")
+    def test_more_clients_of_event_driven_workers_than_descriptors(self):
+        server = self.memcached()
+        proxy = self.proxy(configuration(only=[server]), open_files=60, threads=4)
+        clients = self.clients(proxy, 80)
+        # So many are connected, each with one descriptor; the others wait in the system's queue.
+        served, waiting = clients[:28], clients[28:]
+        for client in served:
+            self.assertEqual(client.reply(), VERSION)
+        for client in served:
+            self.assertEqual(client.ask(store(b"a", b"x") + b"get a\r\n"), b"STORED\r\n")
+            self.assertEqual(client.reply(), values((b"a", b"x")))
+        self.assertTrue(waiting[0].is_quiet(0.5))
+        self.assertEqual(proxy.marks_by(served[0])[server.address], "up:0")
+        for client, next_one in itertools.zip_longest(clients, waiting):
+            client.close()
+            if next_one:
+                self.assertEqual(next_one.reply(), VERSION)
+
+    @only_in("events", "a worker serves many clients at once")
+    def test_a_lack_of_descriptors_of_event_driven_workers_marks_no_healthy_server(self):
+        servers = [self.memcached() for _ in range(6)]
+        proxy = self.proxy(configuration(only=servers), open_files=128, threads=4)
+        clients = self.clients(proxy, 150)
+        # 76 of them are connected, and each asks each server.
+        for served in (clients[:76], clients[76:]):
+            for client in served:
+                self.assertEqual(client.reply(), VERSION)
+                client.send(b"".join(b"get key-%d\r\n" % key for key in range(20)))
+            for client in served:
+                for _ in range(20):
+                    self.assertEqual(client.reply(), b"END\r\n")
+            self.assertEqual(set(proxy.marks_by(served[0]).values()), {"up:0"})
+            for client in served:
+                client.close()
+
+    @only_in("threads", "as many clients are served at once as there are workers")
     def test_a_lack_of_descriptors_marks_no_healthy_server(self):
         servers = [self.memcached() for _ in range(6)]
         proxy = self.proxy(configuration(only=servers), open_files=128, threads=16)
@@ -215,7 +270,8 @@ class Patience(ServerTest):
             slow.sendall(b"get a\r\n" * 50)
             with repeated(lambda: slow.recv(1000), 0.05), proxy.client(limit=30) as other:
                 self.assertEqual(other.ask(b"version\r\n"), VERSION)
-        self.assertEqual(numbers_in(ask(metrics)[2])['tkoproxy_session_faults_total{kind="write"}'], 1)
+                fault = 'tkoproxy_session_faults_total{kind="write"}'
+                wait_until(lambda: numbers_in(ask(metrics)[2])[fault] == 1, SLACK, "its session ends by a fault")
 
     def test_a_client_that_takes_enough_in_each_span_gets_everything(self):
         proxy = self.proxy(configuration(only=[self.memcached("-I", "2m")]), threads=1, write_timeout=400)
@@ -230,6 +286,20 @@ class Patience(ServerTest):
                 read += len(chunk)
                 time.sleep(0.1)
             self.assertEqual(read, 8 * len(values((b"a", b"x" * 1000000))))
+
+    def test_a_client_that_takes_little_at_a_time_gets_everything(self):
+        """More than it must, but less than the system's buffer for it must have free before it is said to be writable."""
+        proxy = self.proxy(configuration(only=[self.memcached("-I", "2m")]), threads=1, write_timeout=1000)
+        with proxy.client() as slow:
+            self.assertEqual(slow.ask(store(b"a", b"x" * 1000000)), b"STORED\r\n")
+            slow.socket.setsockopt(socket.SOL_SOCKET, socket.SO_RCVBUF, 65536)
+            slow.send(b"get a\r\n" * 6)
+            slow.end_input()
+            read = 0
+            while chunk := slow.socket.recv(50000):
+                read += len(chunk)
+                time.sleep(0.08)
+            self.assertEqual(read, 6 * len(values((b"a", b"x" * 1000000))))
 
     def test_the_time_of_a_server_is_no_time_of_its_client(self):
         """The server takes longer than both limits, between two replies and before the first one."""
@@ -296,7 +366,9 @@ class Patience(ServerTest):
             with proxy.client() as other:
                 reply, seconds = other.timed(b"version\r\n")
                 self.assertEqual(reply, VERSION)
-                self.assertGreater(seconds, 1)
+                if MODE == "threads":
+                    # (in events it need not wait for the worker)
+                    self.assertGreater(seconds, 1)
                 self.assertLess(seconds, 2 + SLACK)
             self.assertEqual(silent.rest(), b"")
 

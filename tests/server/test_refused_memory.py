@@ -2,7 +2,7 @@
 import itertools
 from pathlib import Path
 
-from parts import configuration, serve_words, stop
+from parts import configuration, only_in, serve_words, stop
 from ports import free_port, wait_until
 from refusing import RefusingTest
 from talk import Client, store, values
@@ -184,6 +184,7 @@ class RefusedMemory(RefusingTest):
             wait_until(lambda: server.count(b"version"), 10, "the server is probed")
             return rest_after(client, b"get a\r\nquit\r\n")
 
+    @only_in("threads", "which call is which is told of a worker that waits for the probe")
     def test_a_probe(self):
         """Where memory runs out in a probe, or in the request after it, the session ends. The probe is made again."""
         probes = []
@@ -199,3 +200,19 @@ class RefusedMemory(RefusingTest):
         # Refused are the text of the probe, which is then not sent, the room for the answer, more of it, and the
         # answer's text. The rest is of the request.
         self.assertEqual(probes, [1, 2, 2, 2] + [1] * (len(probes) - 4))
+
+    @only_in("events", "a probe is no part of a session there")
+    def test_a_probe_of_an_event_driven_worker(self):
+        """Where memory runs out in a probe, or in the request after it, the server is in use again all the same."""
+        ended = 0
+        for call in itertools.count(1):
+            reply, errors, probed, refused = self.probe_with(call)
+            self.assertIn(reply, (b"END\r\n", b"SERVER_ERROR no server\r\n", b""), f"call {call}")
+            self.assertGreater(probed, 0, f"call {call}")
+            if not refused:
+                break
+            ended += reply == b""
+            if reply == b"":
+                self.assertTrue(errors.endswith(NOTES), f"call {call}: {errors}")
+        self.assertEqual(reply, b"END\r\n")
+        self.assertGreater(ended, 0)

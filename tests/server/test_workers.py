@@ -1,10 +1,9 @@
 """How many clients are served at once, and the process as a whole: its end, its totals, its faults, what it holds."""
 import re
-import resource
 import socket
 import subprocess
 
-from parts import ServerTest, configuration, serve_words
+from parts import MODE_WORDS, PROGRAM, ServerTest, configuration, only_in
 from ports import HOST, free_port, wait_until
 from talk import store, values
 
@@ -15,6 +14,7 @@ KINDS = ["request", "attempt", "skip", "reply", "no-server", "probe"]
 
 
 class Workers(ServerTest):
+    @only_in("threads", "a worker serves one client at a time")
     def test_more_clients_than_workers(self):
         proxy = self.proxy(configuration(only=[self.memcached()]), threads=2)
         clients = [self.client(proxy.port) for _ in range(5)]
@@ -41,6 +41,7 @@ class Workers(ServerTest):
         for number, client in enumerate(clients):
             self.assertRegex(client.rest(), rb"^STORED\r\nVALUE a 0 \d+\r\n\d+\r\nEND\r\n$")
 
+    @only_in("threads", "it needs a worker for each; test_many_clients.py has more of them")
     def test_a_thousand_clients_at_once(self):
         self.allow_files(THREADS * (1 + 3) + 80)
         proxy = self.proxy(configuration(only=[self.memcached("-c", "2048")]), threads=THREADS, log="off")
@@ -55,15 +56,6 @@ class Workers(ServerTest):
         # All are still connected, and each is answered.
         for client in reversed(clients):
             self.assertEqual(client.ask(b"version\r\n"), VERSION)
-
-    def allow_files(self, count):
-        """This process and those that it starts may have so many files open, if the system allows it."""
-        before = resource.getrlimit(resource.RLIMIT_NOFILE)
-        self.addCleanup(resource.setrlimit, resource.RLIMIT_NOFILE, before)
-        soft, hard = before
-        wanted = count if hard == resource.RLIM_INFINITY else min(count, hard)
-        if soft != resource.RLIM_INFINITY and soft < wanted:
-            resource.setrlimit(resource.RLIMIT_NOFILE, (wanted, hard))
 
     def test_workers_overlap(self):
         def wait_for_b(_, request):
@@ -222,9 +214,8 @@ class Faults(ServerTest):
             self.assertEqual(client.ask(b"version\r\n"), VERSION)
 
     def ends_at_once(self, words, status, line):
-        program = serve_words(0, "", {})[0]
-        result = subprocess.run([program, "serve", *words], stdin=subprocess.DEVNULL, capture_output=True, timeout=20,
-                                check=False)
+        result = subprocess.run([PROGRAM, "serve", *MODE_WORDS, *words], stdin=subprocess.DEVNULL, capture_output=True,
+                                timeout=20, check=False)
         self.assertEqual((words, result.returncode, result.stdout), (words, status, b""))
         if line is not None:
             self.assertEqual((words, result.stderr), (words, line))
