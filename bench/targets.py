@@ -58,6 +58,10 @@ class Target:
             fields = file.read().rpartition(")")[2].split()
         return (int(fields[11]) + int(fields[12])) / TICKS
 
+    def resident_bytes(self):
+        with open(f"/proc/{self.process.pid}/statm", encoding="ascii") as file:
+            return int(file.read().split()[1]) * os.sysconf("SC_PAGE_SIZE")
+
     def pause(self):
         self.process.send_signal(signal.SIGSTOP)
 
@@ -79,10 +83,29 @@ def memcached(connections, threads=4, port=None):
                                 "-c", str(max(1024, 4 * connections + 64)), *user], port)
 
 
+# The most workers that a tkoproxy has.
+MOST_WORKERS = 1024
+
+
+def has_modes(program):
+    """Whether `serve` of this tkoproxy has `--mode`. An earlier one has none, and serves as that of threads."""
+    told = subprocess.run([program, "serve", "--help"], stdout=subprocess.PIPE, text=True, check=True).stdout
+    return "--mode" in told
+
+
 def tkoproxy(name, program, server, connections):
-    """The program with as many workers as there are connections."""
-    config = {"pools": {"all": {"servers": [server]}}, "route": "PoolRoute|all"}
-    return tkoproxy_of(name, program, config, ["--threads", str(connections)])
+    """The program with as many workers as there are connections, one for each."""
+    mode = ["--mode", "threads"] if has_modes(program) else []
+    return tkoproxy_of(name, program, config_of(server), [*mode, "--threads", str(connections)])
+
+
+def tkoproxy_events(name, program, server, workers):
+    """The program with so many event-driven workers."""
+    return tkoproxy_of(name, program, config_of(server), ["--mode", "events", "--threads", str(workers)])
+
+
+def config_of(server):
+    return {"pools": {"all": {"servers": [server]}}, "route": "PoolRoute|all"}
 
 
 def tkoproxy_of(name, program, config, options):
