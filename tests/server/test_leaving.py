@@ -6,11 +6,14 @@ import socket
 import struct
 import threading
 
-from parts import ServerTest, configuration
+from parts import MODE, ServerTest, configuration
 from ports import wait_until
 from talk import store, values
 
 THREADS = 4
+# How many KiB more may be resident once 800 more clients have left. What many clients of an event-driven worker hold at
+# once is not given back to the system at once: it went up and down between 14 and 31 MiB over 5,000 clients.
+MORE = 4096 if MODE == "threads" else 32 * 1024
 # How long a test waits for what comes at once on an idle machine.
 SLACK = 60
 KINDS = ["request", "attempt", "skip", "reply", "no-server", "probe"]
@@ -152,7 +155,7 @@ class Leaving(ServerTest):
         self.leave(proxy, 1000 - THREADS - 200 - 1)
         wait_until(lambda: proxy.files() == files, SLACK, f"no descriptor is open but the {files} of before")
         self.assertEqual(proxy.status("Threads"), tasks)
-        self.assertLess(proxy.status("VmRSS"), memory + 4096)
+        self.assertLess(proxy.status("VmRSS"), memory + MORE)
         with proxy.client(limit=SLACK) as last:
             self.assertEqual(proxy.marks_by(last), {self.far.address: "up:0"})
         asked = self.leavers.attempts + THREADS
