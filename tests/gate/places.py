@@ -62,8 +62,15 @@ def function_at(file, path, text):
     found = FUNCTION.match(rows[head])
     outer = above(rows, head, len(found[1]), IMPL)
     module = tuple(re.sub(r"^src/|(/mod|(^|/)lib|(^|/)main)?\.rt$", "", path).split("/"))
-    trait, argument, type = IMPL.match(rows[outer]).group(2, 3, 4) if outer is not None else ("", "", "")
+    trait, argument, type = IMPL.match(whole_head(rows, outer)).group(2, 3, 4) if outer is not None else ("", "", "")
     return Function(tuple(it for it in module if it), type, (trait or "") + (argument or ""), found[2])
+
+
+def whole_head(rows, at):
+    """Returns the head of the impl block that begins at this row, in one row, up to its brace."""
+    end = next(place for place in range(at, len(rows)) if rows[place].endswith("{"))
+    first, *others = rows[at : end + 1]
+    return " ".join([first, *(it.strip() for it in others)]).replace("< ", "<")
 
 
 def indent_of(row):
