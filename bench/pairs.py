@@ -54,8 +54,8 @@ listen bench
 def tkoproxy(program, near, far, connections):
     config = {"pools": {"near": {"servers": [near]}, "far": {"servers": [far], "soft_limit": 0}},
               "route": {"type": "FailoverRoute", "children": ["PoolRoute|near", "PoolRoute|far"]}}
-    options = {"--threads": connections, "--timeout": TIMEOUT, "--failures": FAILURES, "--first-delay": RETRY,
-               "--greatest-delay": RETRY}
+    workers = {"--mode": "events"} if targets.has_modes(program) else {"--threads": connections}
+    options = {**workers, "--timeout": TIMEOUT, "--failures": FAILURES, "--first-delay": RETRY, "--greatest-delay": RETRY}
     return targets.tkoproxy_of("tkoproxy", program, config, [str(word) for pair in options.items() for word in pair])
 
 

@@ -93,10 +93,20 @@ def has_modes(program):
     return "--mode" in told
 
 
-def tkoproxy(name, program, server, connections):
+def modes(program):
+    """The words for each mode that the program has, by its name."""
+    names = ["threads", "events"] if has_modes(program) else []
+    return {name: ["--mode", name] for name in names} or {"threads": []}
+
+
+def threads_mode(program):
+    """The words for workers each of which serves one client at a time."""
+    return modes(program)["threads"]
+
+
+def tkoproxy_threads(name, program, server, connections):
     """The program with as many workers as there are connections, one for each."""
-    mode = ["--mode", "threads"] if has_modes(program) else []
-    return tkoproxy_of(name, program, config_of(server), [*mode, "--threads", str(connections)])
+    return tkoproxy_of(name, program, config_of(server), [*threads_mode(program), "--threads", str(connections)])
 
 
 def tkoproxy_events(name, program, server, workers):
