@@ -1,7 +1,7 @@
 """What the tests run: memcached servers and the proxy, each on a free port of 127.0.0.1.
 
 Every process is ended by its own handle, also where a test fails. TKO_MODE is the proxy's `--mode`; without it the
-program has none of the word, and serves in its default mode."""
+program is given none, and serves in its default mode."""
 import atexit
 import json
 import os
@@ -18,7 +18,7 @@ from ports import HOST, free_port, is_open, wait_until
 from talk import Client
 
 PROGRAM = os.environ["TKOPROXY"]
-MODE = os.environ.get("TKO_MODE", "threads")
+MODE = os.environ.get("TKO_MODE", "events")
 MODE_WORDS = ["--mode", MODE] if "TKO_MODE" in os.environ else []
 # A line of the event log: its time, the event, and what is told of it.
 LOG_LINE = rb"\d{4}-\d\d-\d\dT\d\d:\d\d:\d\d\.\d{3}Z [a-z]+( [a-z]+=[^ \n]+)*"

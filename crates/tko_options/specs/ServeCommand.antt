@@ -6,7 +6,7 @@ use Rattle.clap.specs.declared.builder.value_parser.ValueParser.TheVariants as p
 use Rattle.tko_options.specs.CommandLine.{any_number, config_file_option, max_number, number_option, required_config, text_option, with_tracker}
 
 abbrev pub default_mode : Text
-default_mode = codes "threads"
+default_mode = codes "events"
 
 abbrev pub default_connections : Text
 default_connections = codes "0"

@@ -9,7 +9,7 @@ use crate::serve_command::{delay, from_one, limit};
 use clap::{Arg, Command, value_parser};
 use std::alloc::{AllocError, Global};
 
-const DEFAULT_MODE: &str = "threads";
+const DEFAULT_MODE: &str = "events";
 
 const DEFAULT_CONNECTIONS: &str = "0";
 
