@@ -1,4 +1,5 @@
 """What is measured: memcached, and the proxies before it, each on a port of its own."""
+import ipaddress
 import json
 import os
 import shutil
@@ -20,7 +21,7 @@ NUTCRACKER = """bench:
   preconnect: true
   server_connections: 1
   servers:
-   - {server}:1
+{servers}
 """
 
 HAPROXY = """global
@@ -73,14 +74,21 @@ class Target:
         self.process.wait()
 
 
-def memcached(connections, threads=4, port=None):
-    """So many from the load itself, and as many from each of three proxies, which keep theirs while another is measured.
-    memcached takes 1,024 unless it is told otherwise. It has room for 1,000 values of 1,000,000 bytes."""
+def hosts(count):
+    """So many addresses of this machine alone."""
+    return [str(ipaddress.IPv4Address(HOST) + place) for place in range(count)]
+
+
+def memcached(connections, threads=4, port=None, servers=1):
+    """So many from the load itself and from two proxies, which keep theirs while another is measured, and from a tkoproxy
+    with as many workers as many to each of these addresses, which make one memcached so many servers to a proxy; memcached
+    takes 1,024 unless it is told otherwise. It has room for 1,000 values of 1,000,000 bytes."""
     port = port or free_port()
     user = ["-u", "nobody"] if os.getuid() == 0 else []
-    return Target("memcached", ["memcached", "-l", HOST, "-p", str(port), "-U", "0", "-t", str(threads),
-                                "-m", "2048", "-I", "2m",
-                                "-c", str(max(1024, 4 * connections + 64)), *user], port)
+    return Target("memcached", ["memcached", "-l", ",".join(hosts(servers)), "-p", str(port), "-U", "0",
+                                "-t", str(threads), "-m", "2048", "-I", "2m",
+                                "-c", str(max(1024, (3 + servers) * connections + 16 * servers + 64)), *user],
+                  port)
 
 
 # The most workers that a tkoproxy has.
@@ -104,18 +112,18 @@ def threads_mode(program):
     return modes(program)["threads"]
 
 
-def tkoproxy_threads(name, program, server, connections):
+def tkoproxy_threads(name, program, servers, connections):
     """The program with as many workers as there are connections, one for each."""
-    return tkoproxy_of(name, program, config_of(server), [*threads_mode(program), "--threads", str(connections)])
+    return tkoproxy_of(name, program, config_of(servers), [*threads_mode(program), "--threads", str(connections)])
 
 
-def tkoproxy_events(name, program, server, workers):
+def tkoproxy_events(name, program, servers, workers):
     """The program with so many event-driven workers."""
-    return tkoproxy_of(name, program, config_of(server), ["--mode", "events", "--threads", str(workers)])
+    return tkoproxy_of(name, program, config_of(servers), ["--mode", "events", "--threads", str(workers)])
 
 
-def config_of(server):
-    return {"pools": {"all": {"servers": [server]}}, "route": "PoolRoute|all"}
+def config_of(servers):
+    return {"pools": {"all": {"servers": servers}}, "route": "PoolRoute|all"}
 
 
 def tkoproxy_of(name, program, config, options):
@@ -124,8 +132,8 @@ def tkoproxy_of(name, program, config, options):
     return Target(name, words, port)
 
 
-def nutcracker(server, folder):
-    return nutcracker_of(NUTCRACKER, folder, server=server)
+def nutcracker(servers, folder):
+    return nutcracker_of(NUTCRACKER, folder, servers="\n".join(f"   - {server}:1" for server in servers))
 
 
 def nutcracker_of(template, folder, **fields):

@@ -1,5 +1,5 @@
 """Requests for more than a worker should hold: the room of replies, and a proxy whose memory is limited."""
-from parts import MODE, ServerTest, configuration
+from parts import MODE, ServerTest, configuration, only_in
 from ports import wait_until
 from talk import store, values
 
@@ -57,12 +57,13 @@ class Memory(ServerTest):
             self.assert_values(client, 1)
             self.assertLess(proxy.status("VmHWM"), before + 1.5 * MIB)
 
-    def test_a_reply_larger_than_the_memory_ends_its_session_alone(self):
-        proxy = self.served(threads=2, memory=600 * MIB, connections=3)
+    def end_of_a_greedy_client(self, proxy, count):
+        """One client asks for so many values at once and gets nothing, and two others are answered. What the proxy, which
+        ends after these three, then has on standard error."""
         with proxy.client(limit=LIMIT) as other:
             self.assertEqual(other.ask(b"version\r\n"), VERSION)
             with proxy.client(limit=LIMIT) as greedy:
-                greedy.send(get_of(2000))
+                greedy.send(get_of(count))
                 self.assertEqual(greedy.rest(), b"")
             with proxy.client(limit=LIMIT) as later:
                 for client in (other, later):
@@ -70,7 +71,20 @@ class Memory(ServerTest):
                     self.assert_values(client, 3)
                     self.assertEqual(proxy.marks_by(client)[self.server.address], "up:0")
         self.assertEqual(proxy.end(LIMIT)[0], 0)
-        self.assertIn(b"note: memory ran out in a session or in a round\n", proxy.error_text())
+        return proxy.error_text()
+
+    def test_a_reply_larger_than_the_memory_ends_its_session_alone(self):
+        # (an event-driven worker holds no reply above 64 MiB)
+        memory, count = (600, 2000) if MODE == "threads" else (250, 60)
+        proxy = self.served(threads=2, memory=memory * MIB, connections=3)
+        self.assertIn(b"note: memory ran out in a session or in a round\n", self.end_of_a_greedy_client(proxy, count))
+
+    @only_in("events", "the replies of a worker have no bound in threads")
+    def test_a_reply_above_the_bound_of_its_worker_ends_its_session_alone(self):
+        proxy = self.served(threads=2, connections=3)
+        text = self.end_of_a_greedy_client(proxy, 2000)
+        self.assertIn(b"note: 1 of 3 sessions ended by a fault\n", text)
+        self.assertNotIn(b"memory ran out", text)
 
     def test_as_many_keys_as_a_line_may_have(self):
         # 65,536 bytes with the CR.
