@@ -1,5 +1,5 @@
 -- What an accept came to, and why accepting ends.
-use Rattle.std.specs.Prelude.{◌≡◌, ◌≤◌, ◌<◌, ◌⊎◌, ◌+◌, ◌-◌, ◌^◌, ◌↔◌, ℕ, pos, min, Bool, true, false, Result, Ok, Err, Some}
+use Rattle.std.specs.Prelude.{◌≡◌, ◌≤◌, ◌<◌, ◌⊎◌, ◌+◌, ◌-◌, ◌^◌, ◌↔◌, ℕ, ℤ, pos, min, Bool, true, false, Result, Ok, Err, Some}
 use Rattle.std.specs.IoError.{raw_os_error}
 use Rattle.std.specs.declared.io.Error.{Error}
 use Rattle.std.specs.declared.io.ErrorKind.{ErrorKind}
@@ -11,11 +11,21 @@ use Rattle.tko_accept.specs.declared.listening.AcceptStop.{AcceptStop}
 use Rattle.tko_accept.specs.declared.listening.AcceptStop.TheVariants as stop
 use Rattle.tko_accept.specs.declared.listening.Listening.{Listening}
 
--- the error of an accept at what is no listener: no open descriptor, a socket that does not listen,
--- or no socket
+-- the errors that Linux calls EBADF, EINVAL and ENOTSOCK: no open descriptor, a socket that does not
+-- listen, and no socket
+abbrev pub bad_descriptor : ℤ
+bad_descriptor = pos 9
+
+abbrev pub does_not_listen : ℤ
+does_not_listen = pos 22
+
+abbrev pub no_socket : ℤ
+no_socket = pos 88
+
+-- the error of an accept at what is no listener
 abbrev pub IsBroken : Error → Type 0
-IsBroken error = (raw_os_error error ≡ Some (pos 9)) ⊎ (raw_os_error error ≡ Some (pos 22))
-    ⊎ (raw_os_error error ≡ Some (pos 88))
+IsBroken error = (raw_os_error error ≡ Some bad_descriptor)
+    ⊎ (raw_os_error error ≡ Some does_not_listen) ⊎ (raw_os_error error ≡ Some no_socket)
 
 -- what any other error of an accept is
 abbrev pub stop_of_kind : ErrorKind → AcceptStop

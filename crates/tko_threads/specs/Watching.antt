@@ -5,12 +5,16 @@ use Rattle.tko_threads.specs.declared.watch.Turn.{Turn}
 use Rattle.tko_threads.specs.declared.watch.Turn.TheVariants.{Read, Idle, Over}
 use Rattle.tko_threads.specs.declared.watch.Watch.{Watch}
 
+-- for how many milliseconds at most a worker waits for its client until it looks at the time again
+abbrev pub longest_wait : ℕ
+longest_wait = 100
+
 -- whose turn it is at this moment: the client's time is over where it has a limit, and completed no
--- request for so long; a round is due 100 ms after the last one ended; else bytes are read
+-- request for so long; a round is due so long after the last one ended; else bytes are read
 abbrev pub turn_at : Watch → ℕ → Turn
 turn_at watch now =
     if is_over watch.limit watch.since now then Over
-    else (if nat_lt (now - watch.rounded) 100 then Read else Idle)
+    else (if nat_lt (now - watch.rounded) longest_wait then Read else Idle)
 
 -- a round begins at an idle turn
 abbrev pub resting : ℕ → Watch → Watch

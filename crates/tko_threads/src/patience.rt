@@ -1,5 +1,6 @@
 //! How long a server waits for a client.
 ghost use Rattle.std.specs.Prelude.{◌≡◌, ◌==◌, if◌then◌else◌, min};
+ghost use Rattle.tko_threads.specs.Watching.{longest_wait};
 
 use crate::keepalive::keep_alive;
 use std::io;
@@ -22,7 +23,8 @@ pub struct Patience {
 impl Patience {
     /// How long one read waits.
     fn read_turn(self) -> u32
-        ensures { result ≡ (if self.idle_timeout == 0 then 100 else min self.idle_timeout 100) }
+        ensures { result ≡ (if self.idle_timeout == 0 then longest_wait
+            else min self.idle_timeout longest_wait) }
     {
         if self.idle_timeout == 0 {
             return IDLE;
@@ -32,7 +34,7 @@ impl Patience {
 
     /// How long one write waits.
     fn write_turn(self) -> u32
-        ensures { result ≡ min self.write_timeout 100 }
+        ensures { result ≡ min self.write_timeout longest_wait }
     {
         self.write_timeout.min(IDLE)
     }
