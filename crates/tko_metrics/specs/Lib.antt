@@ -1,3 +1,4 @@
+pub mod Loads
 pub mod Marks
 pub mod Meters
 pub mod Metrics

@@ -35,6 +35,9 @@ name_of metric.ServerSends = codes "tkoproxy_server_sends_total"
 name_of metric.ServerProbes = codes "tkoproxy_server_probes_total"
 name_of metric.ServerMarked = codes "tkoproxy_server_marked"
 name_of metric.MarkedSince = codes "tkoproxy_server_marked_timestamp_seconds"
+name_of metric.WorkerClients = codes "tkoproxy_worker_clients"
+name_of metric.WorkerConnections = codes "tkoproxy_worker_connections"
+name_of metric.WorkerWaiting = codes "tkoproxy_worker_waiting_bytes"
 name_of metric.Descriptors = codes "process_open_fds"
 name_of metric.DescriptorLimit = codes "process_max_fds"
 name_of metric.Memory = codes "process_resident_memory_bytes"
@@ -57,6 +60,11 @@ help_of metric.ServerProbes = codes "Probes of the server."
 help_of metric.ServerMarked =
     codes "1 where the server has this mark, and is out of use, and else 0."
 help_of metric.MarkedSince = codes "When a server that is marked was marked."
+help_of metric.WorkerClients = codes "Clients that this event-driven worker serves."
+help_of metric.WorkerConnections =
+    codes "Connections of this event-driven worker to servers, made or being made."
+help_of metric.WorkerWaiting =
+    codes "Bytes of replies that wait for the clients of this event-driven worker to take them."
 help_of metric.Descriptors = codes "Open file descriptors."
 help_of metric.DescriptorLimit =
     codes "How many file descriptors the process could have open at its start."
@@ -78,6 +86,9 @@ kind_of metric.ServerSends = Counter
 kind_of metric.ServerProbes = Counter
 kind_of metric.ServerMarked = Gauge
 kind_of metric.MarkedSince = Gauge
+kind_of metric.WorkerClients = Gauge
+kind_of metric.WorkerConnections = Gauge
+kind_of metric.WorkerWaiting = Gauge
 kind_of metric.Descriptors = Gauge
 kind_of metric.DescriptorLimit = Gauge
 kind_of metric.Memory = Gauge

@@ -1,5 +1,5 @@
 -- The page of a server's metrics.
-use Rattle.std.specs.Prelude.{◌≡◌, ℕ, ◌^◌, ◌-◌, min, List, [], ◌++◌, Option, Some, None, codes, flat_map, map, sum_by}
+use Rattle.std.specs.Prelude.{◌≡◌, ℕ, ◌^◌, ◌-◌, min, List, [], ◌++◌, Option, Some, None, codes, flat_map, map, option_map, sum_by}
 use Rattle.tko_metrics.specs.declared.metrics.Metric.{Metric}
 use Rattle.tko_metrics.specs.declared.metrics.Metric.TheVariants as metric
 use Rattle.tko_metrics.specs.declared.page.Page.{Page}
@@ -8,6 +8,7 @@ use Rattle.tko_metrics.specs.declared.reading.Sums.{Sums}
 use Rattle.tko_metrics.specs.declared.worker_meter.Ending.TheVariants as ending
 use Rattle.tko_metrics.specs.declared.worker_meter.Marking.{Marking}
 use Rattle.tko_metrics.specs.declared.worker_meter.Marking.TheVariants.{Up, Soft, Hard}
+use Rattle.tko_metrics.specs.Loads.{AreWorkersIf, known_loads}
 use Rattle.tko_metrics.specs.Samples.{head_of, kind_sample, mark_sample, moment_sample, server_sample, single}
 
 -- the clients, and the sessions that have ended
@@ -91,6 +92,10 @@ servers_text page =
     sends_text page.servers.items ++ probes_text page.servers.items
     ++ marks_text page.servers.items ++ moments_text page.servers.items
 
+-- what the workers serve, if they are event-driven
+abbrev pub workers_text : Page → List ℕ
+workers_text page = known_loads (option_map (λ workers. workers.items) page.workers)
+
 -- a metric whose number the system may not tell
 abbrev pub known_text : Metric → Option ℕ → List ℕ
 known_text metric (Some number) = single metric number
@@ -104,10 +109,13 @@ process_text page =
     ++ known_text metric.Memory page.memory
 
 abbrev pub page_text : Page → List ℕ
-page_text page = counts_text page ++ servers_text page ++ process_text page
+page_text page =
+    counts_text page ++ servers_text page ++ workers_text page ++ process_text page
 
--- the text is a page of some numbers, over servers of these addresses
-pub record IsPage (addresses : List (List ℕ)) (text : List ℕ) : Type 0 where
+-- the text is a page of some numbers, over servers of these addresses; where it shows workers, it
+-- shows each of so many
+pub record IsPage (addresses : List (List ℕ)) (count : ℕ) (text : List ℕ) : Type 0 where
   pub page : Page
   pub servers : map (λ server. server.address.now) page.servers.items ≡ addresses
+  pub workers : AreWorkersIf count (option_map (λ workers. workers.items) page.workers)
   pub text_is : text ≡ page_text page

@@ -21,6 +21,12 @@ kind_sample metric ending number =
     (name_of metric ++ codes "{kind=\"" ++ ending_word ending ++ codes "\"} ")
     ++ (decimal number ++ codes "\n")
 
+-- a sample of a worker
+unfoldable pub worker_sample : Metric → ℕ → ℕ → List ℕ
+worker_sample metric worker number =
+    (name_of metric ++ codes "{worker=\"" ++ decimal worker ++ codes "\"} ")
+    ++ (decimal number ++ codes "\n")
+
 -- a byte between the quotes of a label: a quote (34) and a backslash (92) have a backslash before
 -- them
 abbrev pub escaped_byte : ℕ → List ℕ

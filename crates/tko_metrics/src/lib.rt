@@ -4,10 +4,12 @@
 //! - `Meter`: the numbers of a server. Any thread may add to them, and none waits; a meter that is
 //!   off keeps nothing. `WorkerMeter` is one worker's part of it, and `Meter::page` the page.
 //! - `Ending`: how a session ended; `Marking`: the mark that a worker set.
+//! - `WorkerLoad`: what an event-driven worker serves.
 //! - `Process`: what the system says of the process: its memory and its descriptors.
 #![tactic(auto)]
 
 mod counter;
+mod load;
 mod meter;
 mod metrics;
 mod page;
@@ -15,7 +17,9 @@ mod process;
 mod reading;
 mod sample;
 mod worker_meter;
+mod workers;
 
+pub use load::WorkerLoad;
 pub use meter::Meter;
 pub use process::Process;
 pub use worker_meter::{Ending, Increase, Marking, WorkerMeter};

@@ -1,6 +1,8 @@
 //! The numbers of a server.
-ghost use Rattle.std.specs.Prelude.{◌≡◌, IfOk, map, string_bytes};
-ghost use Rattle.tko_metrics.specs.Meters.{HasParts};
+ghost use Rattle.std.specs.Prelude.{◌≡◌, IfOk, length, map, option_copied, option_map, string_bytes};
+ghost use Rattle.std.specs.Arc.{arc_value};
+ghost use Rattle.tko_metrics.specs.Loads.{AreWorkersIf};
+ghost use Rattle.tko_metrics.specs.Meters.{HasParts, parts_in};
 ghost use Rattle.tko_metrics.specs.Pages.{IsPage};
 
 use crate::counter::Counter;
@@ -8,6 +10,7 @@ use crate::page::Page;
 use crate::process::Process;
 use crate::reading::{Shown, Sums};
 use crate::worker_meter::{Numbers, WorkerMeter};
+use crate::workers::WorkerReading;
 use std::alloc::{AllocError, Global};
 use std::sync::atomic::{AtomicU64, Ordering};
 use std::sync::{Arc, Wait};
@@ -56,8 +59,10 @@ impl Shared {
         addresses: &'a [String],
         process: &Process,
     ) -> Result<Page<'a>, AllocError>
-        ensures { IfOk result (λ page. map (λ server. server.address.now) page.servers.items
+        ensures servers { IfOk result (λ page. map (λ server. server.address.now) page.servers.items
             ≡ map string_bytes addresses.now) }
+        ensures workers { IfOk result (λ page. AreWorkersIf (length self.now.workers.items)
+            (option_map (λ workers. workers.items) page.workers)) }
     {
         Ok(Page {
             connected: self.connected.get(),
@@ -65,6 +70,7 @@ impl Shared {
             dropped: self.dropped.get(),
             sums: Sums::of(self),
             servers: Shown::all(alloc, self, addresses)?,
+            workers: WorkerReading::all(alloc, self)?,
             descriptors: process.descriptors(),
             descriptor_limit: process.limit,
             memory: process.memory(alloc),
@@ -173,14 +179,16 @@ impl Meter {
         process: &Process,
     ) -> Result<Vec<u8>, NoMemory>
         ensures { IfOk result (λ text.
-            IsPage (map string_bytes addresses.now) text.items) }
+            IsPage (map string_bytes addresses.now) (parts_in self.now) text.items) }
     {
         let nothing = Shared::of(Vec::new(alloc));
         let shared = self.shared().unwrap_or(&nothing);
         shared.reading(alloc, addresses, process)?.text(alloc)
     }
 
-    fn shared(&self) -> Option<&Shared> {
+    fn shared(&self) -> Option<&Shared>
+        ensures { option_copied result ≡ option_map (λ shared. arc_value shared) self.now.shared }
+    {
         match &self.shared {
             Some(shared) => Some(shared),
             None => None,

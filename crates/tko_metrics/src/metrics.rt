@@ -27,6 +27,9 @@ pub(crate) enum Metric {
     ServerProbes,
     ServerMarked,
     MarkedSince,
+    WorkerClients,
+    WorkerConnections,
+    WorkerWaiting,
     Descriptors,
     DescriptorLimit,
     Memory,
@@ -46,6 +49,13 @@ impl Kind {
 /// The help text of `Metric::Dropped`.
 const DROPPED: &str =
     "Connections that were closed as they were accepted: no memory, or a socket's fault.";
+
+/// The help text of `Metric::WorkerConnections`.
+const CONNECTIONS: &str = "Connections of this event-driven worker to servers, made or being made.";
+
+/// The help text of `Metric::WorkerWaiting`.
+const WAITING: &str =
+    "Bytes of replies that wait for the clients of this event-driven worker to take them.";
 
 impl Metric {
     pub(crate) fn name(self) -> &'static str
@@ -67,6 +77,9 @@ impl Metric {
             Metric::ServerProbes => "tkoproxy_server_probes_total",
             Metric::ServerMarked => "tkoproxy_server_marked",
             Metric::MarkedSince => "tkoproxy_server_marked_timestamp_seconds",
+            Metric::WorkerClients => "tkoproxy_worker_clients",
+            Metric::WorkerConnections => "tkoproxy_worker_connections",
+            Metric::WorkerWaiting => "tkoproxy_worker_waiting_bytes",
             Metric::Descriptors => "process_open_fds",
             Metric::DescriptorLimit => "process_max_fds",
             Metric::Memory => "process_resident_memory_bytes",
@@ -95,6 +108,9 @@ impl Metric {
                 "1 where the server has this mark, and is out of use, and else 0."
             }
             Metric::MarkedSince => "When a server that is marked was marked.",
+            Metric::WorkerClients => "Clients that this event-driven worker serves.",
+            Metric::WorkerConnections => CONNECTIONS,
+            Metric::WorkerWaiting => WAITING,
             Metric::Descriptors => "Open file descriptors.",
             Metric::DescriptorLimit => {
                 "How many file descriptors the process could have open at its start."
@@ -122,6 +138,9 @@ impl Metric {
             Metric::ServerProbes => Kind::Counter,
             Metric::ServerMarked => Kind::Gauge,
             Metric::MarkedSince => Kind::Gauge,
+            Metric::WorkerClients => Kind::Gauge,
+            Metric::WorkerConnections => Kind::Gauge,
+            Metric::WorkerWaiting => Kind::Gauge,
             Metric::Descriptors => Kind::Gauge,
             Metric::DescriptorLimit => Kind::Gauge,
             Metric::Memory => Kind::Gauge,

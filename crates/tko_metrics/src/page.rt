@@ -1,11 +1,12 @@
 //! The page of a server's metrics.
 ghost use Rattle.std.specs.Prelude.{◌≡◌, ◌++◌, IfOk, OnOk};
-ghost use Rattle.tko_metrics.specs.Pages.{clients_text, counts_text, faults_text, hard_flag, known_text, marks_of, marks_text, moment_of, moments_text, page_text, probes_in_all, probes_text, process_text, requests_text, sends_text, servers_text, soft_flag};
+ghost use Rattle.tko_metrics.specs.Pages.{clients_text, counts_text, faults_text, hard_flag, known_text, marks_of, marks_text, moment_of, moments_text, page_text, probes_in_all, probes_text, process_text, requests_text, sends_text, servers_text, soft_flag, workers_text};
 
 use crate::metrics::Metric;
 use crate::reading::{Shown, Sums};
 use crate::sample::{add_of_kind, add_of_mark, add_of_moment, add_of_server, add_single, begin};
 use crate::worker_meter::{Ending, Marking};
+use crate::workers::{WorkerReading, add_loads};
 use std::alloc::Global;
 use tko_bytes::NoMemory;
 
@@ -17,6 +18,8 @@ pub(crate) struct Page<'a> {
     pub(crate) dropped: u64,
     pub(crate) sums: Sums,
     pub(crate) servers: Vec<Shown<'a>>,
+    /// The workers, if they are event-driven.
+    pub(crate) workers: Option<Vec<WorkerReading>>,
     pub(crate) descriptors: Option<u64>,
     pub(crate) descriptor_limit: Option<u64>,
     pub(crate) memory: Option<u64>,
@@ -30,6 +33,7 @@ impl Page<'_> {
         let mut out = Vec::new(alloc);
         self.add_counts(&mut out)?;
         self.add_servers(&mut out)?;
+        self.add_workers(&mut out)?;
         self.add_process(&mut out)?;
         Ok(out)
     }
@@ -62,6 +66,15 @@ impl Page<'_> {
         add_probes(out, &self.servers)?;
         add_marks(out, &self.servers)?;
         add_moments(out, &self.servers)
+    }
+
+    fn add_workers(&self, out: &mut Vec<u8>) -> Result<(), NoMemory>
+        ensures { OnOk result (out.new.items ≡ out.old.items ++ workers_text self.now) }
+    {
+        match &self.workers {
+            Some(workers) => add_loads(out, workers),
+            None => Ok(()),
+        }
     }
 
     #[tactic(auto, unfolding(crate::specs::Pages::process_text))]

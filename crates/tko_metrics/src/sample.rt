@@ -1,6 +1,6 @@
 //! The text format of Prometheus.
 ghost use Rattle.std.specs.Prelude.{◌≡◌, ◌++◌, OnOk, decimal};
-ghost use Rattle.tko_metrics.specs.Samples.{escaped_byte, head_of, kind_sample, mark_sample, moment_sample, sample_front, seconds_text, server_sample, single, three_digits};
+ghost use Rattle.tko_metrics.specs.Samples.{escaped_byte, head_of, kind_sample, mark_sample, moment_sample, sample_front, seconds_text, server_sample, single, three_digits, worker_sample};
 
 use crate::metrics::Metric;
 use crate::worker_meter::Ending;
@@ -55,6 +55,23 @@ pub(crate) fn add_of_kind(
         ],
     )?;
     append(out, &[digits.format(number).as_bytes(), b"\n"])
+}
+
+/// Appends a sample of a worker.
+#[tactic(auto, unfolding(crate::specs::Samples::worker_sample))]
+pub(crate) fn add_of_worker(
+    out: &mut Vec<u8>,
+    metric: Metric,
+    worker: u64,
+    number: u64,
+) -> Result<(), NoMemory>
+    ensures { OnOk result (out.new.items ≡ out.old.items ++ worker_sample metric worker number) }
+{
+    append(out, &[metric.name().as_bytes(), b"{worker=\""])?;
+    add_digits(out, worker)?;
+    append(out, &[b"\"} "])?;
+    add_digits(out, number)?;
+    append(out, &[b"\n"])
 }
 
 /// Appends a sample of a server.

@@ -4,6 +4,7 @@ ghost use Rattle.tko_metrics.specs.Marks.{is_mark, number_of, since_after};
 ghost use Rattle.tko_metrics.specs.Metrics.{ending_word};
 
 use crate::counter::Counter;
+use crate::load::{LoadNumbers, WorkerLoad};
 use crate::reading::ServerReading;
 use std::alloc::{AllocError, Global};
 use std::sync::Arc;
@@ -66,6 +67,7 @@ pub(crate) struct Numbers {
     pub(crate) line_faults: Counter,
     pub(crate) memory_faults: Counter,
     pub(crate) servers: Vec<ServerNumbers>,
+    pub(crate) load: LoadNumbers,
 }
 
 /// What one worker counts of a server, and the mark that it has on it.
@@ -104,6 +106,7 @@ impl Numbers {
             line_faults: Counter::new(),
             memory_faults: Counter::new(),
             servers: each,
+            load: LoadNumbers::new(),
         })
     }
 }
@@ -248,6 +251,13 @@ impl WorkerMeter {
     pub fn set_mark(&self, server: usize, mark: Marking, moment: u64) {
         if let Some(server) = self.server(server) {
             server.set_mark(mark, moment);
+        }
+    }
+
+    /// The worker is event-driven, and this is its load now.
+    pub fn set_load(&self, load: WorkerLoad) {
+        if let Some(numbers) = &self.numbers {
+            numbers.load.set(load);
         }
     }
 

@@ -49,10 +49,11 @@ fields_for Page = close_field ∷ type_field ∷ []
 fields_for NotAllowed = close_field ∷ allow_field ∷ []
 fields_for NotFound = close_field ∷ []
 
--- a page of these addresses was put behind what the body had
+-- a page of these addresses and of some workers was put behind what the body had
 pub record HasPage (addresses : List (List ℕ)) (before after : List ℕ) : Type 0 where
   pub page : List ℕ
-  pub is_page : IsPage addresses page
+  pub workers : ℕ
+  pub is_page : IsPage addresses workers page
   pub body : after ≡ before ++ page
 
 -- the response is this answer; nothing but a page has a body
