@@ -34,6 +34,14 @@ impl Session {
         }
     }
 
+    /// How many bytes of the replies are held: of those that may be written, and of the one that is
+    /// under way.
+    pub fn held(&self) -> usize
+        ensures { result ≡ length self.now.outbox }
+    {
+        self.outbox.len()
+    }
+
     /// Whether the replies reached the bound, so that they are to be written first.
     pub fn is_full(&self) -> bool
         ensures { IsTrue result ↔ (reply_bound ≤ length self.now.outbox) }
