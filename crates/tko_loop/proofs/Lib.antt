@@ -1,1 +1,2 @@
+mod BoundLemmas
 mod WalkLemmas

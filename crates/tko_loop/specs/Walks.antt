@@ -90,6 +90,12 @@ waiting_by (Some progress) = progress.waiting
 abbrev pub waiting_at : {L T : Type 0} → Sight L T → List (Option (Client (Guest L T))) → ℕ → ℕ
 waiting_at sight slots number = waiting_by (progress_at sight slots number)
 
+-- how many it is for each of the first clients was noted
+abbrev pub AreWaits : {L T : Type 0} → Sight L T → List (Option (Client (Guest L T))) → List ℕ
+    → Type 0
+AreWaits sight slots waits = (number waiting : ℕ) → slice_get waits number ≡ Some waiting
+    → waiting ≡ waiting_at sight slots number
+
 -- and how many of all numbers below one
 abbrev pub waiting_below : {L T : Type 0} → Sight L T → List (Option (Client (Guest L T))) → ℕ → ℕ
 waiting_below sight slots zero = 0

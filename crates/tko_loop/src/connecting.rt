@@ -23,6 +23,9 @@ pub(crate) fn connect_all<R: IoRuntime, P, T: Talking<P> + Drop, K: Drop>(
     ensures order { IsInOrder (T.awaited, T.talk, held_port) T.ready worker.new.clients }
 {
     for server in 0..servers.len() {
+        if !worker.is_awake(server) {
+            continue;
+        }
         if worker.wants(server) {
             let token = server_token(servers.len(), server);
             connect(rt, worker, &mut servers[server], server, registry, token);

@@ -299,9 +299,9 @@ impl<P, T: Talking<P> + Drop, K: Drop> EventLoop<T, P, K> {
         let buffer = self.buffer.as_mut_slice();
         self.worker.serve(alloc, buffer, self.moment, due);
         host.round(alloc, &mut self.worker, self.moment, due);
-        let rests = self.worker.finish(self.moment);
-        let may_wait = rests && intake != Intake::More;
-        self.pause = pause_after(&self.worker, &self.servers, may_wait, self.moment);
+        let mut ahead = self.worker.finish(self.moment);
+        ahead.rests &= intake != Intake::More;
+        self.pause = pause_after(&self.worker, &self.servers, ahead, self.moment);
     }
 
     /// The parts that all sessions shared, at the end. The clients, the connections to the servers

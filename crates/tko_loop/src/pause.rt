@@ -1,7 +1,7 @@
 //! How long the poll may wait.
 ghost use Rattle.std.specs.Prelude.{◌≡◌, ◌<◌, ◌≤◌, ℕ, [], true, length, slice_get};
-ghost use Rattle.std.specs.Bool.{OnTrue};
-ghost use Rattle.tko_worker.specs.Turns.{ServersRest};
+ghost use Rattle.std.specs.Bool.{OnFalse, OnTrue};
+ghost use Rattle.tko_worker.specs.Turns.{IsNextDue, NoneWanted, ServersRest};
 ghost use Rattle.tko_loop.specs.Addresses.{IsLookedUp};
 ghost use Rattle.tko_loop.specs.Held.{held_port};
 ghost use Rattle.tko_loop.specs.Pauses.{longest, longest_look_up, pause_of};
@@ -9,7 +9,7 @@ ghost use Rattle.tko_loop.specs.Waits.{IsWantedAt, MayWait};
 
 use crate::{Addresses, Held};
 use tko_port::Talking;
-use tko_worker::EventWorker;
+use tko_worker::{EventWorker, Outlook};
 
 /// The longest wait, in milliseconds. A turn without events follows it, for what goes by the clock.
 const IDLE: u64 = 100;
@@ -17,32 +17,38 @@ const IDLE: u64 = 100;
 /// The longest wait while the addresses of a server are looked up.
 const LOOK_UP: u64 = 10;
 
-/// How many milliseconds the poll may wait after a turn of this moment, at whose end the worker and
-/// the way of clients rest or not. A connection that is wanted is begun in the next turn, so that
-/// does not wait.
+/// How many milliseconds the poll may wait after a turn of this moment, at whose end this lies ahead
+/// of the worker, and more clients may wait to be taken in or not. A connection that is wanted is
+/// begun in the next turn, so that does not wait.
 pub(crate) fn pause_after<P, T: Talking<P> + Drop, K: Drop>(
     worker: &EventWorker<Held<K>, T, P>,
     servers: &Vec<Addresses>,
-    rests: bool,
+    ahead: Outlook,
     now: u64,
 ) -> u64
     requires touched { worker.now.clients.touched ≡ [] }
-    requires spent { OnTrue rests (worker.now.clients.spent ≡ []) }
-    requires servers { OnTrue rests (ServersRest held_port now worker.now.clients.mux.lines
+    requires spent { OnTrue ahead.rests (worker.now.clients.spent ≡ []) }
+    requires servers { OnTrue ahead.rests (ServersRest held_port now worker.now.clients.mux.lines
+        worker.now.peers.items (length worker.now.peers.items)) }
+    requires due { IsNextDue worker.now.clients.mux.lines (length worker.now.peers.items)
+        ahead.due }
+    requires wants { OnFalse ahead.wants (NoneWanted held_port worker.now.clients.mux.lines
         worker.now.peers.items (length worker.now.peers.items)) }
     ensures { MayWait now result servers.now.items worker.now }
 {
-    let most = longest_wait(worker, servers, rests);
-    pause_of(most, worker.next_due(), now)
+    let most = longest_wait(worker, servers, ahead);
+    pause_of(most, ahead.due, now)
 }
 
-/// How long the poll may wait for the servers, where all else rests or not.
+/// How long the poll may wait, where no response is due.
 fn longest_wait<P, T: Talking<P> + Drop, K: Drop>(
     worker: &EventWorker<Held<K>, T, P>,
     servers: &Vec<Addresses>,
-    rests: bool,
+    ahead: Outlook,
 ) -> u64
-    ensures rests { 0 < result → rests ≡ true }
+    requires wants { OnFalse ahead.wants (NoneWanted held_port worker.now.clients.mux.lines
+        worker.now.peers.items (length worker.now.peers.items)) }
+    ensures rests { 0 < result → ahead.rests ≡ true }
     ensures begun { 0 < result → (server : ℕ) → server < length servers.now.items
         → server < length worker.now.peers.items → IsWantedAt worker.now server
         → IsLookedUp (slice_get servers.now.items server) }
@@ -51,8 +57,11 @@ fn longest_wait<P, T: Talking<P> + Drop, K: Drop>(
         → result ≤ longest_look_up }
     ensures within { result ≤ longest }
 {
-    if !rests {
+    if !ahead.rests {
         return 0;
+    }
+    if !ahead.wants {
+        return IDLE;
     }
     let mut most = IDLE;
     for server in 0..servers.len() {

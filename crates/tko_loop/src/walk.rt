@@ -1,13 +1,16 @@
 //! The walk over the clients, each of which is to keep its limits.
-ghost use Rattle.std.specs.Prelude.{◌≡◌, ◌≤◌, ◌⊎◌, length};
+ghost use Rattle.std.specs.Prelude.{◌≡◌, ◌≤◌, ◌⊎◌, [], length};
 ghost use Rattle.tko_roster.specs.Rosters.{session_at};
 ghost use Rattle.tko_worker.specs.Workers.{IsInOrder, OthersStay};
-ghost use Rattle.tko_loop.specs.Walks.{HasWalked, IsHeaviestIf, IsJudged, IsSeenIf, LeavesBy, progress_at, waiting_at, without};
+ghost use Rattle.tko_loop.specs.Walks.{AreWaits, HasWalked, IsHeaviestIf, IsJudged, IsSeenIf, LeavesBy, progress_at, waiting_at, without};
 
 use std::alloc::Global;
 use tko_pace::{ClientTime, Progress, Verdict};
 use tko_port::{End, Port, Talking};
 use tko_worker::Worker;
+
+/// How many clients leave for the bound in one walk at most.
+const LEAVERS: u32 = 256;
 
 /// Looks at each client. One that completed no request for `idle` milliseconds, or that took too
 /// little of its replies, is to leave.
@@ -107,6 +110,7 @@ fn progress_of<P, L: Port + Drop, T: Talking<P> + Drop>(
 }
 
 /// While more bytes of replies wait than the bound, the client with the most of them is to leave.
+/// After 256 of them the others are left to the next walk.
 pub(crate) fn relieve<P, L: Port + Drop, T: Talking<P> + Drop>(
     clients: &mut Worker<L, T, P>,
     alloc: Global,
@@ -115,27 +119,71 @@ pub(crate) fn relieve<P, L: Port + Drop, T: Talking<P> + Drop>(
     requires order { IsInOrder (T.awaited, T.talk, L.port) T.ready clients.old }
     ensures order { IsInOrder (T.awaited, T.talk, L.port) T.ready clients.new }
 {
-    for _ in 0..clients.numbers() {
-        let Some(number) = heaviest(clients, bound) else {
+    let mut waits = Vec::new(alloc);
+    if heaviest(clients, waits.as_slice(), bound).is_none() {
+        return;
+    }
+    note_waits(clients, &mut waits);
+    for _ in 0..LEAVERS {
+        let Some(number) = heaviest(clients, waits.as_slice(), bound) else {
             return;
         };
-        end(clients, alloc, number, End::WriteFailed);
+        dismiss(clients, &mut waits, alloc, number);
     }
+}
+
+/// Notes how many bytes wait for each client, as far as there is memory for that.
+fn note_waits<P, L: Port + Drop, T: Talking<P> + Drop>(
+    clients: &Worker<L, T, P>,
+    waits: &mut Vec<usize>,
+)
+    requires none { waits.old.items ≡ [] }
+    ensures noted { AreWaits (T.awaited, T.talk, L.port) clients.now.mux.roster.slots
+        waits.new.items }
+{
+    for number in 0..clients.numbers() {
+        if waits.push(waiting_of(clients, number)).is_err() {
+            return;
+        }
+    }
+}
+
+/// Has a client leave for the bound. None of its bytes wait any more.
+fn dismiss<P, L: Port + Drop, T: Talking<P> + Drop>(
+    clients: &mut Worker<L, T, P>,
+    waits: &mut [usize],
+    alloc: Global,
+    number: usize,
+)
+    requires waits { AreWaits (T.awaited, T.talk, L.port) clients.old.mux.roster.slots waits.old }
+    requires order { IsInOrder (T.awaited, T.talk, L.port) T.ready clients.old }
+    ensures waits { AreWaits (T.awaited, T.talk, L.port) clients.new.mux.roster.slots waits.new }
+    ensures leaves { LeavesBy End.WriteFailed
+        (session_at clients.new.mux.roster.slots number) }
+    ensures order { IsInOrder (T.awaited, T.talk, L.port) T.ready clients.new }
+{
+    end(clients, alloc, number, End::WriteFailed);
+    if waits.len() <= number {
+        return;
+    }
+    waits[number] = 0;
 }
 
 /// The client with the most bytes that wait, where more wait than the bound.
 fn heaviest<P, L: Port + Drop, T: Talking<P> + Drop>(
     clients: &Worker<L, T, P>,
+    waits: &[usize],
     bound: usize,
 ) -> Option<usize>
+    requires waits { AreWaits (T.awaited, T.talk, L.port) clients.now.mux.roster.slots waits.now }
     ensures { IsHeaviestIf (T.awaited, T.talk, L.port) clients.now.mux.roster.slots bound
         result }
 {
     let mut left = Some(bound);
     let mut most = 0;
     for number in 0..clients.numbers() {
-        left = without(left, waiting_of(clients, number));
-        most = heavier(clients, most, number);
+        left = without(left, waiting_in(clients, waits, number));
+        most = heavier(clients, waits, most, number);
     }
     match left {
         Some(_) => None,
@@ -146,19 +194,37 @@ fn heaviest<P, L: Port + Drop, T: Talking<P> + Drop>(
 /// The one of two clients with more bytes that wait.
 fn heavier<P, L: Port + Drop, T: Talking<P> + Drop>(
     clients: &Worker<L, T, P>,
+    waits: &[usize],
     one: usize,
     other: usize,
 ) -> usize
+    requires waits { AreWaits (T.awaited, T.talk, L.port) clients.now.mux.roster.slots waits.now }
     ensures one { waiting_at (T.awaited, T.talk, L.port) clients.now.mux.roster.slots one
         ≤ waiting_at (T.awaited, T.talk, L.port) clients.now.mux.roster.slots result }
     ensures other { waiting_at (T.awaited, T.talk, L.port) clients.now.mux.roster.slots other
         ≤ waiting_at (T.awaited, T.talk, L.port) clients.now.mux.roster.slots result }
     ensures either { (result ≡ one) ⊎ (result ≡ other) }
 {
-    if waiting_of(clients, one) < waiting_of(clients, other) {
+    if waiting_in(clients, waits, one) < waiting_in(clients, waits, other) {
         return other;
     }
     one
+}
+
+/// How many bytes of the replies of a number's client wait, as it was noted, or else as it is.
+fn waiting_in<P, L: Port + Drop, T: Talking<P> + Drop>(
+    clients: &Worker<L, T, P>,
+    waits: &[usize],
+    number: usize,
+) -> usize
+    requires waits { AreWaits (T.awaited, T.talk, L.port) clients.now.mux.roster.slots waits.now }
+    ensures { result
+        ≡ waiting_at (T.awaited, T.talk, L.port) clients.now.mux.roster.slots number }
+{
+    match waits.get(number) {
+        Some(waiting) => *waiting,
+        None => waiting_of(clients, number),
+    }
 }
 
 /// How many bytes of the replies of a number's client wait.

@@ -116,7 +116,7 @@ fn a_marked_server_comes_back_after_its_probe(rt: HostRuntime) -> Result<(), Fai
     assert!(rt; !worker.wants(0));
     rounds.run(alloc, &mut worker, 10_005, 10_405)?;
     assert!(rt; worker.wants(0));
-    assert_eq!(rt; worker.next_due(), Some(10_405));
+    assert_eq!(rt; worker.finish(10_005).due, Some(10_405));
     connect(alloc, &mut worker, b"VERSION 1\r\n".as_slice())?;
     serve(alloc, &mut worker);
     rounds.run(alloc, &mut worker, 10_006, 10_406)?;

@@ -1,4 +1,5 @@
 pub mod ActedLemmas
+mod AheadLemmas
 mod CountLemmas
 mod NotedLemmas
 mod ReachLemmas

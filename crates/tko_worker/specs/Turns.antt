@@ -1,12 +1,14 @@
 -- A turn of events of a worker as a whole: its clients and its servers.
-use Rattle.std.specs.Prelude.{◌≡◌, ◌≢◌, ◌<◌, ◌≤◌, nat_le, if◌then◌else◌, ℕ, false, List, Option, Some, None, slice_get}
+use Rattle.std.specs.Prelude.{◌≡◌, ◌≢◌, ◌<◌, ◌≤◌, nat_le, if◌then◌else◌, ℕ, false, List, [], Option, Some, None, slice_get}
+use Rattle.std.specs.Bool.{OnFalse, OnTrue}
 use Rattle.std.specs.Option.{option_and_then, option_map}
-use Rattle.tko_pipe.specs.declared.link.Link.TheVariants.{Connecting}
+use Rattle.tko_pipe.specs.declared.link.Link.TheVariants.{Connected, Connecting}
 use Rattle.tko_mux.specs.declared.asking.Came.{Came}
 use Rattle.tko_mux.specs.Lines.{LineState}
 use Rattle.tko_port.specs.declared.peer.Peer.{Peer}
 use Rattle.tko_port.specs.Ports.{PortState}
-use Rattle.tko_port.specs.Wires.{CannotRead, CannotWriteTo, IsOpen, due_at, first_at, is_first_late, link_at}
+use Rattle.tko_port.specs.Wires.{CannotRead, CannotWriteTo, IsNotReadable, IsOpen, due_at, first_at, is_first_late, link_at, unwritten_at}
+use Rattle.tko_worker.specs.declared.resting.Outlook.{Outlook}
 
 -- the port of the socket to a server, if there is one
 abbrev pub socket_at : {L : Type 0} → (L → PortState) → List (Peer L) → ℕ → Option PortState
@@ -60,3 +62,32 @@ abbrev pub earlier : Option ℕ → Option ℕ → Option ℕ
 earlier None other = other
 earlier (Some one) None = Some one
 earlier (Some one) (Some other) = if nat_le one other then Some one else Some other
+
+-- no connection to one of so many servers is to be begun
+abbrev pub NoneWanted : {L : Type 0} → (L → PortState) → List LineState → List (Peer L) → ℕ
+    → Type 0
+NoneWanted port lines peers count = (server : ℕ) → server < count
+    → IsWanted (slice_get lines server) (socket_at port peers server) → ⊥
+
+-- the connection to a server was made, nobody waits on it, and nothing can be read or is to be
+-- written
+pub record IsQuiet (line : Option LineState) (port : Option PortState) : Type 0 where
+  pub is_open : IsOpen line
+  pub link : link_at line ≡ Some Connected
+  pub read : IsNotReadable port
+  pub written : unwritten_at line ≡ []
+  pub nobody : first_at line ≡ None
+
+-- what lies ahead of a server at this moment
+pub record IsAhead (now : ℕ) (line : Option LineState) (port : Option PortState) (it : Outlook)
+    : Type 0 where
+  pub rests : OnTrue it.rests (ServerRests now line port)
+  pub due : it.due ≡ option_map (λ first. first.due) (first_at line)
+  pub wants : OnFalse it.wants (IsWanted line port → ⊥)
+
+-- and of so many servers
+pub record AreAhead {L : Type 0} (port : L → PortState) (now : ℕ) (lines : List LineState)
+    (peers : List (Peer L)) (count : ℕ) (it : Outlook) : Type 0 where
+  pub rests : OnTrue it.rests (ServersRest port now lines peers count)
+  pub due : IsNextDue lines count it.due
+  pub wants : OnFalse it.wants (NoneWanted port lines peers count)

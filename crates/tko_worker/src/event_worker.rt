@@ -4,12 +4,12 @@ ghost use Rattle.std.specs.Bool.{OnFalse, OnTrue};
 ghost use Rattle.tko_mux.specs.Muxes.{line_at};
 ghost use Rattle.tko_port.specs.Guests.{noting};
 ghost use Rattle.tko_worker.specs.Acts.{HasActed};
-ghost use Rattle.tko_worker.specs.Turns.{AreWritten, IsNextDue, IsWanted, OtherPeers, ServersRest, probed_at, socket_at};
-ghost use Rattle.tko_port.specs.Wires.{HasConnected, HasFailed, link_at};
+ghost use Rattle.tko_worker.specs.Turns.{AreAhead, AreWritten, IsAhead, IsNextDue, IsWanted, NoneWanted, OtherPeers, ServersRest, probed_at, socket_at};
+ghost use Rattle.tko_port.specs.Wires.{CannotWriteTo, HasConnected, HasFailed, IsOpen, OtherLines, link_at};
 ghost use Rattle.tko_worker.specs.Workers.{IsInOrder};
 
-use crate::Worker;
-use crate::resting::{is_at_rest, is_wanted, next_due};
+use crate::resting::{is_quiet, is_wanted, none_is_left};
+use crate::{Outlook, Worker};
 use std::alloc::Global;
 use tko_bytes::NoMemory;
 use tko_mux::Came;
@@ -23,6 +23,9 @@ use tko_port::{Event, Peer, Port, Shared, Talking, is_connecting};
 pub struct EventWorker<L, T, P> {
     pub clients: Worker<L, T, P>,
     peers: Vec<Peer<L>>,
+    /// Whether there may be something to do for a server: at the end of the last turn it was not at
+    /// rest or a response was awaited, or something came for it since.
+    awake: Vec<bool>,
 }
 
 impl<P: Drop, L: Port + Drop, T: Talking<P> + Drop> EventWorker<L, T, P> {
@@ -40,17 +43,28 @@ impl<P: Drop, L: Port + Drop, T: Talking<P> + Drop> EventWorker<L, T, P> {
         ensures parts { IfOk result (λ it. it.clients.mux.roster.parts ≡ shared) }
         ensures err { IfErr result (λ back. back ≡ shared) }
     {
-        let Ok(peers) = new_peers(alloc, servers) else {
+        let (Ok(peers), Ok(awake)) = (new_peers(alloc, servers), vec![in alloc; true; servers])
+        else {
             return Err(shared);
         };
         match Worker::new(alloc, shared, servers, limit) {
-            Ok(clients) => Ok(EventWorker { clients, peers }),
+            Ok(clients) => Ok(EventWorker {
+                clients,
+                peers,
+                awake,
+            }),
             Err(back) => Err(back),
         }
     }
 }
 
 impl<P, L: Port + Drop, T: Talking<P> + Drop> EventWorker<L, T, P> {
+    /// Whether there may be something to do for a server in this turn. Where there is not, no
+    /// connection to it is to be begun.
+    pub fn is_awake(&self, server: usize) -> bool {
+        is_set(self.awake.as_slice(), server)
+    }
+
     /// Whether a connection to a server is to be begun.
     pub fn wants(&self, server: usize) -> bool
         ensures wanted { OnTrue result (IsWanted (line_at self.now.clients.mux server)
@@ -77,6 +91,7 @@ impl<P, L: Port + Drop, T: Talking<P> + Drop> EventWorker<L, T, P> {
     {
         if self.wants(server) {
             self.peers[server].begin(port);
+            set(&mut self.awake, server, true);
         }
     }
 
@@ -96,6 +111,7 @@ impl<P, L: Port + Drop, T: Talking<P> + Drop> EventWorker<L, T, P> {
     {
         if server < self.peers.len() && server < self.clients.mux.servers() {
             self.clients.connect(&mut self.peers[server], server);
+            set(&mut self.awake, server, true);
         }
     }
 
@@ -112,6 +128,7 @@ impl<P, L: Port + Drop, T: Talking<P> + Drop> EventWorker<L, T, P> {
     {
         if server < self.peers.len() {
             self.clients.fail(&mut self.peers[server], server);
+            set(&mut self.awake, server, true);
         }
     }
 
@@ -146,6 +163,7 @@ impl<P, L: Port + Drop, T: Talking<P> + Drop> EventWorker<L, T, P> {
     {
         if server < self.peers.len() {
             self.peers[server].hold(false);
+            set(&mut self.awake, server, true);
         }
     }
 
@@ -159,6 +177,7 @@ impl<P, L: Port + Drop, T: Talking<P> + Drop> EventWorker<L, T, P> {
     {
         if server < self.peers.len() {
             self.peers[server].note(event);
+            set(&mut self.awake, server, true);
         }
     }
 
@@ -178,20 +197,16 @@ impl<P, L: Port + Drop, T: Talking<P> + Drop> EventWorker<L, T, P> {
         self.peers[server].take_probed()
     }
 
-    /// The first moment at which a response is due, if any is awaited: the next turn is to begin by
-    /// then.
-    pub fn next_due(&self) -> Option<u64>
-        ensures { IsNextDue self.now.clients.mux.lines (length self.now.peers.items) result }
-    {
-        next_due(&self.clients.mux, self.peers.len())
-    }
-
     /// The parts that all sessions shared, at the end. The clients and all sockets are dropped.
     pub fn into_parts(self) -> P
         ensures { result ≡ self.clients.mux.roster.parts.parts }
     {
-        let EventWorker { clients, peers } = self;
-        drop(peers);
+        let EventWorker {
+            clients,
+            peers,
+            awake,
+        } = self;
+        drop((peers, awake));
         clients.into_parts()
     }
 
@@ -217,18 +232,31 @@ impl<P, L: Port + Drop, T: Talking<P> + Drop> EventWorker<L, T, P> {
         ensures acted { HasActed (T.awaited, T.talk, L.port) self.old.clients self.new.clients }
         ensures order { IsInOrder (T.awaited, T.talk, L.port) T.ready self.new.clients }
     {
-        serve_all(&mut self.clients, &mut self.peers, alloc, buffer, now, due);
+        let awake = self.awake.as_slice();
+        serve_all(
+            &mut self.clients,
+            &mut self.peers,
+            awake,
+            alloc,
+            buffer,
+            now,
+            due,
+        );
         self.clients.end_turn(alloc, due);
     }
 
-    /// Writes to the servers what is asked of them, once, at the end of a turn. Returns whether
-    /// each server rests and no client is left for the next turn, so that this is to wait for
-    /// events.
-    pub fn finish(&mut self, now: u64) -> bool
+    /// Writes to the servers what is asked of them, once, at the end of a turn. Returns what lies
+    /// ahead of them then. Where each rests and no client is left for the next turn, that is to
+    /// wait for events, until the first response is due.
+    pub fn finish(&mut self, now: u64) -> Outlook
         requires { IsInOrder (T.awaited, T.talk, L.port) T.ready self.old.clients }
-        ensures rests { OnTrue result (ServersRest L.port now self.new.clients.mux.lines
+        ensures rests { OnTrue result.rests (ServersRest L.port now self.new.clients.mux.lines
             self.new.peers.items (length self.new.peers.items)) }
-        ensures none { OnTrue result (self.new.clients.spent ≡ []) }
+        ensures none { OnTrue result.rests (self.new.clients.spent ≡ []) }
+        ensures due { IsNextDue self.new.clients.mux.lines (length self.new.peers.items)
+            result.due }
+        ensures wants { OnFalse result.wants (NoneWanted L.port self.new.clients.mux.lines
+            self.new.peers.items (length self.new.peers.items)) }
         ensures touched { self.new.clients.touched ≡ self.old.clients.touched }
         ensures spent { self.new.clients.spent ≡ self.old.clients.spent }
         ensures ends { self.new.clients.ends ≡ self.old.clients.ends }
@@ -238,15 +266,22 @@ impl<P, L: Port + Drop, T: Talking<P> + Drop> EventWorker<L, T, P> {
         ensures count { length self.new.peers.items ≡ length self.old.peers.items }
         ensures order { IsInOrder (T.awaited, T.talk, L.port) T.ready self.new.clients }
     {
-        write_all(&mut self.clients, &mut self.peers);
-        is_at_rest(&self.clients, &self.peers, now)
+        let ahead = finish_all(&mut self.clients, &mut self.peers, &mut self.awake, now);
+        if none_is_left(&self.clients) {
+            return ahead;
+        }
+        Outlook {
+            rests: false,
+            ..ahead
+        }
     }
 }
 
-/// Serves each server.
+/// Serves each server for which there may be something to do.
 fn serve_all<P, L: Port + Drop, T: Talking<P> + Drop>(
     clients: &mut Worker<L, T, P>,
     peers: &mut Vec<Peer<L>>,
+    awake: &[bool],
     alloc: Global,
     buffer: &mut [u8],
     now: u64,
@@ -260,18 +295,26 @@ fn serve_all<P, L: Port + Drop, T: Talking<P> + Drop>(
     ensures order { IsInOrder (T.awaited, T.talk, L.port) T.ready clients.new }
 {
     for server in 0..peers.len() {
+        if !is_set(awake, server) {
+            continue;
+        }
         clients.serve_server(alloc, &mut peers[server], server, now, due, buffer);
     }
 }
 
-/// Writes to each server what is to be written.
-fn write_all<P, L: Port + Drop, T: Talking<P> + Drop>(
+/// Writes to each server what is to be written, and finds what lies ahead of them then, and for
+/// which of them there may be something to do in the next turn.
+fn finish_all<P, L: Port + Drop, T: Talking<P> + Drop>(
     clients: &mut Worker<L, T, P>,
     peers: &mut Vec<Peer<L>>,
-)
+    awake: &mut [bool],
+    now: u64,
+) -> Outlook
     requires order { IsInOrder (T.awaited, T.talk, L.port) T.ready clients.old }
     ensures written { AreWritten L.port clients.new.mux.lines peers.new.items
         (length peers.new.items) }
+    ensures ahead { AreAhead L.port now clients.new.mux.lines peers.new.items
+        (length peers.new.items) result }
     ensures touched { clients.new.touched ≡ clients.old.touched }
     ensures spent { clients.new.spent ≡ clients.old.spent }
     ensures ends { clients.new.ends ≡ clients.old.ends }
@@ -279,8 +322,53 @@ fn write_all<P, L: Port + Drop, T: Talking<P> + Drop>(
     ensures count { length peers.new.items ≡ length peers.old.items }
     ensures order { IsInOrder (T.awaited, T.talk, L.port) T.ready clients.new }
 {
+    let mut ahead = Outlook::clear();
     for server in 0..peers.len() {
-        clients.write(&mut peers[server], server);
+        let its = finish_one(clients, &mut peers[server], server, now);
+        set(awake, server, !its.is_quiet());
+        ahead = ahead.and(its);
+    }
+    ahead
+}
+
+/// Writes to a server what is to be written, and returns what lies ahead of it then.
+fn finish_one<P, L: Port + Drop, T: Talking<P> + Drop>(
+    clients: &mut Worker<L, T, P>,
+    peer: &mut Peer<L>,
+    server: usize,
+    now: u64,
+) -> Outlook
+    requires order { IsInOrder (T.awaited, T.talk, L.port) T.ready clients.old }
+    ensures wrote { IsOpen (line_at clients.new.mux server)
+        → CannotWriteTo (line_at clients.new.mux server) (option_map L.port peer.new.socket) }
+    ensures ahead { IsAhead now (line_at clients.new.mux server)
+        (option_map L.port peer.new.socket) result }
+    ensures others { OtherLines server clients.old.mux.lines clients.new.mux.lines }
+    ensures touched { clients.new.touched ≡ clients.old.touched }
+    ensures spent { clients.new.spent ≡ clients.old.spent }
+    ensures ends { clients.new.ends ≡ clients.old.ends }
+    ensures roster { clients.new.mux.roster ≡ clients.old.mux.roster }
+    ensures order { IsInOrder (T.awaited, T.talk, L.port) T.ready clients.new }
+{
+    if is_quiet(&clients.mux, peer, server) {
+        return Outlook::clear();
+    }
+    clients.write(peer, server);
+    Outlook::of(&clients.mux, peer, server, now)
+}
+
+/// Whether the flag of a server is set. One that has none counts as set.
+fn is_set(flags: &[bool], server: usize) -> bool {
+    match flags.get(server) {
+        Some(flag) => *flag,
+        None => true,
+    }
+}
+
+/// Sets the flag of a server, or clears it.
+fn set(flags: &mut [bool], server: usize, flag: bool) {
+    if server < flags.len() {
+        flags[server] = flag;
     }
 }
 

@@ -3,7 +3,8 @@
 //!
 //! - `Worker`: the clients, and which of them are to be served.
 //! - `EndCounts`: how many clients ended, by how they did.
-//! - `EventWorker`: the same with the servers.
+//! - `EventWorker`: the same with the servers; `Outlook`: what lies ahead of these at the end of a
+//!   turn.
 //! - `acts_compose`, `clients_act`: laws. What the clients did by several calls.
 #![tactic(auto)]
 
@@ -20,6 +21,7 @@ mod worker;
 pub use ends::EndCounts;
 pub use event_worker::EventWorker;
 pub use law::{acts_compose, clients_act};
+pub use resting::Outlook;
 pub use worker::Worker;
 
 #[cfg(test)]

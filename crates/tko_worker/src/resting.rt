@@ -1,14 +1,72 @@
 //! What is to be done for the servers of a worker, and when nothing is.
-ghost use Rattle.std.specs.Prelude.{◌≡◌, [], length, option_map};
+ghost use Rattle.std.specs.Prelude.{◌≡◌, ◌&&◌, ◌||◌, [], None, false, true, option_map};
 ghost use Rattle.std.specs.Bool.{OnFalse, OnTrue};
 ghost use Rattle.tko_mux.specs.Muxes.{line_at};
-ghost use Rattle.tko_worker.specs.Turns.{IsNextDue, IsWanted, ServerRests, ServersRest, earlier};
+ghost use Rattle.tko_worker.specs.Turns.{IsAhead, IsQuiet, IsWanted, ServerRests, earlier};
 
 use crate::Worker;
 use tko_mux::{Asking, Mux};
 use tko_port::{
     Peer, Port, Talking, first_due, has_unwritten, is_connected, is_connecting, is_late, is_open,
 };
+
+/// What lies ahead of a worker's servers at the end of a turn of events.
+#[derive(Clone, Copy, Debug, PartialEq, Eq)]
+pub struct Outlook {
+    /// Whether each server rests.
+    pub rests: bool,
+    /// The first moment at which a response is due, if any is awaited.
+    pub due: Option<u64>,
+    /// Whether a connection to one of them is to be begun.
+    pub wants: bool,
+}
+
+impl Outlook {
+    /// That of no server.
+    pub(crate) fn clear() -> Outlook
+        ensures { result ≡ record { rests = true; due = None; wants = false } }
+    {
+        Outlook {
+            rests: true,
+            due: None,
+            wants: false,
+        }
+    }
+
+    /// That of a server at this moment.
+    pub(crate) fn of<P, S: Asking<P> + Drop, L: Port + Drop>(
+        mux: &Mux<S, P>,
+        peer: &Peer<L>,
+        server: usize,
+        now: u64,
+    ) -> Outlook
+        ensures { IsAhead now (line_at mux.now server) (option_map L.port peer.now.socket) result }
+    {
+        Outlook {
+            rests: rests(mux, peer, server, now),
+            due: first_due(mux, server),
+            wants: is_wanted(mux, peer, server),
+        }
+    }
+
+    /// That of these servers and of others.
+    pub(crate) fn and(self, other: Outlook) -> Outlook
+        ensures rests { result.rests ≡ (self.rests && other.rests) }
+        ensures due { result.due ≡ earlier self.due other.due }
+        ensures wants { result.wants ≡ (self.wants || other.wants) }
+    {
+        Outlook {
+            rests: self.rests && other.rests,
+            due: earlier(self.due, other.due),
+            wants: self.wants || other.wants,
+        }
+    }
+
+    /// Whether there is nothing to do before the next event, also as time passes.
+    pub(crate) fn is_quiet(&self) -> bool {
+        self.rests && !self.wants && self.due.is_none()
+    }
+}
 
 /// Whether a connection to a server is to be begun.
 pub(crate) fn is_wanted<P, S: Asking<P> + Drop, L: Port + Drop>(
@@ -30,17 +88,6 @@ pub(crate) fn is_wanted<P, S: Asking<P> + Drop, L: Port + Drop>(
     is_connecting(mux, server)
 }
 
-/// The first moment at which a response of so many servers is due.
-pub(crate) fn next_due<P, S: Asking<P> + Drop>(mux: &Mux<S, P>, servers: usize) -> Option<u64>
-    ensures { IsNextDue mux.now.lines servers result }
-{
-    let mut next = None;
-    for server in 0..servers {
-        next = earlier(next, first_due(mux, server));
-    }
-    next
-}
-
 /// The first of two moments.
 fn earlier(one: Option<u64>, other: Option<u64>) -> Option<u64>
     ensures { result ≡ earlier one other }
@@ -54,37 +101,37 @@ fn earlier(one: Option<u64>, other: Option<u64>) -> Option<u64>
     }
 }
 
-/// Whether no client is served again in the next turn, and each server rests.
-pub(crate) fn is_at_rest<P, L: Port + Drop, T: Talking<P> + Drop>(
+/// Whether no client is served again in the next turn.
+pub(crate) fn none_is_left<P, L: Port + Drop, T: Talking<P> + Drop>(
     clients: &Worker<L, T, P>,
-    peers: &Vec<Peer<L>>,
-    now: u64,
 ) -> bool
-    ensures servers { OnTrue result (ServersRest L.port now clients.now.mux.lines peers.now.items
-        (length peers.now.items)) }
-    ensures spent { OnTrue result (clients.now.spent ≡ []) }
+    ensures { OnTrue result (clients.now.spent ≡ []) }
 {
-    if !all_rest(&clients.mux, peers, now) {
-        return false;
-    }
     clients.spent().is_empty()
 }
 
-/// Whether each server rests.
-fn all_rest<P, S: Asking<P> + Drop, L: Port>(
+/// Whether nobody waits for a server whose connection was made, and nothing can be read from it. So
+/// it is with most servers at the end of most turns.
+pub(crate) fn is_quiet<P, S: Asking<P> + Drop, L: Port>(
     mux: &Mux<S, P>,
-    peers: &Vec<Peer<L>>,
-    now: u64,
+    peer: &Peer<L>,
+    server: usize,
 ) -> bool
-    ensures { OnTrue result (ServersRest L.port now mux.now.lines peers.now.items
-        (length peers.now.items)) }
+    ensures { OnTrue result (IsQuiet (line_at mux.now server) (option_map L.port peer.now.socket)) }
 {
-    for server in 0..peers.len() {
-        if !rests(mux, &peers[server], server, now) {
-            return false;
-        }
+    if !is_connected(mux, server) {
+        return false;
     }
-    true
+    if has_unwritten(mux, server) {
+        return false;
+    }
+    if !is_open(mux, server) {
+        return false;
+    }
+    let Some(port) = &peer.socket else {
+        return false;
+    };
+    !port.is_readable() && first_due(mux, server).is_none()
 }
 
 /// Whether a server rests.

@@ -12,8 +12,8 @@ use std::alloc::Global;
 use tko_mux::Asking;
 use tko_pipe::ShutCause;
 use tko_port::{
-    Event, Guest, Peer, Port, Shared, Talking, is_connecting, is_late, is_open, read_wire,
-    write_wire,
+    Event, Guest, Peer, Port, Shared, Talking, has_unwritten, is_connecting, is_late, is_open,
+    read_wire, write_wire,
 };
 
 /// How often a server is read from in one turn. What is left is read in the next turn.
@@ -276,7 +276,7 @@ impl<P, L: Port + Drop, T: Talking<P> + Drop> Worker<L, T, P> {
         ensures held { IsHeld (option_map L.port peer.new.socket) (line_at self.new.mux server) }
         ensures order { IsInOrder (T.awaited, T.talk, L.port) T.ready self.new }
     {
-        if is_open(&self.mux, server) {
+        if has_unwritten(&self.mux, server) && is_open(&self.mux, server) {
             write_wire(&mut self.mux, &mut peer.socket, server);
         }
         peer.hold(is_open(&self.mux, server));

@@ -358,7 +358,7 @@ fn end_turn<P, L: Port + Drop, T: Talking<P> + Drop>(
     ensures { IsInOrder (T.awaited, T.talk, L.port) T.ready worker.new.clients }
 {
     worker.serve(alloc, &mut [0; 4], now, now + 100);
-    worker.finish(now)
+    worker.finish(now).rests
 }
 
 #[test]
@@ -376,16 +376,18 @@ fn a_request_is_written_and_the_response_reaches_its_client(rt: HostRuntime) -> 
         .open(new_port(alloc, b"".as_slice())?, new_asker(alloc)?)?;
     assert!(rt; end_turn(alloc, &mut worker, 1));
     assert!(rt; worker.wants(0));
-    assert_eq!(rt; worker.next_due(), Some(101));
+    assert_eq!(rt; worker.finish(1).due, Some(101));
     worker.connecting(0, new_port(alloc, b"VERSION 1\r\n".as_slice())?);
     worker.connected(0);
     assert!(rt; end_turn(alloc, &mut worker, 2));
     worker.note_server(0, Event::Readable);
     assert!(rt; !end_turn(alloc, &mut worker, 3));
     assert!(rt; end_turn(alloc, &mut worker, 3));
-    assert!(rt; !worker.wants(0));
+    assert!(rt; !worker.wants(0) && !worker.is_awake(0));
     let next = new_port(alloc, b"".as_slice())?;
     assert_eq!(rt; worker.clients.open(next, new_asker(alloc)?)?, number);
+    worker.note_server(0, Event::Readable);
+    assert!(rt; worker.is_awake(0));
     Ok(())
 }
 
@@ -407,7 +409,7 @@ fn a_client_whose_server_is_late_is_told_so(rt: HostRuntime) -> Result<(), Fail>
     assert!(rt; worker.wants(0));
     assert!(rt; !end_turn(alloc, &mut worker, 101));
     assert!(rt; end_turn(alloc, &mut worker, 101));
-    assert_eq!(rt; worker.next_due(), None);
+    assert_eq!(rt; worker.finish(101).due, None);
     Ok(())
 }
 

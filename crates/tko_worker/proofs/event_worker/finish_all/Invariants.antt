@@ -1,7 +1,7 @@
 use Rattle.std.proofs.Common.{◌≡◌, length}
 use Rattle.tko_worker.specs.Workers.{IsInOrder}
-use Rattle.tko_worker.specs.Turns.{AreWritten}
-use Rattle.tko_worker.proofs.event_worker.write_all.Given as goal
+use Rattle.tko_worker.specs.Turns.{AreAhead, AreWritten}
+use Rattle.tko_worker.proofs.event_worker.finish_all.Given as goal
 
 abbrev pub invariant-loop-server : goal.invariant-loop-server
 invariant-loop-server g l = record {
@@ -13,4 +13,5 @@ invariant-loop-server g l = record {
   roster : l.clients.mux.roster ≡ l.initial.clients.mux.roster;
   count : length l.peers.items ≡ length l.initial.peers.items;
   written : AreWritten g.L.Port.port l.clients.mux.lines l.peers.items l.server;
+  ahead : AreAhead g.L.Port.port l.now l.clients.mux.lines l.peers.items l.server l.ahead;
 }
