@@ -1,2 +1,1 @@
-mod BoundLemmas
 mod WalkLemmas

@@ -1,5 +1,6 @@
 pub mod Addresses
 pub mod Held
+pub mod Loads
 pub mod Offers
 pub mod Pauses
 pub mod Seats

@@ -13,7 +13,7 @@ use crate::seats::Seats;
 use crate::targets::seat_token;
 use crate::times::Times;
 use crate::walk::{look_at_all, relieve};
-use crate::{Addresses, Arrival, Entry, Held, Host, LoopLimits};
+use crate::{Addresses, Arrival, Entry, Held, Host, Load, LoopLimits};
 use crossbeam_channel::TryRecvError;
 use mio::Events;
 use std::alloc::{AllocError, Global};
@@ -184,7 +184,7 @@ impl<P, T: Talking<P> + Drop, K: Drop> EventLoop<T, P, K> {
         self.moment = self.clock.next(rt);
         self.begin(rt, alloc);
         let intake = self.admit_all(rt, alloc, host);
-        self.walk(alloc);
+        self.walk(alloc, host);
         self.end(alloc, host, intake);
         Ok(self.after(intake))
     }
@@ -261,8 +261,9 @@ impl<P, T: Talking<P> + Drop, K: Drop> EventLoop<T, P, K> {
         Some(number)
     }
 
-    /// Has clients leave that do not keep their limits, once 100 ms passed since it last did.
-    fn walk(&mut self, alloc: Global)
+    /// Has clients leave that do not keep their limits, once 100 ms passed since it last did, and
+    /// tells the host how much is served then.
+    fn walk<H: Host<P, T>>(&mut self, alloc: Global, host: &mut H)
         requires order { IsInOrder (T.awaited, T.talk, held_port) T.ready self.old.worker.clients }
         ensures buffer { self.new.buffer ≡ self.old.buffer }
         ensures moment { self.new.moment ≡ self.old.moment }
@@ -281,6 +282,7 @@ impl<P, T: Talking<P> + Drop, K: Drop> EventLoop<T, P, K> {
         look_at_all(clients, &mut self.times.all, alloc, self.moment, idle);
         relieve(clients, alloc, unwritten);
         offer_again(clients, alloc);
+        host.looked(&Load::of(&self.worker));
     }
 
     /// Does what can be done, and decides how long the next turn may wait for events.

@@ -1,6 +1,7 @@
 //! What a loop is for: whose clients it serves.
 ghost use Rattle.std.specs.Prelude.{◌≡◌, length};
 
+use crate::Load;
 use std::alloc::Global;
 use tko_bytes::NoMemory;
 use tko_port::{Port, Talking};
@@ -35,6 +36,9 @@ pub trait Host<P, T: Talking<P> + Drop> {
         ensures spent { worker.new.clients.spent ≡ worker.old.clients.spent }
         ensures count { length worker.new.peers.items ≡ length worker.old.peers.items }
         ensures order { IsInOrder (T.awaited, T.talk, L.port) T.ready worker.new.clients };
+
+    /// So much the worker serves after a walk over its clients, of which there is one each 100 ms.
+    fn looked(&mut self, load: &Load);
 
     /// A client that came could not be taken in, and was closed: memory ran out, or its socket
     /// could not be registered.

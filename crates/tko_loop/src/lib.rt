@@ -8,6 +8,7 @@
 //! - `Host`: makes the sessions of those that came, and runs a round at the end of each turn.
 //! - `LoopLimits`: how long the loop waits for clients and servers, and how many bytes of replies
 //!   may wait.
+//! - `Load`: how much the worker serves, which the host is told after each walk.
 //! - `Held`: a client's socket, and what is kept until that is closed.
 //! - `Addresses`: where a server may be, each tried in turn.
 //! - A walk is a look at each client, each 100 ms: one that does not keep its limits is to leave.
@@ -22,6 +23,7 @@ mod handover;
 mod held;
 mod host;
 mod limits;
+mod load;
 mod noting;
 mod offering;
 mod pause;
@@ -36,6 +38,7 @@ pub use handover::{Arrival, Entry, Handover};
 pub use held::Held;
 pub use host::Host;
 pub use limits::LoopLimits;
+pub use load::Load;
 
 #[cfg(test)]
 mod tests;

@@ -1,6 +1,6 @@
 //! Loops over the loopback.
 
-use crate::{Addresses, Arrival, Entry, EventLoop, Handover, Host, LoopLimits, Turn};
+use crate::{Addresses, Arrival, Entry, EventLoop, Handover, Host, Load, LoopLimits, Turn};
 use std::alloc::Global;
 use std::io::{Read as _, Write as _};
 use std::net::{Ipv4Addr, Net, Shutdown, SocketAddr, TcpListener, TcpStream};
@@ -177,6 +177,8 @@ impl Host<(), Talk> for Greets {
         _moment: u64,
         _due: u64,
     ) {}
+
+    fn looked(&mut self, _load: &Load) {}
 
     fn refused(&mut self) {
         self.refused += 1;

@@ -1,9 +1,11 @@
 //! A worker as a whole, from one turn of events to the next.
 ghost use Rattle.std.specs.Prelude.{◌≡◌, ◌≢◌, ◌<◌, [], None, Some, IfErr, IfOk, length, option_copied, option_map};
 ghost use Rattle.std.specs.Bool.{OnFalse, OnTrue};
+ghost use Rattle.std.specs.List.{count_by};
 ghost use Rattle.tko_mux.specs.Muxes.{line_at};
 ghost use Rattle.tko_port.specs.Guests.{noting};
 ghost use Rattle.tko_worker.specs.Acts.{HasActed};
+ghost use Rattle.tko_worker.specs.Connections.{has_socket};
 ghost use Rattle.tko_worker.specs.Turns.{AreAhead, AreWritten, IsAhead, IsNextDue, IsWanted, NoneWanted, OtherPeers, ServersRest, probed_at, socket_at};
 ghost use Rattle.tko_port.specs.Wires.{CannotWriteTo, HasConnected, HasFailed, IsOpen, OtherLines, link_at};
 ghost use Rattle.tko_worker.specs.Workers.{IsInOrder};
@@ -141,6 +143,16 @@ impl<P, L: Port + Drop, T: Talking<P> + Drop> EventWorker<L, T, P> {
             Some(peer) => peer.socket(),
             None => None,
         }
+    }
+
+    /// How many connections to servers there are, made or being made.
+    pub fn connections(&self) -> usize
+        ensures { result ≡ count_by has_socket self.now.peers.items }
+    {
+        self.peers
+            .iter()
+            .filter(|peer| peer.socket.is_some())
+            .count()
     }
 
     /// Whether the connection to a server is being made, or is to be begun.

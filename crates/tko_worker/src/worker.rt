@@ -1,5 +1,5 @@
 //! The clients of a worker.
-ghost use Rattle.std.specs.Prelude.{◌≡◌, ◌<◌, ℕ, None, IfErr, IfOk, IsSome, OnErr, length};
+ghost use Rattle.std.specs.Prelude.{◌≡◌, ◌<◌, ℕ, None, IfErr, IfOk, IsSome, OnErr, is_some, length};
 ghost use Rattle.std.specs.Bool.{OnFalse, OnTrue};
 ghost use Rattle.tko_roster.specs.Rosters.{session_at};
 ghost use Rattle.tko_mux.specs.Linking.{IsKept, awaited_at};
@@ -129,6 +129,16 @@ impl<P, L: Port + Drop, T: Talking<P> + Drop> Worker<L, T, P> {
         match guest.presence {
             Presence::Here => Some(guest.talk.tally()),
             Presence::Leaving(_) => None,
+        }
+    }
+
+    /// Whether a client has the number.
+    pub fn has_client(&self, number: usize) -> bool
+        ensures { result ≡ is_some (session_at self.now.mux.roster.slots number) }
+    {
+        match self.mux.get(number) {
+            Some(_) => true,
+            None => false,
         }
     }
 
