@@ -85,11 +85,20 @@ presence_after Ended presence = presence
 presence_after (Leave why) presence = Leaving why
 presence_after Serve presence = presence
 
+-- whether a client is still served once serving it came to this: one that ended leaves
+abbrev pub presence_of : Turned → Presence
+presence_of Noted = Here
+presence_of Took = Here
+presence_of Asks = Here
+presence_of Rests = Here
+presence_of Spent = Here
+presence_of (Ends why) = Leaving why
+
 -- what serving it does: one that leaves ends as it was to, and nothing is read from it or written
 -- to it
 abbrev pub ServesAs : Presence → Option ℕ → Turned → Seen → Seen → Type 0
 ServesAs Here asked did old new =
-    ServedAs did new.talk new.port × AsksIf did asked × (new.presence ≡ Here)
+    ServedAs did new.talk new.port × AsksIf did asked × (new.presence ≡ presence_of did)
 ServesAs (Leaving why) asked did old new = (did ≡ Ends why) × (asked ≡ None) × (new ≡ old)
 
 -- what a call does to it: an event is noted at its port, and its session stays; or it is served; or

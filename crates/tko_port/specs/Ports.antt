@@ -1,5 +1,5 @@
 -- A socket that does not wait, and what is known of it.
-use Rattle.std.specs.Prelude.{◌≡◌, ◌<◌, ◌≤◌, ℕ, Bool, true, false, List, ◌++◌, length, take, Option, Some, None}
+use Rattle.std.specs.Prelude.{◌≡◌, ◌<◌, ◌≤◌, ℕ, Bool, true, false, List, [], ◌++◌, length, take, Option, Some, None}
 use Rattle.tko_port.specs.declared.port.Read.{Read}
 use Rattle.tko_port.specs.declared.port.Read.TheVariants.{Bytes, Nothing, Ended, Fault}
 
@@ -9,6 +9,10 @@ pub record PortState : Type 0 where
   pub writable : Bool
   pub read : List ℕ
   pub written : List ℕ
+
+-- nothing was read or written yet, and both may find something to do
+abbrev pub new_port : PortState
+new_port = record { readable = true; writable = true; read = []; written = [] }
 
 -- an event said that it is readable
 abbrev pub now_readable : PortState → PortState

@@ -1,22 +1,28 @@
 -- A client's session as its port sees it.
-use Rattle.std.specs.Prelude.{◌≢◌, ℕ, ◌+◌, ◌-◌, ◌^◌, List, [], Option, length, min}
+use Rattle.std.specs.Prelude.{◌≢◌, ℕ, ◌+◌, ◌-◌, ◌^◌, List, [], ◌++◌, Option, length, min}
 use Rattle.tko_mux.specs.declared.asking.Came.{Came}
 use Rattle.tko_port.specs.declared.talking.Stage.{Stage}
 use Rattle.tko_port.specs.declared.talking.Stage.TheVariants.{Full, Going, NeedsInput, Over, TooLong}
 use Rattle.tko_port.specs.declared.talking.Tally.{Tally}
 
 -- how far it is while no request of it is under way; the replies that wait to be written; how many
--- of its requests were answered, and how many bytes of its replies were written
+-- of its requests were answered, and how many bytes of its replies were written; and how many are
+-- held, of those that wait and of the one under way
 pub record Talk : Type 0 where
   pub stage : Stage
   pub output : List ℕ
   pub answered : ℕ
   pub taken : ℕ
+  pub held : ℕ
 
 -- what is told of it
 abbrev pub tally_of : Talk → Tally
-tally_of talk =
-    record { requests = talk.answered; taken = talk.taken; waiting = length talk.output }
+tally_of talk = record {
+  requests = talk.answered;
+  taken = talk.taken;
+  waiting = length talk.output;
+  held = talk.held;
+}
 
 -- so many more bytes were written; the number stays at 2^64 - 1
 abbrev pub taken_more : ℕ → ℕ → ℕ
@@ -39,3 +45,28 @@ HasReplies Going output = Unit {0}
 HasReplies NeedsInput output = Unit {0}
 HasReplies Over output = Unit {0}
 HasReplies TooLong output = Unit {0}
+
+-- when a session can be called over parts, once these bytes came to it and these went from it
+abbrev pub Readiness : Type 0 → Type 0 → Type 1
+Readiness P T = P → List ℕ → List ℕ → T → Type 0
+
+-- a session can be called over parts, whatever came to it and went from it
+pub record IsCallable {P T : Type 0} (ready : Readiness P T) (it : T × P) : Type 0 where
+  pub came : List ℕ
+  pub went : List ℕ
+  pub is : ready it.1 came went it.0
+
+-- a call after which a session is ready: no bytes came to it or went from it
+abbrev pub StaysReady : {P T : Type 0} → Readiness P T → T × P → T × P → Type 0
+StaysReady ready old new =
+    (came went : List ℕ) → ready old.1 came went old.0 → ready new.1 came went new.0
+
+-- the same, where these bytes came
+abbrev pub GainsBytes : {P T : Type 0} → Readiness P T → List ℕ → T × P → T × P → Type 0
+GainsBytes ready bytes old new =
+    (came went : List ℕ) → ready old.1 came went old.0 → ready new.1 (came ++ bytes) went new.0
+
+-- the same, where these went
+abbrev pub SendsBytes : {P T : Type 0} → Readiness P T → List ℕ → T × P → T × P → Type 0
+SendsBytes ready bytes old new =
+    (came went : List ℕ) → ready old.1 came went old.0 → ready new.1 came (went ++ bytes) new.0

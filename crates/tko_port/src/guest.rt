@@ -1,6 +1,7 @@
 //! A client: its port and its session, as the multiplexer calls them.
 ghost use Rattle.std.specs.Prelude.{◌≡◌, None};
-ghost use Rattle.tko_port.specs.Guests.{AsksIf, ServedAs};
+ghost use Rattle.tko_port.specs.Guests.{AsksIf, ServedAs, presence_of};
+ghost use Rattle.tko_port.specs.Lives.{ReadyAt, ReadyBy};
 
 use crate::{End, Port, Settled, Talking, settle};
 use tko_model::Clear;
@@ -36,7 +37,7 @@ pub enum Event {
 pub enum Presence {
     Here,
     /// It leaves as soon as no request of it is under way, and ends so. Nothing is read from it or
-    /// written to it any more.
+    /// written to it any more. A client whose session ended is such a one.
     Leaving(End),
 }
 
@@ -67,6 +68,8 @@ pub struct Guest<L, T> {
 
 impl<P, L: Port, T: Talking<P>> Asking<Shared<P>> for Guest<L, T> {
     ghost use Rattle.tko_port.specs.Guests.{IsGuestCall, MayServe};
+    ghost use Rattle.tko_port.specs.Lives.{IsGuestReady};
+    ghost use Rattle.tko_port.specs.Staying.{guest_stays};
 
     type Input = Event;
 
@@ -76,7 +79,7 @@ impl<P, L: Port, T: Talking<P>> Asking<Shared<P>> for Guest<L, T> {
 
     ghost may = { λ guest event. MayServe event (T.awaited guest.talk) };
 
-    ghost ready = { λ shared guest. T.ready shared.parts guest.talk };
+    ghost ready = { λ shared guest. IsGuestReady T.ready L.port shared.parts guest };
 
     ghost stays = { λ old new. T.stays old.parts new.parts };
 
@@ -84,7 +87,9 @@ impl<P, L: Port, T: Talking<P>> Asking<Shared<P>> for Guest<L, T> {
 
     ghost asks_for = { λ guest. T.asks_for guest.talk };
 
-    ghost stay_ready = { λ guest old new. T.stay_ready guest.talk old.parts new.parts };
+    ghost stay_ready = { λ guest old new stays. guest_stays T.ready guest.presence
+        (L.port guest.port) guest.talk old.parts new.parts
+        (λ came went. T.stay_ready guest.talk came went old.parts new.parts stays) };
 
     fn act(&mut self, shared: &mut Shared<P>, event: Event) -> (Option<Clear>, Turned) {
         match event {
@@ -105,7 +110,11 @@ impl<P, L: Port, T: Talking<P>> Asking<Shared<P>> for Guest<L, T> {
                 (None, Turned::Noted)
             }
             Event::Serve => match self.presence {
-                Presence::Here => serve(&mut self.port, &mut self.talk, shared),
+                Presence::Here => {
+                    let (asked, did) = serve(&mut self.port, &mut self.talk, shared);
+                    self.presence = presence_of(did);
+                    (asked, did)
+                }
                 Presence::Leaving(why) => (None, Turned::Ends(why)),
             },
         }
@@ -130,12 +139,13 @@ fn serve<P, L: Port, T: Talking<P>>(
     talk: &mut T,
     shared: &mut Shared<P>,
 ) -> (Option<Clear>, Turned)
-    requires ready { T.ready shared.old.parts talk.old }
+    requires ready { ReadyAt T.ready shared.old.parts (L.port port.old) talk.old }
     requires here { T.awaited talk.old ≡ None }
     ensures ends { ServedAs result.1 (T.talk talk.new) (L.port port.new) }
     ensures asks { T.awaited talk.new ≡ result.0 }
     ensures asked { AsksIf result.1 result.0 }
-    ensures ready { T.ready shared.new.parts talk.new }
+    ensures ready { ReadyBy T.ready (presence_of result.1) shared.new.parts (L.port port.new)
+        talk.new }
     ensures stays { T.stays shared.old.parts shared.new.parts }
 {
     if shared.buffer.is_empty() {
@@ -146,5 +156,17 @@ fn serve<P, L: Port, T: Talking<P>>(
         Settled::Rests => (None, Turned::Rests),
         Settled::Spent => (None, Turned::Spent),
         Settled::Ends(why) => (None, Turned::Ends(why)),
+    }
+}
+
+/// Whether a client is still served after this.
+fn presence_of(did: Turned) -> Presence
+    ensures { result ≡ presence_of did }
+{
+    match did {
+        Turned::Ends(why) => Presence::Leaving(why),
+        Turned::Noted | Turned::Took | Turned::Asks | Turned::Rests | Turned::Spent => {
+            Presence::Here
+        }
     }
 }

@@ -1,4 +1,6 @@
 //! A port in memory, for tests.
+ghost use Rattle.std.specs.Prelude.{◌≡◌};
+ghost use Rattle.tko_port.specs.Ports.{new_port};
 
 use crate::{Port, Read};
 use std::alloc::Global;
@@ -20,7 +22,9 @@ pub struct MemoryPort {
 
 impl MemoryPort {
     /// The other side sends this, and takes at most so many bytes in each write.
-    pub fn new(alloc: Global, input: Vec<u8>, room: usize) -> MemoryPort {
+    pub fn new(alloc: Global, input: Vec<u8>, room: usize) -> MemoryPort
+        ensures { ⟦<MemoryPort as Port>⟧.port result ≡ new_port }
+    {
         MemoryPort {
             input,
             at: 0,

@@ -1,6 +1,7 @@
 //! A client, from one event to the next.
 ghost use Rattle.std.specs.Prelude.{◌≡◌, ◌<◌, ◌≢◌, [], None, true, IfSome, IfNone, length};
 ghost use Rattle.std.specs.Bool.{OnFalse, OnTrue};
+ghost use Rattle.tko_port.specs.Lives.{ReadyAs, ReadyAt};
 ghost use Rattle.tko_port.specs.Rests.{CannotWrite, SettledAs, asked_as};
 ghost use Rattle.tko_port.specs.Talks.{HasReplies};
 
@@ -44,12 +45,12 @@ pub fn settle<P, L: Port, T: Talking<P>>(
     parts: &mut P,
     buffer: &mut [u8],
 ) -> Settled
-    requires ready { T.ready parts.old talk.old }
+    requires ready { ReadyAt T.ready parts.old (L.port port.old) talk.old }
     requires here { T.awaited talk.old ≡ None }
     requires room { 0 < length buffer.old }
     ensures ends { SettledAs result (T.talk talk.new) (L.port port.new) }
     ensures asks { T.awaited talk.new ≡ asked_as result }
-    ensures ready { T.ready parts.new talk.new }
+    ensures ready { ReadyAs T.ready result parts.new (L.port port.new) talk.new }
     ensures stays { T.stays parts.old parts.new }
 {
     for _ in 0..ROUNDS {
@@ -67,14 +68,16 @@ fn serve<P, L: Port, T: Talking<P>>(
     parts: &mut P,
     buffer: &mut [u8],
 ) -> Option<Settled>
-    requires ready { T.ready parts.old talk.old }
+    requires ready { ReadyAt T.ready parts.old (L.port port.old) talk.old }
     requires here { T.awaited talk.old ≡ None }
     requires room { 0 < length buffer.old }
     ensures ends { IfSome result (λ settled.
         SettledAs settled (T.talk talk.new) (L.port port.new)) }
     ensures asks { IfSome result (λ settled. T.awaited talk.new ≡ asked_as settled) }
     ensures here { IfNone result (T.awaited talk.new ≡ None) }
-    ensures ready { T.ready parts.new talk.new }
+    ensures ready { IfSome result (λ settled.
+        ReadyAs T.ready settled parts.new (L.port port.new) talk.new) }
+    ensures on { IfNone result (ReadyAt T.ready parts.new (L.port port.new) talk.new) }
     ensures stays { T.stays parts.old parts.new }
 {
     match talk.go_on(parts) {
@@ -91,7 +94,7 @@ fn serve_here<P, L: Port, T: Talking<P>>(
     parts: &mut P,
     buffer: &mut [u8],
 ) -> Option<Settled>
-    requires ready { T.ready parts.old talk.old }
+    requires ready { ReadyAt T.ready parts.old (L.port port.old) talk.old }
     requires here { T.awaited talk.old ≡ None }
     requires replies { HasReplies (T.talk talk.old).stage (T.talk talk.old).output }
     requires room { 0 < length buffer.old }
@@ -99,7 +102,9 @@ fn serve_here<P, L: Port, T: Talking<P>>(
         SettledAs settled (T.talk talk.new) (L.port port.new)) }
     ensures asks { IfSome result (λ settled. T.awaited talk.new ≡ asked_as settled) }
     ensures here { IfNone result (T.awaited talk.new ≡ None) }
-    ensures ready { T.ready parts.new talk.new }
+    ensures ready { IfSome result (λ settled.
+        ReadyAs T.ready settled parts.new (L.port port.new) talk.new) }
+    ensures on { IfNone result (ReadyAt T.ready parts.new (L.port port.new) talk.new) }
     ensures stays { T.stays parts.old parts.new }
 {
     if can_write::<P, _, _>(port, talk) {
@@ -151,13 +156,13 @@ fn write_out<P, L: Port, T: Talking<P>>(
     talk: &mut T,
     parts: &mut P,
 ) -> Option<Settled>
-    requires ready { T.ready parts.old talk.old }
+    requires ready { ReadyAt T.ready parts.old (L.port port.old) talk.old }
     requires here { T.awaited talk.old ≡ None }
     requires writable { (L.port port.old).writable ≡ true }
     ensures ends { IfSome result (λ settled. settled ≡ Settled.Ends End.WriteFailed) }
     ensures asks { IfSome result (λ settled. T.awaited talk.new ≡ None) }
     ensures here { IfNone result (T.awaited talk.new ≡ None) }
-    ensures ready { T.ready parts.new talk.new }
+    ensures ready { ReadyAt T.ready parts.new (L.port port.new) talk.new }
     ensures stays { T.stays parts.old parts.new }
 {
     match port.write(talk.output()) {
@@ -176,7 +181,7 @@ fn read_in<P, L: Port, T: Talking<P>>(
     parts: &mut P,
     buffer: &mut [u8],
 ) -> Option<Settled>
-    requires ready { T.ready parts.old talk.old }
+    requires ready { ReadyAt T.ready parts.old (L.port port.old) talk.old }
     requires here { T.awaited talk.old ≡ None }
     requires needs { (T.talk talk.old).stage ≡ Stage.NeedsInput }
     requires cannot { CannotWrite (T.talk talk.old).output (L.port port.old) }
@@ -185,7 +190,9 @@ fn read_in<P, L: Port, T: Talking<P>>(
         SettledAs settled (T.talk talk.new) (L.port port.new)) }
     ensures asks { IfSome result (λ settled. T.awaited talk.new ≡ asked_as settled) }
     ensures here { IfNone result (T.awaited talk.new ≡ None) }
-    ensures ready { T.ready parts.new talk.new }
+    ensures ready { IfSome result (λ settled.
+        ReadyAs T.ready settled parts.new (L.port port.new) talk.new) }
+    ensures on { IfNone result (ReadyAt T.ready parts.new (L.port port.new) talk.new) }
     ensures stays { T.stays parts.old parts.new }
 {
     if !port.is_readable() {

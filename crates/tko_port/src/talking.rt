@@ -29,13 +29,15 @@ pub struct Tally {
     pub taken: u64,
     /// How many bytes of its replies wait to be written.
     pub waiting: usize,
+    /// How many bytes of its replies are held: of those that wait, and of the one under way.
+    pub held: usize,
 }
 
 /// A client's session over parts of type `P`, which all sessions of a worker share.
 pub trait Talking<P> {
-    ghost use Rattle.std.specs.Prelude.{◌≡◌, ◌≤◌, ◌++◌, ℕ, List, [], None, Option, Some, IfOk, IsSome, OnErr, OnOk, drop, length};
+    ghost use Rattle.std.specs.Prelude.{◌≡◌, ◌≤◌, ◌++◌, ℕ, List, [], None, Option, Some, IfOk, IsSome, OnErr, OnOk, drop, length, take};
     ghost use Rattle.tko_port.specs.declared.talking.Stage.TheVariants.{NeedsInput};
-    ghost use Rattle.tko_port.specs.Talks.{Dropped, Ended, Fed, HasReplies, NotFed, Sent, Talk, TalkItem, Took, Went, tally_of, taken_more};
+    ghost use Rattle.tko_port.specs.Talks.{Dropped, Ended, Fed, GainsBytes, HasReplies, IsCallable, NotFed, SendsBytes, Sent, StaysReady, Talk, TalkItem, Took, Went, tally_of, taken_more};
     ghost use Rattle.tko_text.specs.declared.request.Request.{Request};
     ghost use Rattle.tko_mux.specs.Asks.{IsTaking};
 
@@ -50,8 +52,8 @@ pub trait Talking<P> {
     /// What a call does to the session and to the parts.
     ghost does: { Self × P → TalkItem → Self × P → Type 0 };
 
-    /// It can be called over these parts.
-    ghost ready: { P → Self → Type 0 };
+    /// It can be called over these parts, once these bytes came to it and these went from it.
+    ghost ready: { P → List ℕ → List ℕ → Self → Type 0 };
 
     /// What calls leave of the parts, so that all other sessions stay ready.
     ghost stays: { P → P → Type 0 };
@@ -59,7 +61,7 @@ pub trait Talking<P> {
     /// Goes on, for a bounded number of items. Returns the permission to send its request, if it
     /// asks a server. An `Err` says that its request was dropped.
     fn go_on(&mut self, parts: &mut P) -> Result<Option<Clear>, NoMemory>
-        requires ready { ready parts.old self.old }
+        requires ready { IsCallable ready (self.old, parts.old) }
         requires here { awaited self.old ≡ None }
         ensures ok { IfOk result (λ asked. does (self.old, parts.old) (Went asked)
             (self.new, parts.new)) }
@@ -68,7 +70,7 @@ pub trait Talking<P> {
         ensures here { OnErr result (awaited self.new ≡ None) }
         ensures taken { (talk self.new).taken ≡ (talk self.old).taken }
         ensures replies { HasReplies (talk self.new).stage (talk self.new).output }
-        ensures ready { ready parts.new self.new }
+        ensures ready { StaysReady ready (self.old, parts.old) (self.new, parts.new) }
         ensures stays { stays parts.old parts.new };
 
     fn stage(&self) -> Stage
@@ -86,19 +88,20 @@ pub trait Talking<P> {
 
     /// Drops the first `count` bytes of the replies, which were written.
     fn sent(&mut self, parts: &mut P, count: usize)
-        requires ready { ready parts.old self.old }
+        requires ready { IsCallable ready (self.old, parts.old) }
         requires here { awaited self.old ≡ None }
         requires within { count ≤ length (talk self.old).output }
         ensures does { does (self.old, parts.old) (Sent count) (self.new, parts.new) }
         ensures output { (talk self.new).output ≡ drop count (talk self.old).output }
         ensures taken { (talk self.new).taken ≡ taken_more (talk self.old).taken count }
         ensures here { awaited self.new ≡ None }
-        ensures ready { ready parts.new self.new }
+        ensures ready { SendsBytes ready (take count (talk self.old).output)
+            (self.old, parts.old) (self.new, parts.new) }
         ensures stays { stays parts.old parts.new };
 
     /// Takes the next piece of the client's bytes.
     fn feed(&mut self, parts: &mut P, piece: &[u8]) -> Result<(), NoMemory>
-        requires ready { ready parts.old self.old }
+        requires ready { IsCallable ready (self.old, parts.old) }
         requires here { awaited self.old ≡ None }
         requires needs { (talk self.old).stage ≡ NeedsInput }
         ensures ok { OnOk result (does (self.old, parts.old) (Fed piece.now)
@@ -106,29 +109,32 @@ pub trait Talking<P> {
         ensures err { OnErr result (does (self.old, parts.old) NotFed (self.new, parts.new)) }
         ensures taken { (talk self.new).taken ≡ (talk self.old).taken }
         ensures here { awaited self.new ≡ None }
-        ensures ready { ready parts.new self.new }
+        ensures fed { OnOk result (GainsBytes ready piece.now (self.old, parts.old)
+            (self.new, parts.new)) }
+        ensures kept { OnErr result (StaysReady ready (self.old, parts.old)
+            (self.new, parts.new)) }
         ensures stays { stays parts.old parts.new };
 
     /// The client's bytes end here.
     fn end(&mut self, parts: &mut P)
-        requires ready { ready parts.old self.old }
+        requires ready { IsCallable ready (self.old, parts.old) }
         requires here { awaited self.old ≡ None }
         requires needs { (talk self.old).stage ≡ NeedsInput }
         ensures does { does (self.old, parts.old) Ended (self.new, parts.new) }
         ensures taken { (talk self.new).taken ≡ (talk self.old).taken }
         ensures here { awaited self.new ≡ None }
-        ensures ready { ready parts.new self.new }
+        ensures ready { StaysReady ready (self.old, parts.old) (self.new, parts.new) }
         ensures stays { stays parts.old parts.new };
 
     /// Takes what came of its request. Returns the permission to send the next one, if it asks a
     /// server.
     fn take(&mut self, parts: &mut P, came: Came) -> Option<Clear>
-        requires ready { ready parts.old self.old }
+        requires ready { IsCallable ready (self.old, parts.old) }
         requires awaits { IsSome (awaited self.old) }
         ensures does { does (self.old, parts.old) (Took came result) (self.new, parts.new) }
         ensures asks { IsTaking came result (awaited self.new) }
         ensures taken { (talk self.new).taken ≡ (talk self.old).taken }
-        ensures ready { ready parts.new self.new }
+        ensures ready { StaysReady ready (self.old, parts.old) (self.new, parts.new) }
         ensures stays { stays parts.old parts.new };
 
     /// The server that its request is under way to.
@@ -140,8 +146,8 @@ pub trait Talking<P> {
         requires { IsSome (awaited self.now) }
         ensures { asks_for self.now ≡ Some result.now };
 
-    ghost stay_ready: { (talking : Self) (old new : P) → stays old new → ready old talking
-        → ready new talking };
+    ghost stay_ready: { (talking : Self) (came went : List ℕ) (old new : P) → stays old new
+        → ready old came went talking → ready new came went talking };
 
     ghost stay: { (one two three : P) → stays one two → stays two three → stays one three };
 

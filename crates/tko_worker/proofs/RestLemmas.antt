@@ -19,10 +19,11 @@ use Rattle.tko_port.specs.declared.guest.Presence.TheVariants.{Here, Leaving}
 use Rattle.tko_port.specs.declared.guest.Shared.{Shared}
 use Rattle.tko_port.specs.declared.guest.Turned.{Turned}
 use Rattle.tko_port.specs.declared.guest.Turned.TheVariants as turned
-use Rattle.tko_port.specs.Guests.{AsksIf, IsGuestCall, RestsBy, Seen, ServedAs, ServesAs, seen}
+use Rattle.tko_port.specs.Guests.{AsksIf, IsGuestCall, RestsBy, Seen, ServedAs, ServesAs, presence_of, seen}
+use Rattle.tko_port.specs.Lives.{IsGuestReady}
 use Rattle.tko_port.specs.Ports.{PortState}
 use Rattle.tko_port.specs.Rests.{AtRest, RestsAt}
-use Rattle.tko_port.specs.Talks.{Talk}
+use Rattle.tko_port.specs.Talks.{Readiness, Talk}
 use Rattle.tko_worker.specs.Workers.{IsIn, IsInOrder, IsListed, IsServed, NobodyForgotten, OthersStay, RestAt, Rests, Sight, WasServed, WorkerState}
 
 awaits_rest : (awaited : Option ℕ) (talk : Talk) (port : PortState) → IsSome awaited
@@ -55,7 +56,8 @@ idle_rests (Some server) talk port none rests = tt
 served_here : (presence : Presence) (asked : Option ℕ) (did : Turned) (old new : Seen)
     → did ≡ turned.Rests → ServesAs presence asked did old new
     → ServedAs did new.talk new.port × AsksIf did asked × (new.presence ≡ Here)
-served_here Here asked did old new rests serves = serves
+served_here Here asked did old new rests serves =
+    (serves.0, serves.1, serves.2 ∙ ap presence_of rests)
 served_here (Leaving why) asked did old new rests serves =
     let both = sym rests ∙ serves.0 in absurd (let f : ⊥ = cc both in f)
 
@@ -277,12 +279,13 @@ swapped sight slots touched spent now_touched now_spent nobody one other number 
     (nobody number)))
 
 -- a turn begins: those that were left for it are to be served
-pub turn_begun : {L T P : Type 0} (sight : Sight L T) (is_ready : P → T → Type 0)
+pub turn_begun : {L T P : Type 0} (sight : Sight L T) (is_ready : Readiness P T)
     (old new : WorkerState L T P) → IsInOrder sight is_ready old → new.mux ≡ old.mux
     → new.touched ≡ old.spent → new.spent ≡ old.touched → IsInOrder sight is_ready new
 turn_begun sight is_ready old new order mux touched spent = record {
   ready = subst (λ (m : MuxState _ _).
-      AreReady (λ shared client. is_ready shared.parts client.session.talk) m.roster) (sym mux)
+      AreReady (λ shared client. IsGuestReady is_ready sight.2 shared.parts client.session)
+      m.roster) (sym mux)
       order.ready;
   linked = subst (λ (m : MuxState _ _).
       AreLinked (λ guest. sight.0 guest.talk) m.roster.slots m.lines) (sym mux) order.linked;

@@ -18,12 +18,13 @@ use Rattle.tko_port.specs.declared.guest.Guest.{Guest}
 use Rattle.tko_port.specs.declared.guest.Turned.{Turned}
 use Rattle.tko_port.specs.declared.guest.Shared.{Shared}
 use Rattle.tko_port.specs.Guests.{IsGuestCall, IsResting, noting, presence_after, seen}
+use Rattle.tko_port.specs.Lives.{IsGuestReady}
 use Rattle.tko_port.specs.Ports.{PortState}
 use Rattle.tko_worker.specs.declared.ends.EndCounts.{EndCounts}
 use Rattle.tko_port.specs.declared.settling.End.{End}
 use Rattle.tko_port.specs.declared.settling.End.TheVariants.{Memory}
 use Rattle.tko_port.specs.declared.talking.Tally.{Tally}
-use Rattle.tko_port.specs.Talks.{Talk, tally_of}
+use Rattle.tko_port.specs.Talks.{Readiness, Talk, tally_of}
 use Rattle.tko_worker.specs.Counts.{MuxAndEnds, counted}
 
 -- the clients and their servers; the numbers of clients that are to be served in this turn; those
@@ -74,11 +75,12 @@ abbrev pub NobodyForgotten : {L T : Type 0} → Sight L T → List (Option (Clie
 NobodyForgotten sight slots touched spent =
     (number : ℕ) → RestAt sight slots number ⊎ (IsIn number touched ⊎ IsIn number spent)
 
--- a worker is in order: each session can be called over the parts; each client that awaits a server
--- waits at that server, once; and nobody is forgotten
-pub record IsInOrder {L T P : Type 0} (sight : Sight L T) (is_ready : P → T → Type 0)
+-- a worker is in order: each session can be called over the parts, what was read from its client's
+-- port is what came to it, and what was written there is what went from it; each client that awaits
+-- a server waits at that server, once; and nobody is forgotten
+pub record IsInOrder {L T P : Type 0} (sight : Sight L T) (is_ready : Readiness P T)
     (worker : WorkerState L T P) : Type 0 where
-  pub ready : AreReady (λ shared client. is_ready shared.parts client.session.talk)
+  pub ready : AreReady (λ shared client. IsGuestReady is_ready sight.2 shared.parts client.session)
       worker.mux.roster
   pub linked : AreLinked (λ guest. sight.0 guest.talk) worker.mux.roster.slots worker.mux.lines
   pub nobody : NobodyForgotten sight worker.mux.roster.slots worker.touched worker.spent

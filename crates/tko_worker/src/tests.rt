@@ -28,13 +28,14 @@ struct EchoTalk {
 }
 
 impl Talking<()> for EchoTalk {
-    ghost use Rattle.std.specs.Prelude.{Some};
+    ghost use Rattle.std.specs.Prelude.{Some, length};
 
     ghost talk = { λ echo. record {
       stage = echo.stage;
       output = echo.output.items;
       answered = 0;
       taken = echo.taken;
+      held = length echo.output.items;
     } };
 
     ghost awaited = { λ echo. echo.awaits };
@@ -43,11 +44,11 @@ impl Talking<()> for EchoTalk {
 
     ghost does = { λ _ _ _. Unit {0} };
 
-    ghost ready = { λ _ _. Unit {0} };
+    ghost ready = { λ _ _ _ _. Unit {0} };
 
     ghost stays = { λ _ _. Unit {0} };
 
-    ghost stay_ready = { λ _ _ _ _ _. tt };
+    ghost stay_ready = { λ _ _ _ _ _ _ _. tt };
 
     ghost stay = { λ _ _ _ _ _. tt };
 
@@ -82,6 +83,7 @@ impl Talking<()> for EchoTalk {
             requests: 0,
             taken: self.taken,
             waiting: self.output.len(),
+            held: self.output.len(),
         }
     }
 
@@ -240,13 +242,14 @@ fn clear_of(server: usize) -> Option<Clear>
 }
 
 impl Talking<()> for AskTalk {
-    ghost use Rattle.std.specs.Prelude.{None, Some};
+    ghost use Rattle.std.specs.Prelude.{None, Some, length};
 
     ghost talk = { λ it. record {
       stage = it.stage;
       output = it.output.items;
       answered = 0;
       taken = it.taken;
+      held = length it.output.items;
     } };
 
     ghost awaited = { λ it. it.awaits };
@@ -255,11 +258,11 @@ impl Talking<()> for AskTalk {
 
     ghost does = { λ _ _ _. Unit {0} };
 
-    ghost ready = { λ _ _. Unit {0} };
+    ghost ready = { λ _ _ _ _. Unit {0} };
 
     ghost stays = { λ _ _. Unit {0} };
 
-    ghost stay_ready = { λ _ _ _ _ _. tt };
+    ghost stay_ready = { λ _ _ _ _ _ _ _. tt };
 
     ghost stay = { λ _ _ _ _ _. tt };
 
@@ -292,6 +295,7 @@ impl Talking<()> for AskTalk {
             requests: 0,
             taken: self.taken,
             waiting: self.output.len(),
+            held: self.output.len(),
         }
     }
 

@@ -3,6 +3,7 @@ ghost use Rattle.std.specs.Prelude.{◌≡◌, ◌<◌, ℕ, None, IfErr, IfOk, 
 ghost use Rattle.std.specs.Bool.{OnFalse, OnTrue};
 ghost use Rattle.tko_roster.specs.Rosters.{session_at};
 ghost use Rattle.tko_mux.specs.Linking.{IsKept, awaited_at};
+ghost use Rattle.tko_port.specs.Lives.{ReadyAt};
 ghost use Rattle.tko_worker.specs.Acts.{HasActed};
 ghost use Rattle.tko_worker.specs.Counts.{no_ends};
 ghost use Rattle.tko_worker.specs.Workers.{IsInOrder, IsOpened, tally_at};
@@ -69,10 +70,11 @@ impl<P: Drop, L: Port + Drop, T: Talking<P> + Drop> Worker<L, T, P> {
 }
 
 impl<P, L: Port + Drop, T: Talking<P> + Drop> Worker<L, T, P> {
-    /// A client came. It is served in this turn. Without memory for it, it is dropped.
+    /// A client came, whose session is ready for what was read from its port and written to it,
+    /// nothing as a rule. It is served in this turn. Without memory for it, it is dropped.
     pub fn open(&mut self, port: L, talk: T) -> Result<usize, NoMemory>
         requires idle { T.awaited talk ≡ None }
-        requires session { T.ready self.old.mux.roster.parts.parts talk }
+        requires session { ReadyAt T.ready self.old.mux.roster.parts.parts (L.port port) talk }
         requires order { IsInOrder (T.awaited, T.talk, L.port) T.ready self.old }
         ensures ok { IfOk result (λ number. IsOpened (T.awaited, T.talk, L.port) self.old port talk
             number self.new) }

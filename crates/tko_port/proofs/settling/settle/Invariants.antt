@@ -1,9 +1,10 @@
 use Rattle.std.proofs.Common.{◌≡◌, ◌<◌, None, length}
+use Rattle.tko_port.specs.Lives.{ReadyAt}
 use Rattle.tko_port.proofs.settling.settle.Given as goal
 
 abbrev pub invariant-loop : goal.invariant-loop
 invariant-loop g l = record {
-  ready : g.T.Talking.ready l.parts l.talk;
+  ready : ReadyAt g.T.Talking.ready l.parts (g.L.Port.port l.port) l.talk;
   here : g.T.Talking.awaited l.talk ≡ None;
   room : 0 < length l.buffer;
   stays : g.T.Talking.stays l.initial.parts l.parts;

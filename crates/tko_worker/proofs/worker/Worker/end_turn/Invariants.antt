@@ -1,14 +1,15 @@
 use Rattle.std.proofs.Common.{◌≡◌, ◌+◌, length}
 use Rattle.tko_roster.specs.Rosters.{AreReady}
 use Rattle.tko_mux.specs.Linking.{AreLinked}
+use Rattle.tko_port.specs.Lives.{IsGuestReady}
 use Rattle.tko_worker.specs.Acts.{HaveActed}
 use Rattle.tko_worker.specs.Workers.{NobodyForgotten}
 use Rattle.tko_worker.proofs.worker.Worker.end_turn.Given as goal
 
 abbrev pub invariant-loop : goal.invariant-loop
 invariant-loop g l = record {
-  ready : AreReady (λ shared client. g.T.Talking.ready shared.parts client.session.talk)
-      l.self-inside.mux.roster;
+  ready : AreReady (λ shared client. IsGuestReady g.T.Talking.ready g.L.Port.port shared.parts
+      client.session) l.self-inside.mux.roster;
   linked : AreLinked (λ guest. g.T.Talking.awaited guest.talk) l.self-inside.mux.roster.slots
       l.self-inside.mux.lines;
   nobody : NobodyForgotten (g.T.Talking.awaited, g.T.Talking.talk, g.L.Port.port)
