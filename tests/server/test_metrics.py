@@ -7,7 +7,7 @@ import threading
 import time
 import unittest
 
-from parts import ServerTest, configuration, serve_words
+from parts import MODE, ServerTest, configuration, only_in, serve_words
 from ports import HOST, free_port, wait_until
 from talk import fnv1a
 
@@ -17,6 +17,7 @@ except ImportError:
     text_string_to_metric_families = None
 
 COUNTS = ("requests", "attempts", "skips", "replies", "no_server", "probes")
+LOADS = ("clients", "connections", "waiting_bytes")
 
 
 def ask(port, method="GET", path="/metrics", seconds=10):
@@ -109,6 +110,44 @@ class Metrics(ServerTest):
             self.assertEqual(first.ask(b"version\r\n"), b"VERSION tkoproxy 1\r\n")
             wait_until(lambda: clients() == (2, 2, 0), 5, "both clients are connected")
         wait_until(lambda: clients() == (0, 2, 2), 5, "both have left")
+
+    def loads(self, port, workers):
+        """The sums over so many event-driven workers of their clients, their connections and the bytes that wait."""
+        numbers = self.numbers(port)
+        samples = [[f'tkoproxy_worker_{name}{{worker="{worker}"}}' for worker in range(workers)] for name in LOADS]
+        self.assertEqual(sorted(sum(samples, [])), sorted(name for name in numbers if name.startswith("tkoproxy_worker")))
+        return tuple(sum(numbers[name] for name in of_all) for of_all in samples)
+
+    @only_in("events", "a worker serves one client there")
+    def test_what_event_driven_workers_serve(self):
+        proxy, port = self.metered(configuration(only=[self.memcached()]), threads=2)
+        self.assertEqual(self.loads(port, 2), (0, 0, 0))
+        clients = [self.client(proxy.port) for _ in range(20)]
+        for client in clients:
+            self.assertEqual(client.ask(b"version\r\n"), b"VERSION tkoproxy 1\r\n")
+        wait_until(lambda: self.loads(port, 2) == (20, 0, 0), 5, "each is a client of a worker")
+        for client in clients:
+            self.assertEqual(client.ask(b"get a\r\n"), b"END\r\n")
+        wait_until(lambda: self.loads(port, 2) == (20, 2, 0), 5, "each worker has a connection to the server")
+        for client in clients:
+            client.close()
+        wait_until(lambda: self.loads(port, 2) == (0, 2, 0), 5, "all have left")
+
+    @only_in("events", "a worker serves one client there")
+    def test_bytes_that_a_client_does_not_take(self):
+        proxy, port = self.metered(configuration(only=[self.memcached()]), threads=1)
+        with proxy.client() as deaf:
+            self.assertEqual(deaf.ask(b"set a 0 0 1000000\r\n" + b"x" * 1000000 + b"\r\n"), b"STORED\r\n")
+            deaf.send(b"get a\r\n" * 40)
+            wait_until(lambda: self.loads(port, 1)[2] > 0, 20, "bytes wait for it")
+        wait_until(lambda: self.loads(port, 1) == (0, 1, 0), 10, "it has left")
+
+    @only_in("threads", "a worker serves many clients there")
+    def test_workers_on_threads_have_no_loads(self):
+        proxy, port = self.metered(configuration(only=[self.memcached()]), threads=2)
+        with proxy.client() as client:
+            self.assertEqual(client.ask(b"get a\r\n"), b"END\r\n")
+            self.assertNotIn("tkoproxy_worker", ask(port)[2])
 
     def test_a_server_dies_and_returns(self):
         server = self.memcached()
@@ -283,7 +322,8 @@ class Metrics(ServerTest):
             deaf.setsockopt(socket.SOL_SOCKET, socket.SO_RCVBUF, 2048)
             deaf.connect((HOST, port))
             deaf.sendall(b"GET /metrics HTTP/1.1\r\nhost: x\r\n\r\n" * 100)
-            self.assertEqual(len(numbers_in(ask(port, seconds=30)[2])), 13 + 3 + 199 * 4 + 1)
+            of_workers = len(LOADS) if MODE == "events" else 0
+            self.assertEqual(len(numbers_in(ask(port, seconds=30)[2])), 13 + 3 + 199 * 4 + 1 + of_workers)
 
     def test_it_ends_beside_a_client_that_stays(self):
         proxy, port = self.metered(configuration(only=[self.memcached()]), threads=1, connections=1)

@@ -4,11 +4,13 @@ ghost use Rattle.tko_model.specs.Numbers.{no_counts, saturated};
 ghost use Rattle.tko_event_threads.specs.Accounting.{HasCounted, IsAccountSettled, fresh, with_ends, with_short};
 
 use crate::ends::{report_of, tell_ends};
+use crate::loads::worker_load;
 use crate::origin::Opening;
 use std::marker::{Model, PhantomData};
 use std::sync::Wait;
 use tko_bytes::NoMemory;
 use tko_io::IoRuntime;
+use tko_loop::Load;
 use tko_model::{Counts, Kind};
 use tko_prober::ProbeEnd;
 use tko_reply::Trails;
@@ -76,6 +78,13 @@ impl<'a, 'r, N: Opening> Accounted<'a, 'r, N> {
     pub(crate) fn refuse_clients(&self, count: u64) {
         for _ in 0..count {
             self.metered.refuse_client();
+        }
+    }
+
+    /// Tells how much the worker serves, if it was looked at.
+    pub(crate) fn set_load(&self, load: Option<Load>) {
+        if let Some(load) = load {
+            self.metered.set_load(worker_load(&load));
         }
     }
 

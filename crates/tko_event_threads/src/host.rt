@@ -16,7 +16,7 @@ use tko_bytes::NoMemory;
 use tko_client::{EventClient, Lent};
 use tko_health::Health;
 use tko_io::IoRuntime;
-use tko_loop::Host;
+use tko_loop::{Host, Load};
 use tko_port::Port;
 use tko_roster::Visit;
 use tko_rounds::Rounds;
@@ -29,6 +29,8 @@ pub(crate) struct EventHost<'r, R> {
     rounds: Rounds,
     /// The clients that could not be taken in since the last turn.
     refused: u64,
+    /// How much the worker serves, if there was a walk since the last turn.
+    load: Option<Load>,
 }
 
 /// What is counted at the end of a turn.
@@ -39,6 +41,7 @@ struct TurnEnd<'r, R> {
     /// Whether memory ran out in the round.
     ran_out: bool,
     refused: u64,
+    load: Option<Load>,
     /// How many probes were sent in all.
     sent: u64,
 }
@@ -50,6 +53,7 @@ impl<'r, R: IoRuntime> EventHost<'r, R> {
             rt,
             rounds,
             refused: 0,
+            load: None,
         }
     }
 
@@ -82,6 +86,7 @@ impl<'r, R: IoRuntime> EventHost<'r, R> {
             ends: worker.clients.take_ends(),
             ran_out,
             refused: self.refused,
+            load: self.load.take(),
             sent: self.probes(),
         };
         self.refused = 0;
@@ -107,6 +112,7 @@ impl<'r, 'c, 'a, 'm, R: IoRuntime, H: Health, N: Opening, C> Visit<
         trails.note_short(self.ran_out);
         trails.count_ends(&self.ends);
         trails.refuse_clients(self.refused);
+        trails.set_load(self.load);
         if are_any(&self.ends) {
             trails.settle(self.rt, self.sent);
         }
@@ -137,6 +143,10 @@ impl<'r, 'c, 'a, 'm, R: IoRuntime, H: Health, N: Opening, C: Drop> Host<
     ) {
         let rounded = self.rounds.run(alloc, worker, moment, due);
         self.end_turn(worker, rounded.is_err());
+    }
+
+    fn looked(&mut self, load: &Load) {
+        self.load = Some(*load);
     }
 
     fn refused(&mut self) {

@@ -11,6 +11,7 @@
 mod accounted;
 mod ends;
 mod host;
+mod loads;
 mod origin;
 mod seated;
 mod working;

@@ -17,7 +17,7 @@ use tko_client::{Lent, Sends};
 use tko_events::WorkerLog;
 use tko_health::{Health, Seating};
 use tko_io::IoRuntime;
-use tko_loop::{Addresses, Entry, EventLoop, LoopLimits};
+use tko_loop::{Addresses, Entry, EventLoop, Load, LoopLimits};
 use tko_pools::Config;
 use tko_prober::{Backend, Probers};
 use tko_rounds::Rounds;
@@ -168,6 +168,7 @@ fn serve_all<
         first_ask,
     } = ways;
     let mut host = EventHost::new(rt, rounds);
+    lent.parts.trails.set_load(Some(Load::none()));
     let (lent, ran_out) = match EventLoop::new(rt, alloc, way_in, lent, servers, limits) {
         Ok(mut it) => {
             first_ask.report(rt);

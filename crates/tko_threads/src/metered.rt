@@ -9,7 +9,7 @@ use std::sync::atomic::{AtomicU64, Ordering};
 use tko_bytes::NoMemory;
 use tko_events::WorkerLog;
 use tko_io::IoRuntime;
-use tko_metrics::{Ending, Increase};
+use tko_metrics::{Ending, Increase, WorkerLoad};
 use tko_model::{Counts, Kind, Reply};
 use tko_prober::ProbeEnd;
 use tko_reply::Trails;
@@ -77,6 +77,11 @@ impl<'r> Metered<'r> {
     pub fn refuse_client(&self) {
         self.log.log().count_session(true);
         self.log.log().meter().drop_client();
+    }
+
+    /// Its worker is event-driven, and this is its load now.
+    pub fn set_load(&self, load: WorkerLoad) {
+        self.log.meter().set_load(load);
     }
 
     /// Its worker released a server as it ended, and the health replied so.
