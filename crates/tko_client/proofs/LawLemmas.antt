@@ -13,31 +13,55 @@ use Rattle.tko_port.specs.Talks.{Dropped, Ended, Fed, NotFed, Sent, TalkItem, To
 use Rattle.tko_client.specs.Comings.{result_of}
 use Rattle.tko_client.specs.Clients.{ClientOver, Does, DoesAs, HasLife, IsOwnTalk, bytes_in}
 
--- a life that goes on with this one, in which these bytes came too
-record Grows (config : Configuration) (it : Life) (bytes : List ℕ) (now : Client) : Type 0 where
+-- the bytes that a call gives to the client
+abbrev pub bytes_out : TalkItem → Client → List ℕ
+bytes_out (Sent count) old = take count old.session.outbox
+bytes_out (Fed bytes) old = []
+bytes_out (Went asked) old = []
+bytes_out Dropped old = []
+bytes_out NotFed old = []
+bytes_out Ended old = []
+bytes_out (Took came asked) old = []
+
+-- a life that goes on with this one, in which these bytes came too, and these went
+pub record Grows (config : Configuration) (it : Life) (bytes text : List ℕ) (now : Client) : Type 0
+  where
+    pub more : Life
+    pub is : IsClient config more now
+    pub from : more.bytes ≡ it.bytes ++ bytes
+    pub to : more.sent ≡ it.sent ++ text
+
+-- the same, whatever went
+record Takes (config : Configuration) (it : Life) (bytes : List ℕ) (now : Client) : Type 0 where
   more : Life
   is : IsClient config more now
   from : more.bytes ≡ it.bytes ++ bytes
 
 module _ {H T C : Type 0} (ghosts : PartsGhosts H (List ℕ) T C) (config : Configuration) where
-  stays_so : (it : Life) (old new : ClientOver H T C) → IsClient config it old.0 → new ≡ old → Grows config it [] new.0
-  stays_so it old new is same = record { more = it; is = subst (λ (c : ClientOver H T C). IsClient config it c.0) (sym same) is; from = sym (append-nil it.bytes) }
+  stays_so : (it : Life) (old new : ClientOver H T C) → IsClient config it old.0 → new ≡ old → Grows config it [] [] new.0
+  stays_so it old new is same = record {
+    more = it;
+    is = subst (λ (c : ClientOver H T C). IsClient config it c.0) (sym same) is;
+    from = sym (append-nil it.bytes);
+    to = sym (append-nil it.sent);
+  }
 
-  one_act : (it adds : Life) (old new : Client) → IsClient config it old → IsAct config old adds new → Grows config it adds.bytes new
-  one_act it adds old new is act = record { more = lived it adds; is = acted config it old adds new is act; from = refl }
+  one_act : (it adds : Life) (old new : Client) → IsClient config it old → IsAct config old adds new → Grows config it adds.bytes adds.sent new
+  one_act it adds old new is act = record { more = lived it adds; is = acted config it old adds new is act; from = refl; to = refl }
 
   gone_life : (it : Life) (old : ClientOver H T C) (calls : List (List Interaction)) (new : ClientOver H T C) → IsClient config it old.0
-      → Lead (Does ghosts config) old calls new → Grows config it [] new.0
+      → Lead (Does ghosts config) old calls new → Grows config it [] [] new.0
   gone_life it old [] new is same = stays_so it old new is same
   gone_life it old (done ∷ calls) new is (mid, step, rest) =
       let grown = gone_life (lived it (life [] [] done)) mid calls new (acted config it old.0 (life [] [] done) mid.0 is step.0) rest in record {
         more = grown.more;
         is = grown.is;
         from = grown.from ∙ append-nil (it.bytes ++ []);
+        to = grown.to ∙ append-nil (it.sent ++ []);
       }
 
-  did : (it : Life) (old new : ClientOver H T C) (item : TalkItem) → old.1.config ≡ config → IsClient config it old.0 → DoesAs ghosts item old new
-      → Grows config it (bytes_in item) new.0
+  pub did : (it : Life) (old new : ClientOver H T C) (item : TalkItem) → old.1.config ≡ config → IsClient config it old.0 → DoesAs ghosts item old new
+      → Grows config it (bytes_in item) (bytes_out item old.0) new.0
   did it old new (Went asked) same is gone = gone_life it old gone.calls new is (subst (λ c. Lead (Does ghosts c) old gone.calls new) same gone.gains.leads)
   did it old new Dropped same is (gone, short) = gone_life it old gone.calls new is (subst (λ c. Lead (Does ghosts c) old gone.calls new) same gone.gains.leads)
   did it old new (Fed bytes) same is act = one_act it (life bytes [] []) old.0 new.0 is (subst (λ c. IsAct c old.0 (life bytes [] []) new.0) same act.0)
@@ -49,7 +73,7 @@ module _ {H T C : Type 0} (ghosts : PartsGhosts H (List ℕ) T C) (config : Conf
       let adds : Life = life [] [] (came_to taken.it (result_of came) ∷ taken.then) in one_act it adds old.0 new.0 is (subst (λ c. IsAct c old.0 adds new.0) same taken.act.0)
 
   talked : (it : Life) (old : Client) (items : List TalkItem) (new : Client) → IsClient config it old → Lead (IsOwnTalk ghosts config) old items new
-      → Grows config it (flat_map bytes_in items) new
+      → Takes config it (flat_map bytes_in items) new
   talked it old [] new is same = record { more = it; is = subst (IsClient config it) (sym same) is; from = sym (append-nil it.bytes) }
   talked it old (item ∷ items) new is (mid, talk, rest) =
       let first = did it (old, talk.before) (mid, talk.after) item talk.same is talk.does in

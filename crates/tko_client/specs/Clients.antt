@@ -1,5 +1,5 @@
 -- A client of an event-driven worker: how it stands, and what each call of it is to its life.
-use Rattle.std.specs.Prelude.{◌≡◌, ℕ, List, [], ◌∷◌, Option, Some, None, Result, flat_map, take}
+use Rattle.std.specs.Prelude.{◌≡◌, ℕ, List, [], ◌∷◌, Option, Some, None, Result, flat_map, length, take}
 use Rattle.tko_model.specs.Records.{Gains}
 use Rattle.tko_links.specs.declared.links.NoMemory.{NoMemory}
 use Rattle.tko_links.specs.declared.links.Outcome.{Outcome}
@@ -64,6 +64,7 @@ talk_of it = record {
   output = outgoing it.session;
   answered = it.session.requests;
   taken = it.taken;
+  held = length it.session.outbox;
 }
 
 -- a client, and the parts that all share
@@ -107,6 +108,14 @@ pub record IsReadyOver (config : Configuration) (it : EventClient) : Type 0 wher
   pub session : IsReady config it.session
   pub going : IsAwaiting it.session.work → it.course ≡ Going
   pub reading : CourseReading it.course it.session.reading
+
+-- it can be called with this configuration, once these bytes came to it and these went from it: all
+-- that was done with it is one session's life
+pub record IsReadyAfter (config : Configuration) (came went : List ℕ) (it : EventClient) : Type 0
+  where
+    pub over : IsReadyOver config it
+    pub done : List Interaction
+    pub is : IsClient config (life came went done) (client_of it)
 
 -- the request that a send is out for
 abbrev pub asked_for : Work → Option Request

@@ -1,9 +1,10 @@
 -- What calls of clients leave of the parts that all share.
 use Rattle.std.proofs.Common.{◌≡◌, ℕ, List, length, refl, sym, subst, ◌∙◌}
 use Rattle.tko_reply.specs.declared.parts.Parts.{Parts}
+use Rattle.tko_session.specs.Clients.{IsClient, life}
 use Rattle.tko_session.specs.Driven.{IsReady}
 use Rattle.tko_client.specs.declared.client.EventClient.{EventClient}
-use Rattle.tko_client.specs.Clients.{IsReadyOver}
+use Rattle.tko_client.specs.Clients.{IsReadyAfter, IsReadyOver, client_of}
 use Rattle.tko_client.specs.Steps.{HasStayed}
 
 module _ {H T C : Type 0} {servers : H → ℕ} where
@@ -20,10 +21,20 @@ module _ {H T C : Type 0} {servers : H → ℕ} where
   }
 
   -- other clients made calls
-  pub ready_stays : {it : EventClient} {old new : Parts H (List ℕ) T C}
+  pub over_stays : {it : EventClient} {old new : Parts H (List ℕ) T C}
       → HasStayed servers old new → IsReadyOver old.config it → IsReadyOver new.config it
-  ready_stays {it} stays ready = record {
+  over_stays {it} stays ready = record {
     session = subst (λ c. IsReady c it.session) (sym stays.config) ready.session;
     going = ready.going;
     reading = ready.reading;
+  }
+
+  pub ready_stays : {it : EventClient} {came went : List ℕ} {old new : Parts H (List ℕ) T C}
+      → HasStayed servers old new → IsReadyAfter old.config came went it
+      → IsReadyAfter new.config came went it
+  ready_stays {it} {came} {went} stays ready = record {
+    over = over_stays stays ready.over;
+    done = ready.done;
+    is = subst (λ c. IsClient c (life came went ready.done) (client_of it)) (sym stays.config)
+        ready.is;
   }

@@ -1,9 +1,9 @@
 //! A client's session, from one event to the next.
-ghost use Rattle.std.specs.Prelude.{◌≡◌, None};
+ghost use Rattle.std.specs.Prelude.{◌≡◌, [], None};
 ghost use Rattle.tko_session.specs.Awaiting.{awaited_in};
 ghost use Rattle.tko_session.specs.Clients.{new_client};
 ghost use Rattle.tko_pools.specs.Configs.{Configuration};
-ghost use Rattle.tko_client.specs.Clients.{IsReadyOver, client_of};
+ghost use Rattle.tko_client.specs.Clients.{IsReadyAfter, client_of};
 
 use crate::Lent;
 use crate::calls::Went;
@@ -55,7 +55,7 @@ impl EventClient {
     pub fn new(alloc: Global) -> EventClient
         ensures client { client_of result ≡ new_client }
         ensures here { awaited_in result.session.work ≡ None }
-        ensures ready { (config : Configuration) → IsReadyOver config result }
+        ensures ready { (config : Configuration) → IsReadyAfter config [] [] result }
     {
         EventClient {
             session: Session::new(alloc),
@@ -75,7 +75,7 @@ impl EventClient {
 
 impl<'r, R: IoRuntime, H: Health, T: Trails, C> Talking<Lent<'r, R, H, T, C>> for EventClient {
     ghost use Rattle.tko_session.specs.Awaiting.{awaited_in};
-    ghost use Rattle.tko_client.specs.Clients.{DoesAs, IsReadyOver, asked_for, client_of, talk_of};
+    ghost use Rattle.tko_client.specs.Clients.{DoesAs, IsReadyAfter, asked_for, client_of, talk_of};
     ghost use Rattle.tko_client.specs.Steps.{HasStayed, client_ghosts};
     ghost use Rattle.tko_client.specs.Staying.{no_change, ready_stays, stayed_on};
 
@@ -88,11 +88,11 @@ impl<'r, R: IoRuntime, H: Health, T: Trails, C> Talking<Lent<'r, R, H, T, C>> fo
     ghost does = { λ old item new. DoesAs (client_ghosts H.Health T.Trails) item
         (client_of old.0, old.1.parts) (client_of new.0, new.1.parts) };
 
-    ghost ready = { λ lent it. IsReadyOver lent.parts.config it };
+    ghost ready = { λ lent came went it. IsReadyAfter lent.parts.config came went it };
 
     ghost stays = { λ old new. HasStayed H.servers old.parts new.parts };
 
-    ghost stay_ready = { λ it old new stays ready. ready_stays stays ready };
+    ghost stay_ready = { λ it came went old new stays ready. ready_stays stays ready };
 
     ghost stay = { λ one two three first second. stayed_on first second };
 
@@ -140,6 +140,7 @@ impl<'r, R: IoRuntime, H: Health, T: Trails, C> Talking<Lent<'r, R, H, T, C>> fo
             requests: self.session.report().requests,
             taken: self.taken,
             waiting: self.session.waiting(),
+            held: self.session.held(),
         }
     }
 

@@ -3,6 +3,7 @@ use Rattle.std.proofs.Common.{◌≡◌, ℕ, Bool, List, ap, subst, sym, ◌∙
 use Rattle.tko_health.specs.declared.health.Health.{Ghosts as HealthGhosts}
 use Rattle.tko_pools.specs.Configs.{Configuration}
 use Rattle.tko_prober.specs.declared.backend.Backend.{Backend}
+use Rattle.tko_port.specs.Talks.{Readiness}
 use Rattle.tko_reply.specs.declared.parts.Parts.{Parts}
 use Rattle.tko_rounds.specs.Rounds.{IsRound, RoundState}
 use Rattle.tko_worker.specs.Workers.{IsInOrder, Sight, WorkerState}
@@ -11,7 +12,7 @@ use Rattle.tko_event_threads.specs.Accounting.{AccountState, IsTurnCounted}
 use Rattle.tko_event_threads.specs.Turns.{IsHostRound, IsTurnEnd}
 
 -- how many clients ended is no matter of a worker's order
-pub order_whatever_ended : {L T P : Type 0} (sight : Sight L T) (is_ready : P → T → Type 0) (old new : WorkerState L T P) (ends : EndCounts)
+pub order_whatever_ended : {L T P : Type 0} (sight : Sight L T) (is_ready : Readiness P T) (old new : WorkerState L T P) (ends : EndCounts)
     → new ≡ record old { ends = ends } → IsInOrder sight is_ready old → IsInOrder sight is_ready new
 order_whatever_ended {L} {T} {P} sight is_ready old new ends same order =
     let kept : IsInOrder sight is_ready (record old { ends = ends }) =

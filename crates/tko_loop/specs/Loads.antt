@@ -17,7 +17,7 @@ clients_below slots zero = 0
 clients_below slots (suc number) = clients_below slots number + clients_at slots number
 
 -- so much a worker serves: the clients that have a number, the servers to which it has a socket,
--- and the bytes of replies that wait for all of its clients, which stay at 2^64 - 1
+-- and the bytes of replies that are held for all of its clients, which stay at 2^64 - 1
 pub record IsLoadOf {L T P : Type 0} (sight : Sight L T) (worker : EventWorker L T P) (load : Load)
     : Type 0 where
   pub clients : load.clients ≡ clients_below worker.clients.mux.roster.slots

@@ -13,8 +13,9 @@ use Rattle.tko_port.specs.declared.guest.Presence.{Presence}
 use Rattle.tko_port.specs.declared.guest.Presence.TheVariants.{Here, Leaving}
 use Rattle.tko_port.specs.declared.settling.End.{End}
 use Rattle.tko_port.specs.declared.settling.End.TheVariants.{ReadFailed, WriteFailed}
+use Rattle.tko_port.specs.declared.talking.Tally.{Tally}
 use Rattle.tko_port.specs.Talks.{Talk}
-use Rattle.tko_worker.specs.Workers.{Sight}
+use Rattle.tko_worker.specs.Workers.{Sight, tally_at}
 
 -- how far a client is, unless it is to leave
 abbrev pub progress_by : Presence → Option ℕ → Talk → Option Progress
@@ -82,13 +83,14 @@ abbrev pub HasWalked : {L T : Type 0} → Sight L T → (now idle : ℕ) → Lis
 HasWalked sight now idle times old after new = (number : ℕ) → number < length times
     → IsSeenAt sight now idle number times old after new
 
--- how many bytes of the replies of a number's client wait
-abbrev pub waiting_by : Option Progress → ℕ
+-- how many bytes of replies wait in memory for a number's client, with those of a reply that is
+-- under way
+abbrev pub waiting_by : Option Tally → ℕ
 waiting_by None = 0
-waiting_by (Some progress) = progress.waiting
+waiting_by (Some tally) = tally.held
 
 abbrev pub waiting_at : {L T : Type 0} → Sight L T → List (Option (Client (Guest L T))) → ℕ → ℕ
-waiting_at sight slots number = waiting_by (progress_at sight slots number)
+waiting_at sight slots number = waiting_by (tally_at sight.1 slots number)
 
 -- how many it is for each of the first clients was noted
 abbrev pub AreWaits : {L T : Type 0} → Sight L T → List (Option (Client (Guest L T))) → List ℕ

@@ -9,15 +9,15 @@ use tko_worker::EventWorker;
 
 /// What a loop calls, whose sessions are over parts of type `P`.
 pub trait Host<P, T: Talking<P> + Drop> {
-    ghost use Rattle.std.specs.Prelude.{◌≡◌, ℕ, None, IfOk, length};
+    ghost use Rattle.std.specs.Prelude.{◌≡◌, ℕ, [], None, IfOk, length};
     ghost use Rattle.tko_worker.specs.Workers.{IsInOrder};
 
     /// What a round at this moment does to the parts.
     ghost rounds: { P → ℕ → P → Type 0 };
 
-    /// The session of a client that came.
+    /// The session of a client that came, to which no bytes came and from which none went.
     fn greet(&mut self, parts: &P) -> Result<T, NoMemory>
-        ensures ready { IfOk result (λ talk. T.ready parts.now talk) }
+        ensures ready { IfOk result (λ talk. T.ready parts.now [] [] talk) }
         ensures idle { IfOk result (λ talk. T.awaited talk ≡ None) };
 
     /// The round at the end of a turn of events of this moment, once its clients were served. A

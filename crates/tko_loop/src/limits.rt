@@ -1,4 +1,4 @@
-//! How long a loop waits for clients and servers, and how much may wait for clients.
+//! How long a loop waits for clients and servers, and how much may be held for clients.
 
 /// The limits of a loop. Times are in milliseconds.
 #[derive(Clone, Copy, Debug, PartialEq, Eq)]
@@ -10,6 +10,7 @@ pub struct LoopLimits {
     pub write: u32,
     /// How long a client may complete no request; 0 is no limit.
     pub idle: u32,
-    /// How many bytes of replies may wait in one worker.
+    /// How many bytes of replies may be held in one worker: of those that wait, and of those under
+    /// way.
     pub unwritten: usize,
 }

@@ -12,8 +12,8 @@ pub struct Load {
     pub clients: usize,
     /// The connections to servers, made or being made.
     pub connections: usize,
-    /// How many bytes of replies wait for its clients to take them; the greatest number means that
-    /// many or more.
+    /// How many bytes of replies are held for its clients, of those that wait and of those under
+    /// way; the greatest number means that many or more.
     pub waiting: usize,
 }
 

@@ -1,10 +1,9 @@
 //! What waits for clients is offered to them again.
-ghost use Rattle.std.specs.Prelude.{length};
+ghost use Rattle.std.specs.Prelude.{◌≡◌, length};
 ghost use Rattle.tko_roster.specs.Rosters.{session_at};
 ghost use Rattle.tko_worker.specs.Workers.{IsInOrder, OthersStay};
-ghost use Rattle.tko_loop.specs.Offers.{AreOffered, IsWritableIf};
+ghost use Rattle.tko_loop.specs.Offers.{AreOffered, IsWritableIf, outgoing_at};
 
-use crate::walk::waiting_of;
 use std::alloc::Global;
 use tko_port::{Port, Talking};
 use tko_worker::Worker;
@@ -23,9 +22,23 @@ pub(crate) fn offer_again<P, L: Port + Drop, T: Talking<P> + Drop>(
     ensures order { IsInOrder (T.awaited, T.talk, L.port) T.ready clients.new }
 {
     for number in 0..clients.numbers() {
-        if 0 < waiting_of(clients, number) {
+        if 0 < outgoing_of(clients, number) {
             offer(clients, alloc, number);
         }
+    }
+}
+
+/// How many bytes of the replies of a number's client may be written.
+fn outgoing_of<P, L: Port + Drop, T: Talking<P> + Drop>(
+    clients: &Worker<L, T, P>,
+    number: usize,
+) -> usize
+    ensures { result
+        ≡ outgoing_at (T.awaited, T.talk, L.port) clients.now.mux.roster.slots number }
+{
+    match clients.tally(number) {
+        Some(tally) => tally.waiting,
+        None => 0,
     }
 }
 

@@ -42,13 +42,14 @@ fn clear_of(server: usize) -> Option<Clear>
 }
 
 impl Talking<()> for Talk {
-    ghost use Rattle.std.specs.Prelude.{None, Some};
+    ghost use Rattle.std.specs.Prelude.{None, Some, length};
 
     ghost talk = { λ it. record {
       stage = it.stage;
       output = it.output.items;
       answered = it.answered;
       taken = it.taken;
+      held = length it.output.items;
     } };
 
     ghost awaited = { λ it. it.awaits };
@@ -57,11 +58,11 @@ impl Talking<()> for Talk {
 
     ghost does = { λ _ _ _. Unit {0} };
 
-    ghost ready = { λ _ _. Unit {0} };
+    ghost ready = { λ _ _ _ _. Unit {0} };
 
     ghost stays = { λ _ _. Unit {0} };
 
-    ghost stay_ready = { λ _ _ _ _ _. tt };
+    ghost stay_ready = { λ _ _ _ _ _ _ _. tt };
 
     ghost stay = { λ _ _ _ _ _. tt };
 
@@ -106,6 +107,7 @@ impl Talking<()> for Talk {
             requests: self.answered,
             taken: self.taken,
             waiting: self.output.len(),
+            held: self.output.len(),
         }
     }
 

@@ -227,7 +227,8 @@ fn waiting_in<P, L: Port + Drop, T: Talking<P> + Drop>(
     }
 }
 
-/// How many bytes of the replies of a number's client wait.
+/// How many bytes of replies wait in memory for a number's client, with those of a reply that is
+/// under way.
 pub(crate) fn waiting_of<P, L: Port + Drop, T: Talking<P> + Drop>(
     clients: &Worker<L, T, P>,
     number: usize,
@@ -235,8 +236,8 @@ pub(crate) fn waiting_of<P, L: Port + Drop, T: Talking<P> + Drop>(
     ensures { result
         ≡ waiting_at (T.awaited, T.talk, L.port) clients.now.mux.roster.slots number }
 {
-    match progress_of(clients, number) {
-        Some(progress) => progress.waiting,
+    match clients.tally(number) {
+        Some(tally) => tally.held,
         None => 0,
     }
 }

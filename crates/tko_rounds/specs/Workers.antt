@@ -1,9 +1,10 @@
 -- A round as its worker sees it.
 use Rattle.std.specs.Prelude.{◌≡◌, ℕ, List, Option}
 use Rattle.tko_health.specs.declared.health.Health.{Ghosts as HealthGhosts}
+use Rattle.tko_port.specs.Talks.{Readiness}
 use Rattle.tko_reply.specs.declared.parts.Parts.{Parts}
 use Rattle.tko_session.specs.Awaiting.{awaited_in}
-use Rattle.tko_client.specs.Clients.{IsReadyOver}
+use Rattle.tko_client.specs.Clients.{IsReadyAfter}
 use Rattle.tko_client.specs.declared.client.EventClient.{EventClient}
 use Rattle.tko_client.specs.declared.lent.Lent.{Lent}
 use Rattle.tko_worker.specs.Turns.{probed_at}
@@ -16,10 +17,10 @@ use Rattle.tko_rounds.specs.Rounds.{RoundState}
 abbrev pub awaits : EventClient → Option ℕ
 awaits client = awaited_in client.session.work
 
--- a client can go on over these parts
-abbrev pub is_ready : {R H T C : Type 0} {health : HealthGhosts H} → Lent R H T C health
-    → EventClient → Type 0
-is_ready lent client = IsReadyOver lent.parts.config client
+-- a client can go on over these parts, once these bytes came to it and these went from it
+abbrev pub is_ready : {R H T C : Type 0} {health : HealthGhosts H}
+    → Readiness (Lent R H T C health) EventClient
+is_ready lent came went client = IsReadyAfter lent.parts.config came went client
 
 module _ {L S R H T C : Type 0} {health : HealthGhosts H} where
   -- the parts that the clients of a worker share

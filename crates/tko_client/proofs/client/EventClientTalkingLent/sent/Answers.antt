@@ -1,6 +1,10 @@
+use Rattle.std.proofs.Common.{refl}
 use Rattle.tko_model.proofs.RecordLemmas.{gains_none}
 use Rattle.tko_client.specs.Clients.{phase_at}
+use Rattle.tko_client.specs.Staying.{no_change}
+use Rattle.tko_client.specs.Steps.{client_ghosts}
 use Rattle.tko_client.proofs.ClientLemmas.{sent_act, sent_left}
+use Rattle.tko_client.proofs.LivingLemmas.{sent_over, sent_ready}
 use Rattle.tko_client.proofs.client.EventClientTalkingLent.sent.Goals as goal
 
 pub returns-clause-does : goal.returns-clause-does
@@ -11,3 +15,10 @@ returns-clause-does g c = (
 
 pub returns-clause-output : goal.returns-clause-output
 returns-clause-output g c = sent_left c.args.self.now.session c.sent.new.self c.args.count c.requires.within c.sent.ensures.sent
+
+pub returns-clause-ready : goal.returns-clause-ready
+returns-clause-ready g c = λ came went was.
+    sent_ready (client_ghosts {C = g.row.C.Denot} g.H.Health g.T.Trails) c.args.count c.args.self.now _ c.args._lent.now.parts c.args._lent.now.parts came went
+    (no_change {servers = g.H.Health.servers}) c.requires.within
+    (sent_over c.args._lent.now.parts.config c.args.self.now _ c.args.count was.over c.sent.ensures.sent (c.sent.ensures.ready c.args._lent.now.parts.config was.over.session) refl)
+    (returns-clause-does g c) was

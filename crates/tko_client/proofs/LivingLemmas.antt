@@ -1,0 +1,93 @@
+-- A client that is called has one session's life still.
+use Rattle.std.proofs.Common.{◌≡◌, ◌≤◌, ℕ, List, [], ◌++◌, length, take, refl, sym, ap, subst, ◌∙◌, append-nil, arith}
+use Rattle.std.proofs.lemmas.List.{length-take, take-take}
+use Rattle.tko_pools.specs.Configs.{Configuration}
+use Rattle.tko_reply.specs.Ghosts.{PartsGhosts}
+use Rattle.tko_reply.specs.declared.parts.Parts.{Parts}
+use Rattle.tko_session.specs.Clients.{IsClient, Life, life, new_client, no_life}
+use Rattle.tko_session.specs.Driven.{IsAwaiting, IsReady}
+use Rattle.tko_session.specs.Outgoing.{outgoing, outgoing_in, sent_from, shifted_work}
+use Rattle.tko_session.specs.SessionState.{SessionState}
+use Rattle.tko_session.specs.Working.{Work}
+use Rattle.tko_session.specs.Working as work
+use Rattle.tko_session.proofs.LifeLemmas.{begins}
+use Rattle.tko_port.specs.Talks.{Fed, Sent, TalkItem}
+use Rattle.tko_client.specs.declared.client.EventClient.{EventClient}
+use Rattle.tko_client.specs.Clients.{CourseReading, DoesAs, IsReadyAfter, IsReadyOver, bytes_in, client_of}
+use Rattle.tko_client.specs.Steps.{HasStayed}
+use Rattle.tko_client.proofs.LawLemmas.{bytes_out, did}
+
+-- the first bytes of the replies that may be written are those of all that are held
+front_in : (at : Work) (begin : ℕ) (outbox : List ℕ) (count : ℕ) → count ≤ length (outgoing_in at begin outbox)
+    → take count outbox ≡ take count (outgoing_in at begin outbox)
+front_in work.Between begin outbox count within = refl
+front_in (work.Read one) begin outbox count within = sym (take-take count begin outbox (omega (arith, within, length-take begin outbox)))
+front_in (work.Awaits it) begin outbox count within = sym (take-take count begin outbox (omega (arith, within, length-take begin outbox)))
+front_in (work.Ended one) begin outbox count within = sym (take-take count begin outbox (omega (arith, within, length-take begin outbox)))
+
+front_held : (state : SessionState) (count : ℕ) → count ≤ length (outgoing state) → take count state.outbox ≡ take count (outgoing state)
+front_held state count within = front_in state.work state.begin state.outbox count within
+
+awaits_still : (at : Work) (count : ℕ) → IsAwaiting (shifted_work count at) → IsAwaiting at
+awaits_still work.Between count is = is
+awaits_still (work.Read one) count is = is
+awaits_still (work.Awaits it) count is = is
+awaits_still (work.Ended one) count is = is
+
+-- a client whose replies were written can be called still
+pub sent_over : (config : Configuration) (old new : EventClient) (count : ℕ) → IsReadyOver config old → new.session ≡ sent_from old.session count → IsReady config new.session → new.course ≡ old.course
+    → IsReadyOver config new
+sent_over config old new count over sent ready same = record {
+  session = ready;
+  going = λ awaits. same ∙ over.going (awaits_still old.session.work count (subst IsAwaiting (ap (λ (s : SessionState). s.work) sent) awaits));
+  reading = subst (λ course. CourseReading course new.session.reading) (sym same) (subst (CourseReading old.course) (sym (ap (λ (s : SessionState). s.reading) sent)) over.reading);
+}
+
+-- a client that has just come
+pub new_ready : (config : Configuration) (it : EventClient) → IsReadyOver config it → client_of it ≡ new_client → IsReadyAfter config [] [] it
+new_ready config it over is = record { over = over; done = []; is = subst (λ c. IsClient config no_life c) (sym is) (begins config) }
+
+module _ {H T C : Type 0} (ghosts : PartsGhosts H (List ℕ) T C) {servers : H → ℕ} where
+  -- these bytes came, and these went
+  moved_ready : (item : TalkItem) (old new : EventClient) (before after : Parts H (List ℕ) T C) (came went bytes text : List ℕ) → HasStayed servers before after
+      → IsReadyOver after.config new → DoesAs ghosts item (client_of old, before) (client_of new, after)
+      → bytes_in item ≡ bytes → bytes_out item (client_of old) ≡ text
+      → IsReadyAfter before.config came went old → IsReadyAfter after.config (came ++ bytes) (went ++ text) new
+  moved_ready item old new before after came went bytes text stays over does in_is out_is ready =
+      let it : Life = life came went ready.done in
+      let grown = did ghosts before.config it (client_of old, before) (client_of new, after) item refl ready.is does in
+      let from : grown.more.bytes ≡ came ++ bytes = grown.from ∙ ap (λ (w : List ℕ). came ++ w) in_is in
+      let to : grown.more.sent ≡ went ++ text = grown.to ∙ ap (λ (w : List ℕ). went ++ w) out_is in
+      let lives : IsClient before.config (life (came ++ bytes) (went ++ text) grown.more.done) (client_of new) =
+      subst (λ (w : List ℕ). IsClient before.config (life w (went ++ text) grown.more.done) (client_of new)) from
+      (subst (λ (w : List ℕ). IsClient before.config (life grown.more.bytes w grown.more.done) (client_of new)) to grown.is) in record {
+        over = over;
+        done = grown.more.done;
+        is = subst (λ c. IsClient c (life (came ++ bytes) (went ++ text) grown.more.done) (client_of new)) (sym stays.config) lives;
+      }
+
+  -- no bytes came or went
+  pub still_ready : (item : TalkItem) (old new : EventClient) (before after : Parts H (List ℕ) T C) (came went : List ℕ) → HasStayed servers before after
+      → IsReadyOver after.config new → DoesAs ghosts item (client_of old, before) (client_of new, after)
+      → bytes_in item ≡ [] → bytes_out item (client_of old) ≡ []
+      → IsReadyAfter before.config came went old → IsReadyAfter after.config came went new
+  still_ready item old new before after came went stays over does in_is out_is ready =
+      let more = moved_ready item old new before after came went [] [] stays over does in_is out_is ready in
+      subst (λ (w : List ℕ). IsReadyAfter after.config w went new) (append-nil came)
+      (subst (λ (w : List ℕ). IsReadyAfter after.config (came ++ []) w new) (append-nil went) more)
+
+  -- bytes came
+  pub fed_ready : (bytes : List ℕ) (old new : EventClient) (before after : Parts H (List ℕ) T C) (came went : List ℕ) → HasStayed servers before after
+      → IsReadyOver after.config new → DoesAs ghosts (Fed bytes) (client_of old, before) (client_of new, after)
+      → IsReadyAfter before.config came went old → IsReadyAfter after.config (came ++ bytes) went new
+  fed_ready bytes old new before after came went stays over does ready =
+      subst (λ (w : List ℕ). IsReadyAfter after.config (came ++ bytes) w new) (append-nil went)
+      (moved_ready (Fed bytes) old new before after came went bytes [] stays over does refl refl ready)
+
+  -- replies were written
+  pub sent_ready : (count : ℕ) (old new : EventClient) (before after : Parts H (List ℕ) T C) (came went : List ℕ) → HasStayed servers before after → count ≤ length (outgoing old.session)
+      → IsReadyOver after.config new → DoesAs ghosts (Sent count) (client_of old, before) (client_of new, after)
+      → IsReadyAfter before.config came went old → IsReadyAfter after.config came (went ++ take count (outgoing old.session)) new
+  sent_ready count old new before after came went stays within over does ready =
+      subst (λ (w : List ℕ). IsReadyAfter after.config w (went ++ take count (outgoing old.session)) new) (append-nil came)
+      (moved_ready (Sent count) old new before after came went [] (take count (outgoing old.session)) stays over does refl (front_held old.session count within) ready)
