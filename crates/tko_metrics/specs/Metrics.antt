@@ -64,7 +64,7 @@ help_of metric.WorkerClients = codes "Clients that this event-driven worker serv
 help_of metric.WorkerConnections =
     codes "Connections of this event-driven worker to servers, made or being made."
 help_of metric.WorkerWaiting =
-    codes "Bytes of replies that wait for the clients of this event-driven worker to take them."
+    codes "Bytes of replies that this event-driven worker holds for its clients, whole or under way."
 help_of metric.Descriptors = codes "Open file descriptors."
 help_of metric.DescriptorLimit =
     codes "How many file descriptors the process could have open at its start."

@@ -8,7 +8,7 @@ pub struct WorkerLoad {
     pub clients: u64,
     /// Its connections to servers, made or being made.
     pub connections: u64,
-    /// How many bytes of replies wait for its clients to take them.
+    /// How many bytes of replies it holds for its clients, whole or under way.
     pub waiting: u64,
 }
 

@@ -55,7 +55,7 @@ const CONNECTIONS: &str = "Connections of this event-driven worker to servers, m
 
 /// The help text of `Metric::WorkerWaiting`.
 const WAITING: &str =
-    "Bytes of replies that wait for the clients of this event-driven worker to take them.";
+    "Bytes of replies that this event-driven worker holds for its clients, whole or under way.";
 
 impl Metric {
     pub(crate) fn name(self) -> &'static str
