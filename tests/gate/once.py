@@ -1,11 +1,11 @@
 """The kit's `rt ci` with six changes, most of them about work that `rt ci` does more than once.
 
-1. Each library is proved once, from nothing, into a folder that this run makes and removes. Its tests and its edits are
+1. Each library is proved once, from nothing, into a folder that this run makes and removes. Its edits are
    checked over what that proof left there. `rt ci` proves the library for each of the three.
 2. Must-fail edits are tried many in one check (edits.py), and the checks of one crate's edits side by side.
 3. An edit passes only if a clause refuses it, and the gate says which.
 4. Nothing is taken from earlier runs on this machine, and nothing is left to later ones.
-5. The tests of some crates are run and not proved (tried_tests.py).
+5. The tests of crates are run and not proved (tried_tests.py).
 6. A line says how far the run is as each check ends (progress.py), and memory is reckoned by what checks were seen to
    hold (costs.py).
 
@@ -90,11 +90,11 @@ def crate_proved_once(rt, room):
         keeps_proof = False
 
         def ci(self, flags, tests):
-            if tests and tried_tests.is_tried(self):
+            if tests:
                 return tried_tests.run(self, costs.file_in(room))
             self.keeps_proof = not self.is_program
             status = super().ci(flags, tests)
-            if self.keeps_proof and not tests and not status:
+            if self.keeps_proof and not status:
                 shutil.copytree(kept(room, self), proved(room, self), copy_function=os.link)
             return status
 
@@ -121,14 +121,14 @@ def proved(room, crate):
 
 
 def rearranged(rt, tasks, tried, known):
-    """Has the tests that are proved wait for the proof of their crate, and gives the proofs on the longest chain two jobs
-    at least. Where the kit has one task for all edits of a crate, each check of them becomes a task."""
+    """Has the tests wait for no proof, and gives the proofs on the longest chain two jobs at least. Where the kit has one
+    task for all edits of a crate, each check of them becomes a task."""
     crates = {it.name: it for it in rt.rtlib.crates_below(os.getcwd())}
     chain = costs.longest_chain(crates.values(), known) if rt.processors() >= 4 else ()
     for key, (waits, lines, needs, call) in tasks.items():
         name, what = key[:2]
         if what == "tests":
-            yield key, tests_task(crates[name], waits, lines, held(known, name, OVER_PROOF * needs), call)
+            yield key, (waits, lines, tried_tests.NEEDS, call)
         elif what == "edits" and not kit.has_store(rt):
             tries = tries_of(rt, tried, crates[name], rt.edits_of(crates[name])[0])
             yield from tries.items()
@@ -138,13 +138,6 @@ def rearranged(rt, tasks, tried, known):
             yield key, (waits, lines, held(known, name, needs, processes=2), with_two_jobs(call))
         else:
             yield key, (waits, lines, held(known, name, needs), call)
-
-
-def tests_task(crate, waits, lines, needs, call):
-    """The task of a crate's tests: over its proof, or, where they are run alone, over nothing."""
-    if tried_tests.is_tried(crate):
-        return waits, lines, tried_tests.NEEDS, call
-    return [*waits, (crate.name, "proof")], lines, needs, call
 
 
 def held(known, name, reckoned, processes=1):

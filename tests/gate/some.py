@@ -6,7 +6,6 @@ import time
 
 import kit
 import progress
-import tried_tests
 
 # How many of a crate's modules a check had to check, and did not find kept.
 CHECKED = re.compile(r"^crate \w+: modules loaded=\d+ checked=(\d+)$", re.M)
@@ -42,12 +41,9 @@ def is_changed(crate):
 
 
 def test(crate):
-    """Runs the tests of the crate, those whose proofs are dear without them."""
+    """Runs the tests of the crate."""
     if crate.has_tests():
-        if tried_tests.is_tried(crate):
-            ran(crate, "try", "--test")
-        else:
-            proved(crate, "test")
+        ran(crate, "try", "--test")
 
 
 def proved(crate, word):

@@ -9,24 +9,16 @@ import subprocess
 
 import costs
 
-# Crates whose tests take most to prove, three processor minutes or nearly so. Those of the other crates are proved.
-TRIED = frozenset({"tko_cli", "tko_client", "tko_desk", "tko_event_threads", "tko_links", "tko_loop", "tko_mux",
-                   "tko_pipe", "tko_rounds", "tko_route", "tko_runs", "tko_server", "tko_session", "tko_socket",
-                   "tko_tcp", "tko_text", "tko_threads", "tko_tracker", "tko_worker"})
 # The memory that such a run takes, in bytes: 0.6 to 2.2 GB were seen.
 NEEDS = 2_300_000_000
 LISTED = re.compile(r"^tests: (\d+)$", re.M)
 PASSED = re.compile(r"^test result: ok\. (\d+) passed; 0 failed; 0 ignored;.*^run=ended status=0 .*proved=no$", re.M | re.S)
 
 
-def is_tried(crate):
-    return crate.name in TRIED
-
-
 def said(text):
-    """What the kit says of a crate's tests, with these crates' tests not called proved."""
+    """What the kit says of a crate's tests, which are not called proved."""
     name, are, _ = text.partition(": its tests are proved")
-    return f"{name}: its tests passed (run, not proved)" if are and name in TRIED else text
+    return f"{name}: its tests passed (run, not proved)" if are else text
 
 
 def run(crate, file):
