@@ -6,6 +6,8 @@ import os
 import shutil
 import sys
 
+import stamps
+
 # The gate replaces parts of these kits' `rt` (see once.py): with another kit they have to be read again.
 WRITTEN_FOR = ("rattle-kit-13b logic dac8208d650f15bf", "rattle-kit-13f logic dac8208d650f15bf")
 
@@ -23,6 +25,7 @@ def load():
     if kit not in WRITTEN_FOR:
         stop(f"it was written for {' and '.join(WRITTEN_FOR)}, and this is {kit}: the kit's own gate, `rt ci`, serves "
              "until tests/gate/once.py was read against this kit and tests/gate/kit.py changed")
+    stamps.install(rt.rtlib.Crate)
     return rt
 
 
