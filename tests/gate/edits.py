@@ -2,16 +2,18 @@
 
 Edits in the bodies of different functions change no contract, so one check of these functions and of what they call
 judges each edit by itself. An edit of such a batch counts as refused only if a clause in its own function refuses it,
-and only if no function without an edit is refused. Every other edit is tried alone, by the kit's own procedure, and so
-is each that its batch did not refuse."""
+and only if no function without an edit is refused. What a batch did not refuse is tried in a second check without the
+others. Every other edit is tried alone, by the kit's own procedure, and so is each that these did not refuse."""
 import os
 import re
 import shutil
+import signal
 import tempfile
 import threading
 import time
 
 import kit
+import offers
 from places import changed_function
 from refusals import refusals
 
@@ -29,14 +31,16 @@ class Tries:
         self.proved = proved
         # For each edit what its try came to, and what to say, as the kit's `must_fail` returns it.
         self.verdicts = {}
-        self.last = threading.local()
-        self.checked = rt.checked
+        # Of each thread: what its last check printed, and the words before the command of its next one.
+        self.own = threading.local()
+        self.checked, guarded = rt.checked, rt.rtlib.guarded
         rt.checked = self.recorded
+        rt.rtlib.guarded = lambda: [*guarded(), *getattr(self.own, "words", [])]
 
     def recorded(self, *given):
         """The kit's `checked`, which also leaves what it printed to this thread."""
-        self.last.ran = self.checked(*given)
-        return self.last.ran
+        self.own.ran = self.checked(*given)
+        return self.own.ran
 
     def task(self, crate, batch, proof):
         """A task of the kit's lanes that tries these edits."""
@@ -51,9 +55,12 @@ class Tries:
         began = time.time()
         is_in_bodies = all(changed_function(it, crate.folder) for it in batch)
         judged = self.together(crate, batch) if is_in_bodies else {}
+        left = [it for it in batch if it not in judged]
+        # (of a function that calls another edited one a check may say that alone)
+        judged |= self.together(crate, left) if judged and left else {}
         self.verdicts.update(judged)
         self.verdicts.update({edit: self.alone(crate, edit) for edit in batch if edit not in judged})
-        self.rt.say(f"{crate.name}: {len(batch)} must-fail edits, {len(judged)} of them judged in one check, "
+        self.rt.say(f"{crate.name}: {len(batch)} must-fail edits, {len(judged)} of them judged with others, "
                     f"{time.time() - began:.0f} s")
 
     def together(self, crate, batch):
@@ -74,7 +81,7 @@ class Tries:
         be read or applied, which the kit lets pass."""
         kind, text = self.over_proof(crate, edit=edit)
         if kit.is_refused(self.rt, kind):
-            return self.verdict(crate, edit, refusals(self.last.ran.stdout, crate.name))
+            return self.verdict(crate, edit, refusals(self.own.ran.stdout, crate.name))
         return kit.failing(self.rt, kind), text
 
     def of_functions(self, crate, texts, functions):
@@ -87,10 +94,18 @@ class Tries:
         """A check of the edited crate over a copy of what its proof left. It writes files anew, so links will do."""
         flags = ["--jobs", "1", *only]
         with tempfile.TemporaryDirectory(prefix="gate-edit-") as room:
-            shutil.copytree(self.proved(crate), f"{room}/kept", copy_function=os.link)
-            if edit:
-                return self.rt.must_fail(crate, edit, flags, f"{room}/kept")
-            return self.checked(crate, texts, flags, f"{room}/kept")
+            self.own.words = offers.copied_without(self.proved(crate), f"{room}/kept")
+            try:
+                if edit:
+                    return self.rt.must_fail(crate, edit, flags, f"{room}/kept")
+                return self.not_killed(crate, texts, flags, f"{room}/kept")
+            finally:
+                self.own.words = []
+
+    def not_killed(self, *given):
+        """A check, and the same once more where it was killed, most likely for memory, as the kit does for one edit."""
+        ran = self.checked(*given)
+        return self.checked(*given) if ran.returncode == -signal.SIGKILL else ran
 
     def verdict(self, crate, edit, refused):
         """Returns what the edit's try came to, and what to say, from the functions that were refused."""

@@ -1,4 +1,4 @@
-"""The kit's `rt ci` with seven changes, most of them about work that `rt ci` does more than once.
+"""The kit's `rt ci` with eight changes, most of them about work that `rt ci` does more than once.
 
 1. Each library is proved once, from nothing, into a folder that this run makes and removes. Its edits are
    checked over what that proof left there. `rt ci` proves the library for each of the three.
@@ -9,6 +9,7 @@
 6. A line says how far the run is as each check ends (progress.py), and memory is reckoned by what checks were seen to
    hold (costs.py).
 7. The sources of a crate are hashed once for each look at them (stamps.py).
+8. The check of an edit offers no proof files (offers.py).
 
 Everything else is the kit's own code: the rules on the text, the handles, the last line of each check, the runs."""
 import os

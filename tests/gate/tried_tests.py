@@ -1,5 +1,5 @@
-"""Tests that are run and not proved. The kit's `rt try --test` builds a crate and all below it from their sources, with
-checks of memory use, and runs its tests.
+"""Tests that are run and not proved. The kit's `rt try --test` (trying.py) builds a crate and all below it from their
+sources, with checks of memory use, and runs its tests.
 
 Left out is the proof that such a test meets what its callees require and that it ends (it has 60 seconds), and that it
 runs the code of the proved build: the built program has tests/rows and tests/server. Each function of the crate itself
@@ -8,6 +8,7 @@ import re
 import subprocess
 
 import costs
+import trying
 
 # The memory that such a run takes, in bytes: 0.6 to 2.2 GB were seen.
 NEEDS = 2_300_000_000
@@ -24,7 +25,7 @@ def said(text):
 def run(crate, file):
     """Runs the tests of the crate, and returns 0 where all that it lists passed. What it took goes to that file."""
     how = {"cwd": crate.folder, "stdin": subprocess.DEVNULL, "stdout": subprocess.PIPE, "stderr": subprocess.STDOUT}
-    ran = subprocess.run([*costs.timed(file), "rt", "try", "--test"], errors="replace", **how)
+    ran = subprocess.run([*costs.timed(file), *trying.command("--test")], errors="replace", **how)
     print(ran.stdout, end="", file=crate.out, flush=True)
     listed, passed = LISTED.search(ran.stdout), PASSED.search(ran.stdout)
     is_well = ran.returncode == 0 and listed and passed and listed[1] == passed[1] != "0"
