@@ -13,7 +13,7 @@ use Rattle.tko_table.specs.declared.pass.Change.{Change}
 use Rattle.tko_table.specs.declared.pass.Made.{Made}
 use Rattle.tko_table.specs.declared.pass.Pass.{Pass}
 use Rattle.tko_table.specs.History.{changes_in, made_by, made_with, place_of_answer}
-use Rattle.tko_table.proofs.ChangeLemmas.{changes_in-append, made_by-append}
+use Rattle.tko_table.proofs.AddedChangeLemmas.{changes_in-append, made_by-append}
 use Rattle.tko_tracker.specs.History.{Adds, IsAnsweredAt, own_change}
 use Rattle.tko_tracker.specs.Seated.{IsOf, Seated, TrackerId}
 use Rattle.tko_health.specs.LockFree.{IsPassRecord, IsPassStep, IsRepliedIn, MakesCalls, owned_by}

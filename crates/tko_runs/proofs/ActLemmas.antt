@@ -32,9 +32,9 @@ use Rattle.tko_steps.specs.Steps.{is_done, kind_of, kind_of_exchange, place_of, 
 use Rattle.tko_steps.specs.Invariant.{IsCore, IsFoundBy, IsOwnOrUp, held_at}
 use Rattle.tko_steps.specs.Table.{action_of, same_mark, same_server, same_slots}
 use Rattle.tko_steps.proofs.CoreLemmas.{group-there}
-use Rattle.tko_steps.proofs.PhaseLemmas.{knows_at, one-le-held}
+use Rattle.tko_steps.proofs.PhaseStepLemmas.{knows_at, one-le-held}
 use Rattle.tko_steps.proofs.RoomLemmas.{CanAct-at, enrolled-le, stamp-fits}
-use Rattle.tko_steps.proofs.LegalLemmas.{Knows}
+use Rattle.tko_steps.proofs.SoFarLemmas.{Knows}
 use Rattle.tko_steps.proofs.TableLemmas.{eq-same_server, same_server-true, same_slots-true}
 use Rattle.tko_steps.proofs.ThreadLemmas.{number-lt}
 use Rattle.tko_steps.specs.Runs.{OwnStep}

@@ -31,7 +31,7 @@ use Rattle.tko_steps.specs.Invariant.{IsCore}
 use Rattle.tko_steps.specs.Table.{action_of, at_threshold, from_start, goes, lost_try, next_of, same_server}
 use Rattle.tko_steps.specs.Runs.{Step}
 use Rattle.tko_steps.proofs.CostLemmas.{depth}
-use Rattle.tko_steps.proofs.PhaseLemmas.{IsCore-after_act, knows_at}
+use Rattle.tko_steps.proofs.PhaseStepLemmas.{IsCore-after_act, knows_at}
 use Rattle.tko_steps.proofs.RunLemmas.{Holds-run}
 use Rattle.tko_steps.proofs.StartLemmas.{from_start-is}
 use Rattle.tko_model.specs.Groups.{group_of, limit_at}

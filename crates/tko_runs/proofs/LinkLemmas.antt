@@ -31,8 +31,8 @@ use Rattle.tko_steps.specs.Table.{action_of}
 use Rattle.tko_runs.proofs.ActLemmas.{Acts, acts}
 use Rattle.tko_runs.proofs.EventLemmas.{AllFollow-push, claimed_after_all-push}
 use Rattle.tko_model.specs.Tracker.{server_at}
-use Rattle.tko_steps.proofs.EveryCallLemmas.{HoldsBoth, along}
-use Rattle.tko_steps.proofs.LegalLemmas.{Knows}
+use Rattle.tko_steps.proofs.EveryTurnLemmas.{HoldsBoth, along}
+use Rattle.tko_steps.proofs.SoFarLemmas.{Knows}
 use Rattle.tko_steps.proofs.WiringLemmas.{begun, stepped_from}
 use Rattle.tko_runs.specs.Words.{CanLeave, room_at}
 

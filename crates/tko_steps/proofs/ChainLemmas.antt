@@ -9,7 +9,7 @@ use Rattle.tko_steps.specs.Runs.{InEveryRun, World, calls_of, own_step}
 use Rattle.tko_steps.specs.Core.{abstract_of, thread_at}
 use Rattle.tko_steps.specs.Legal.{ChangesAreOwn, IsChain}
 use Rattle.tko_steps.proofs.CallLemmas.{IsNewestStep-with_step}
-use Rattle.tko_steps.proofs.EveryCallLemmas.{HoldsBoth, along}
+use Rattle.tko_steps.proofs.EveryTurnLemmas.{HoldsBoth, along}
 use Rattle.tko_steps.proofs.LegalLemmas.{open_call}
 use Rattle.tko_steps.proofs.OwnLemmas.{act_step}
 use Rattle.tko_steps.proofs.WiringLemmas.{stepped_from}

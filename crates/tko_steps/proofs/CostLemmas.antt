@@ -1,34 +1,21 @@
 -- The numbers of steps: what each phase says of how many steps its call took so far.
-use Rattle.std.proofs.Common.{◌≡◌, ℕ, suc, ◌+◌, ◌*◌, ◌<◌, ◌≤◌, cond, eqb, List, length, All, refl, sym, subst, arith}
-use Rattle.std.proofs.lemmas.Bool.{cond_both, eqb-false}
+use Rattle.std.proofs.Common.{◌≡◌, ℕ, suc, ◌+◌, ◌*◌, ◌<◌, ◌≤◌, sym, subst, arith}
 use Rattle.tko_model.specs.declared.mark.Mark.{Mark}
 use Rattle.tko_model.specs.declared.mark.Mark.TheVariants.{Up, Soft, Hard}
 use Rattle.tko_model.specs.declared.mark.Op.{Op}
 use Rattle.tko_model.specs.declared.mark.Op.TheVariants.{LookUp, SoftFailure, HardFailure, Success, Release}
-use Rattle.tko_model.specs.declared.mark.Reply.TheVariants.{Contended, Full}
 use Rattle.tko_model.specs.Settings.{Settings}
 use Rattle.tko_model.specs.declared.state.ServerState.{ServerState}
 use Rattle.tko_model.specs.Ranges.{IsWithinRanges}
-use Rattle.tko_model.specs.Tracker.{server_at}
 use Rattle.tko_steps.specs.declared.phase.Call.{Call as CallState}
 use Rattle.tko_steps.specs.declared.phase.Phase.{Phase}
 use Rattle.tko_steps.specs.declared.phase.Phase.TheVariants.{Start, Read, AtThreshold, Limit, Reserving, Holding, Firming, Losing, Loosening, Loosened, Emptied}
-use Rattle.tko_steps.specs.declared.phase.ThreadState.TheVariants.{InCall}
 use Rattle.tko_steps.specs.declared.table.Decision.{Decision}
 use Rattle.tko_steps.specs.declared.table.Decision.TheVariants.{Goes, Answers}
-use Rattle.tko_steps.specs.Core.{Shared, follows, word_at, slots_at}
-use Rattle.tko_steps.specs.Cost.{IsShort, most_steps}
-use Rattle.tko_steps.specs.Invariant.{IsFoundBy, IsThread}
-use Rattle.tko_steps.specs.Steps.{answer_of, begun_by, decided_by, place_of}
-use Rattle.tko_steps.specs.Runs.{InEveryRun, OwnStep, World, calls_of}
-use Rattle.tko_steps.specs.Table.{action_of, goes, lost_try, same_server, same_slots}
-use Rattle.tko_steps.proofs.PhaseLemmas.{knows_at}
-use Rattle.tko_steps.proofs.EveryCallLemmas.{InFamily-run}
-use Rattle.tko_steps.proofs.FamilyLemmas.{Follows, act_own}
-use Rattle.tko_steps.proofs.StartLemmas.{CanLoosen, CanRead, from_start-is}
-use Rattle.tko_steps.proofs.TableLemmas.{eq-same_server}
-use Rattle.tko_steps.proofs.WiringLemmas.{stepped_from}
-use Rattle.tko_model.specs.Groups.{group_of, limit_at}
+use Rattle.tko_steps.specs.Cost.{most_steps}
+use Rattle.tko_steps.specs.Invariant.{IsFoundBy}
+use Rattle.tko_steps.specs.Steps.{begun_by}
+use Rattle.tko_steps.proofs.StartLemmas.{CanLoosen, CanRead}
 
 -- how many steps a lost try takes
 abbrev pub per_try : Op → ℕ
@@ -53,7 +40,7 @@ depth (Loosened found mark answer) = 2
 depth (Emptied answer) = 3
 
 -- an operation that comes to this phase
-abbrev Fits : Op → ℕ → Phase → Type 0
+abbrev pub Fits : Op → ℕ → Phase → Type 0
 Fits op number Start = Unit {0}
 Fits op number (Read found mark answer) = CanRead op number found.mark
 Fits op number (AtThreshold found) = op ≡ SoftFailure
@@ -73,14 +60,14 @@ pub record KnowsCost (s : Settings) (call : CallState) (taken : ℕ) (phase : Ph
 
 -- ---- one more step ends the call, or the try
 
-ends-any : (s : Settings) (op : Op) (n lost : ℕ) → n ≤ per_try op * lost + 0 → lost < s.tries → suc n ≤ most_steps s op
+pub ends-any : (s : Settings) (op : Op) (n lost : ℕ) → n ≤ per_try op * lost + 0 → lost < s.tries → suc n ≤ most_steps s op
 ends-any s LookUp n lost few left = omega (arith, few)
 ends-any s SoftFailure n lost few left = omega (arith, few, left)
 ends-any s HardFailure n lost few left = omega (arith, few, left)
 ends-any s Success n lost few left = omega (arith, few, left)
 ends-any s Release n lost few left = omega (arith, few)
 
-ends-read : (s : Settings) (op : Op) (number : ℕ) (mark : Mark) (n lost : ℕ) → CanRead op number mark → n ≤ per_try op * lost + 1 → lost < s.tries
+pub ends-read : (s : Settings) (op : Op) (number : ℕ) (mark : Mark) (n lost : ℕ) → CanRead op number mark → n ≤ per_try op * lost + 1 → lost < s.tries
     → suc n ≤ most_steps s op
 ends-read s LookUp number mark n lost can few left = absurd can
 ends-read s SoftFailure number mark n lost can few left = omega (arith, few, left)
@@ -88,14 +75,14 @@ ends-read s HardFailure number mark n lost can few left = omega (arith, few, lef
 ends-read s Success number mark n lost can few left = omega (arith, few, left)
 ends-read s Release number mark n lost can few left = omega (arith, few)
 
-ends-loosen : (s : Settings) (op : Op) (n lost d : ℕ) → CanLoosen op → d ≤ 3 → n ≤ per_try op * lost + d → lost < s.tries → suc n ≤ most_steps s op
+pub ends-loosen : (s : Settings) (op : Op) (n lost d : ℕ) → CanLoosen op → d ≤ 3 → n ≤ per_try op * lost + d → lost < s.tries → suc n ≤ most_steps s op
 ends-loosen s LookUp n lost d can deep few left = absurd can
 ends-loosen s SoftFailure n lost d can deep few left = absurd can
 ends-loosen s HardFailure n lost d can deep few left = omega (arith, few, left, deep)
 ends-loosen s Success n lost d can deep few left = omega (arith, few, left, deep)
 ends-loosen s Release n lost d can deep few left = omega (arith, few, deep)
 
-ends-soft : (s : Settings) (op : Op) (n lost d : ℕ) → op ≡ SoftFailure → d ≤ 4 → n ≤ per_try op * lost + d → lost < s.tries → suc n ≤ most_steps s op
+pub ends-soft : (s : Settings) (op : Op) (n lost d : ℕ) → op ≡ SoftFailure → d ≤ 4 → n ≤ per_try op * lost + d → lost < s.tries → suc n ≤ most_steps s op
 ends-soft s op n lost d is deep few left =
     let P : Op → Type 0 = λ it. n ≤ per_try it * lost + d in
     let Q : Op → Type 0 = λ it. suc n ≤ most_steps s it in
@@ -103,7 +90,7 @@ ends-soft s op n lost d is deep few left =
     let short : suc n ≤ 5 * s.tries = omega (arith, soft, left, deep) in
     subst Q (sym is) short
 
-loses-soft : (op : Op) (n lost d : ℕ) → op ≡ SoftFailure → d ≤ 4 → n ≤ per_try op * lost + d → suc n ≤ per_try op * (lost + 1) + 0
+pub loses-soft : (op : Op) (n lost d : ℕ) → op ≡ SoftFailure → d ≤ 4 → n ≤ per_try op * lost + d → suc n ≤ per_try op * (lost + 1) + 0
 loses-soft op n lost d is deep few =
     let P : Op → Type 0 = λ it. n ≤ per_try it * lost + d in
     let Q : Op → Type 0 = λ it. suc n ≤ per_try it * (lost + 1) + 0 in
@@ -111,7 +98,7 @@ loses-soft op n lost d is deep few =
     let short : suc n ≤ 5 * (lost + 1) + 0 = omega (arith, soft, deep) in
     subst Q (sym is) short
 
-loses-read : (op : Op) (number : ℕ) (mark : Mark) (n lost : ℕ) → CanRead op number mark → (mark ≡ Hard number → ⊥) → n ≤ per_try op * lost + 1
+pub loses-read : (op : Op) (number : ℕ) (mark : Mark) (n lost : ℕ) → CanRead op number mark → (mark ≡ Hard number → ⊥) → n ≤ per_try op * lost + 1
     → suc n ≤ per_try op * (lost + 1) + 0
 loses-read LookUp number mark n lost can apart few = absurd can
 loses-read SoftFailure number mark n lost can apart few = omega (arith, few)
@@ -119,11 +106,11 @@ loses-read HardFailure number mark n lost can apart few = omega (arith, few)
 loses-read Success number mark n lost can apart few = omega (arith, few)
 loses-read Release number mark n lost can apart few = absurd (apart can)
 
-one-more : (k n d : ℕ) → n ≤ k + d → suc n ≤ k + (d + 1)
+pub one-more : (k n d : ℕ) → n ≤ k + d → suc n ≤ k + (d + 1)
 one-more k n d few = omega (arith, few)
 
 -- a thread's own hard mark still is there
-own-hard : (number : ℕ) (now found : ServerState) (mark : Mark) → mark ≡ Hard number → IsFoundBy number now found mark → now ≡ found
+pub own-hard : (number : ℕ) (now found : ServerState) (mark : Mark) → mark ≡ Hard number → IsFoundBy number now found mark → now ≡ found
 own-hard number now found (Up count) is by = cc
 own-hard number now found (Soft owner) is by = absurd by
 own-hard number now found (Hard owner) is by = by.1
@@ -138,127 +125,3 @@ CostAfter s call taken (Goes lost phase) = KnowsCost s (record call { lost = los
 CostAfter s call taken (Answers answer) = taken ≤ most_steps s call.op
 
 -- the step of a call that took so many, over plain data
-module _ (s : Settings) (shared : Shared) (call : CallState) (taken : ℕ) where
-  abbrev now : ServerState
-  now = server_at shared.servers call.server
-
-  abbrev Next : Decision → Type 0
-  Next decision = CostAfter s call (suc taken) decision
-
-  -- the try goes on
-  goes-on : (phase next : Phase) → KnowsCost s call taken phase → depth next ≡ depth phase + 1 → Fits call.op call.number next
-      → KnowsCost s call (suc taken) next
-  goes-on phase next knows deeper fits =
-      record {
-        few = rw deeper (one-more (per_try call.op * call.lost) taken (depth phase) knows.few);
-        left = knows.left;
-        fits = fits;
-      }
-
-  -- the try is lost
-  loses : call.lost < s.tries → suc taken ≤ per_try call.op * (call.lost + 1) + 0
-      → suc taken ≤ most_steps s call.op → Next (lost_try s call)
-  loses left few short =
-      cond_both (eqb s.tries (call.lost + 1)) (Answers Contended) (Goes (call.lost + 1) Start) Next
-      (λ last. short)
-      (λ more. let apart = eqb-false s.tries (call.lost + 1) more in
-      record { few = few; left = omega (arith, left, apart); fits = tt })
-
-  loses-its : (phase : Phase) → KnowsCost s call taken phase → call.op ≡ SoftFailure → depth phase ≤ 4 → Next (lost_try s call)
-  loses-its phase knows soft deep =
-      loses knows.left
-      (loses-soft call.op taken call.lost (depth phase) soft deep knows.few)
-      (ends-soft s call.op taken call.lost (depth phase) soft deep knows.few knows.left)
-
-  pub cost-act : (phase : Phase) → IsThread s shared.servers (InCall call phase) → KnowsCost s call taken phase
-      → Next (decided_by s call phase (word_at shared (place_of s call.server (action_of call.number phase))))
-  cost-act Start here knows =
-      from_start-is s call now Next
-      (λ answer is_answer is. ends-any s call.op taken call.lost knows.few knows.left)
-      (λ soft fresh is. goes-on Start (AtThreshold now) knows refl soft)
-      (λ mark answer put can by is. goes-on Start (Read now mark answer) knows refl can)
-      (λ mark answer put can own is. goes-on Start (Loosening now mark answer) knows refl can)
-  cost-act (Read found mark answer) here knows =
-      let phase : Phase = Read found mark answer in
-      let by = here.2.1 in
-      let short = ends-read s call.op call.number found.mark taken call.lost knows.fits knows.few knows.left in
-      cond_both (same_server now found) (Answers answer) (lost_try s call) Next
-      (λ won. short)
-      (λ lost.
-      loses knows.left
-      (loses-read call.op call.number found.mark taken call.lost knows.fits
-      (λ hard. let same = eq-same_server now found (own-hard call.number now found found.mark hard by) in cc) knows.few) short)
-  cost-act (AtThreshold found) here knows =
-      let phase : Phase = AtThreshold found in
-      let slots = slots_at shared.slots (group_of s call.server) in
-      let rest = cond (eqb (slots.firm + slots.held) (limit_at s call.server)) (lost_try s call) (goes call (Reserving found slots)) in
-      cond_both (eqb slots.firm (limit_at s call.server)) (goes call (Limit found)) rest Next
-      (λ full. goes-on phase (Limit found) knows refl knows.fits)
-      (λ below. cond_both (eqb (slots.firm + slots.held) (limit_at s call.server)) (lost_try s call) (goes call (Reserving found slots)) Next
-      (λ held. loses-its phase knows knows.fits (omega arith))
-      (λ left. goes-on phase (Reserving found slots) knows refl knows.fits))
-  cost-act (Limit found) here knows =
-      let phase : Phase = Limit found in
-      cond_both (same_server found now) (Answers Full) (lost_try s call) Next
-      (λ same. ends-soft s call.op taken call.lost 2 knows.fits (omega arith) knows.few knows.left)
-      (λ other. loses-its phase knows knows.fits (omega arith))
-  cost-act (Reserving found before) here knows =
-      let phase : Phase = Reserving found before in
-      cond_both (same_slots (slots_at shared.slots (group_of s call.server)) before) (goes call (Holding found)) (lost_try s call) Next
-      (λ won. goes-on phase (Holding found) knows refl knows.fits)
-      (λ lost. loses-its phase knows knows.fits (omega arith))
-  cost-act (Holding found) here knows =
-      let phase : Phase = Holding found in
-      cond_both (same_server now found) (goes call Firming) (goes call Losing) Next
-      (λ won. goes-on phase Firming knows refl knows.fits)
-      (λ lost. goes-on phase Losing knows refl knows.fits)
-  cost-act Firming here knows = ends-soft s call.op taken call.lost 4 knows.fits (omega arith) knows.few knows.left
-  cost-act Losing here knows = loses-its Losing knows knows.fits (omega arith)
-  cost-act (Loosening found mark answer) here knows =
-      goes-on (Loosening found mark answer) (Loosened found mark answer) knows refl knows.fits
-  cost-act (Loosened found mark answer) here knows = goes-on (Loosened found mark answer) (Emptied answer) knows refl knows.fits
-  cost-act (Emptied answer) here knows = ends-loosen s call.op taken call.lost 3 knows.fits (omega arith) knows.few knows.left
-
--- an open call took fewer than it may
-pub cost-open : (s : Settings) (call : CallState) (taken : ℕ) (phase : Phase) → KnowsCost s call taken phase → taken < most_steps s call.op
-cost-open s call taken Start knows = ends-any s call.op taken call.lost knows.few knows.left
-cost-open s call taken (Read found mark answer) knows =
-    ends-read s call.op call.number found.mark taken call.lost knows.fits knows.few knows.left
-cost-open s call taken (AtThreshold found) knows = ends-soft s call.op taken call.lost 1 knows.fits (omega arith) knows.few knows.left
-cost-open s call taken (Limit found) knows = ends-soft s call.op taken call.lost 2 knows.fits (omega arith) knows.few knows.left
-cost-open s call taken (Reserving found slots) knows = ends-soft s call.op taken call.lost 2 knows.fits (omega arith) knows.few knows.left
-cost-open s call taken (Holding found) knows = ends-soft s call.op taken call.lost 3 knows.fits (omega arith) knows.few knows.left
-cost-open s call taken Firming knows = ends-soft s call.op taken call.lost 4 knows.fits (omega arith) knows.few knows.left
-cost-open s call taken Losing knows = ends-soft s call.op taken call.lost 4 knows.fits (omega arith) knows.few knows.left
-cost-open s call taken (Loosening found mark answer) knows =
-    ends-loosen s call.op taken call.lost 1 knows.fits (omega arith) knows.few knows.left
-cost-open s call taken (Loosened found mark answer) knows =
-    ends-loosen s call.op taken call.lost 2 knows.fits (omega arith) knows.few knows.left
-cost-open s call taken (Emptied answer) knows = ends-loosen s call.op taken call.lost 3 knows.fits (omega arith) knows.few knows.left
-
--- the same along a run
-follows-cost : (s : Settings) (new : World) (thread : ℕ) (call : CallState) (steps : List OwnStep) (own : OwnStep) (decision : Decision)
-    → own.step.answer ≡ answer_of decision → CostAfter s call (suc (length steps)) decision
-    → Follows s (λ at who one taken phase. KnowsCost s one (length taken) phase) (IsShort s) new thread call steps own decision
-follows-cost s new thread call steps own (Goes lost phase) answers costs = costs
-follows-cost s new thread call steps own (Answers answer) answers costs = (costs, λ none. cc)
-
-pub ShortCalls-run : InEveryRun (λ s w. All (IsShort s) (calls_of w.past))
-ShortCalls-run s ranges turns =
-    (InFamily-run s (λ at thread call steps phase. KnowsCost s call (length steps) phase) (IsShort s)
-    (λ w thread number op server both stands. cost-begin s number op server ranges)
-    (λ w thread call steps phase knows.
-    let more = cost-open s call (length steps) phase knows in
-    let most : length steps ≤ most_steps s call.op = omega (arith, more) in (most, λ open_yet. more))
-    (λ w thread call steps phase both inside stands found knows.
-    let P : Settings → Type 0 = λ it. KnowsCost it call (length steps) phase in
-    let Q : Settings → Type 0 = λ it.
-    Follows it (λ at who one taken after. KnowsCost it one (length taken) after) (IsShort it) (stepped_from w thread (InCall call phase)) thread call steps
-    (act_own w thread call phase) (follows w.core call phase) in
-    subst Q both.0.settings
-    (follows-cost w.core.settings (stepped_from w thread (InCall call phase)) thread call steps (act_own w thread call phase) (follows w.core call phase) refl
-    (cost-act w.core.settings w.core.shared call (length steps) phase (knows_at w.core thread call both.0.core inside phase stands)
-    (subst P (sym both.0.settings) knows))))
-    (λ w thread other op server call steps phase knows. knows)
-    (λ w thread other state call steps phase both inside at here apart knows. knows)
-    ranges turns).1.calls

@@ -16,7 +16,7 @@ use Rattle.tko_steps.specs.Invariant.{IsCore, IsThread, holds_in, is_loose_in}
 use Rattle.tko_steps.specs.Steps.{after_first_look, begun_by, place_of, thread_after}
 use Rattle.tko_steps.specs.Table.{action_of}
 use Rattle.tko_steps.proofs.CountLemmas.{bit}
-use Rattle.tko_steps.proofs.PhaseLemmas.{IsCore-after_act, knows_at}
+use Rattle.tko_steps.proofs.PhaseStepLemmas.{IsCore-after_act, knows_at}
 use Rattle.tko_steps.proofs.BeginLemmas.{IsCore-after_begin, IsCore-after_enrol}
 use Rattle.tko_steps.proofs.RoomLemmas.{CanAct-at}
 

@@ -18,8 +18,8 @@ use Rattle.tko_steps.specs.Kinds.{HasKind, HaveKinds, IsClearedOrHard, IsKindAt,
 use Rattle.tko_steps.specs.Runs.{InEveryRun, Took, World}
 use Rattle.tko_steps.specs.Steps.{is_done, kind_of, kind_of_exchange, place_of, seen_in}
 use Rattle.tko_steps.specs.Table.{action_of, same_server}
-use Rattle.tko_steps.proofs.PhaseLemmas.{knows_at}
-use Rattle.tko_steps.proofs.EveryCallLemmas.{along}
+use Rattle.tko_steps.proofs.PhaseStepLemmas.{knows_at}
+use Rattle.tko_steps.proofs.EveryTurnLemmas.{along}
 use Rattle.tko_steps.proofs.OwnLemmas.{act_step, enrol_step}
 use Rattle.tko_steps.proofs.TableLemmas.{eq-same_server}
 use Rattle.tko_steps.proofs.WiringLemmas.{begun}

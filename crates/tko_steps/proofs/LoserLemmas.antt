@@ -21,7 +21,7 @@ use Rattle.tko_steps.specs.Lost.{IsChangedSince, IsLostToOther, IsSlotOfOther, L
 use Rattle.tko_steps.specs.Runs.{Call, InEveryRun, OwnStep, StepTaken, Took, World, calls_of, run}
 use Rattle.tko_steps.specs.Table.{same_server, same_slots}
 use Rattle.tko_steps.proofs.CallLemmas.{latest}
-use Rattle.tko_steps.proofs.EveryCallLemmas.{HoldsBoth}
+use Rattle.tko_steps.proofs.EveryTurnLemmas.{HoldsBoth}
 use Rattle.tko_steps.proofs.FamilyLemmas.{InFamily, Stands}
 use Rattle.tko_steps.proofs.LegalLemmas.{open_call}
 use Rattle.tko_steps.proofs.LostLemmas.{HasLooked, IsTried, KnowsTries, Tries}

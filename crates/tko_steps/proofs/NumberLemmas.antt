@@ -14,7 +14,7 @@ use Rattle.tko_steps.specs.Core.{follows, number_of, thread_at}
 use Rattle.tko_steps.specs.Steps.{begun_by, state_after}
 use Rattle.tko_steps.specs.Legal.{IsUnderNumber}
 use Rattle.tko_steps.proofs.CallLemmas.{All-with_step, with_step-none}
-use Rattle.tko_steps.proofs.EveryCallLemmas.{HoldsBoth, along}
+use Rattle.tko_steps.proofs.EveryTurnLemmas.{HoldsBoth, along}
 use Rattle.tko_steps.proofs.LegalLemmas.{open_call}
 use Rattle.tko_steps.proofs.OwnLemmas.{act_step, enrol_step, number-after-step}
 use Rattle.tko_steps.proofs.WiringLemmas.{begun, stepped_from}

@@ -27,11 +27,12 @@ use Rattle.tko_steps.specs.Table.{action_of, same_server, same_slots}
 use Rattle.tko_steps.proofs.CountLemmas.{unread}
 use Rattle.tko_steps.proofs.PhaseLemmas.{written}
 use Rattle.tko_steps.proofs.RoomLemmas.{CanAct-at}
-use Rattle.tko_steps.proofs.EveryCallLemmas.{HoldsBoth}
-use Rattle.tko_steps.proofs.EveryCallLemmas.{InFamily-run}
+use Rattle.tko_steps.proofs.EveryTurnLemmas.{HoldsBoth}
+use Rattle.tko_steps.proofs.EveryTurnLemmas.{InFamily-run}
 use Rattle.tko_steps.proofs.FamilyLemmas.{Follows, InFamily, act_own}
 use Rattle.tko_steps.proofs.LegalLemmas.{open_call}
-use Rattle.tko_steps.proofs.LostLemmas.{HasLooked, IsTried, KnowsTries, Tries, tries-act}
+use Rattle.tko_steps.proofs.LostLemmas.{HasLooked, IsTried, KnowsTries, Tries}
+use Rattle.tko_steps.proofs.LostStepLemmas.{tries-act}
 use Rattle.tko_steps.proofs.OwnLemmas.{act_step, enrol_step}
 use Rattle.tko_steps.proofs.TableLemmas.{same_server-true}
 use Rattle.tko_steps.proofs.WiringLemmas.{begun, stepped_from}

@@ -18,7 +18,8 @@ use Rattle.tko_steps.specs.Invariant.{IsCore}
 use Rattle.tko_steps.specs.Runs.{Moment, StepTaken, Took, owns}
 use Rattle.tko_steps.specs.Steps.{answer_of, is_done, is_server, kind_of, kind_of_exchange, owns_after, place_of, seen_in, state_after, word_after}
 use Rattle.tko_steps.specs.Table.{action_of}
-use Rattle.tko_steps.proofs.PhaseLemmas.{knows_at, written}
+use Rattle.tko_steps.proofs.PhaseLemmas.{written}
+use Rattle.tko_steps.proofs.PhaseStepLemmas.{knows_at}
 use Rattle.tko_steps.proofs.OwnedLemmas.{others-step, own-enrol, own-step}
 use Rattle.tko_steps.proofs.ThreadLemmas.{number-inside, number-once}
 

@@ -12,8 +12,7 @@ use Rattle.tko_model.specs.Tracker.{server_at}
 use Rattle.tko_steps.specs.declared.phase.Call.{Call as CallState}
 use Rattle.tko_steps.specs.declared.phase.Phase.{Phase}
 use Rattle.tko_steps.specs.declared.phase.Phase.TheVariants.{Start, Read, AtThreshold, Limit, Reserving, Holding, Firming, Losing, Loosening, Loosened, Emptied}
-use Rattle.tko_steps.specs.declared.phase.ThreadState.{ThreadState}
-use Rattle.tko_steps.specs.declared.phase.ThreadState.TheVariants.{NotEnrolled, Idle, InCall}
+use Rattle.tko_steps.specs.declared.phase.ThreadState.TheVariants.{InCall}
 use Rattle.tko_steps.specs.declared.step.Kind.TheVariants as kind
 use Rattle.tko_steps.specs.declared.table.Decision.{Decision}
 use Rattle.tko_steps.specs.declared.table.Decision.TheVariants.{Goes, Answers}
@@ -21,18 +20,16 @@ use Rattle.tko_steps.specs.Core.{IsOwner, owner_of, abstract_of, follows, names,
 use Rattle.tko_steps.specs.Steps.{answer_of, kind_of_exchange}
 use Rattle.tko_steps.specs.Invariant.{IsCore, IsFoundBy}
 use Rattle.tko_steps.specs.Legal.{IsOwnersAnswer}
-use Rattle.tko_steps.specs.Runs.{InEveryRun, Moment, OwnStep, Took, World, calls_of, owns}
+use Rattle.tko_steps.specs.Runs.{Moment, OwnStep, Took, World, owns}
 use Rattle.tko_steps.specs.Steps.{is_server, owns_after}
 use Rattle.tko_steps.specs.Table.{goes, lost_try, same_server, same_slots}
-use Rattle.tko_steps.proofs.PhaseLemmas.{knows_at}
-use Rattle.tko_steps.proofs.EveryCallLemmas.{InFamily-run}
+use Rattle.tko_steps.proofs.PhaseStepLemmas.{knows_at}
 use Rattle.tko_steps.proofs.FamilyLemmas.{Follows, act_own}
 use Rattle.tko_steps.proofs.StartLemmas.{from_start-is, is_plain, plain≢}
-use Rattle.tko_steps.proofs.LegalLemmas.{open_call}
-use Rattle.tko_steps.proofs.OwnLemmas.{AreOwned, act_step, enrol_step, owns-apart}
+use Rattle.tko_steps.proofs.OwnLemmas.{AreOwned}
 use Rattle.tko_steps.proofs.OwnedLemmas.{cond_same, owns_after-lost, true-names}
 use Rattle.tko_steps.proofs.TableLemmas.{eq-same_server}
-use Rattle.tko_steps.proofs.WiringLemmas.{begun, stepped_from}
+use Rattle.tko_steps.proofs.WiringLemmas.{stepped_from}
 use Rattle.tko_model.specs.Groups.{group_of, limit_at}
 
 -- a step before which the server's mark did not name this number
@@ -58,7 +55,7 @@ KnowsOwner w thread call steps (Loosening found mark answer) = is_plain answer �
 KnowsOwner w thread call steps (Loosened found mark answer) = is_plain answer ≡ true
 KnowsOwner w thread call steps (Emptied answer) = is_plain answer ≡ true
 
-all_any : {X : Type 0} (P : X → Type 0) → ((x : X) → P x) → (xs : List X) → All P xs
+pub all_any : {X : Type 0} (P : X → Type 0) → ((x : X) → P x) → (xs : List X) → All P xs
 all_any P each [] = All-nil P
 all_any P each (x ∷ xs) = All-cons P x xs (each x) (all_any P each xs)
 
@@ -214,48 +211,3 @@ module _ (w : World) (thread : ℕ) (call : CallState) (steps : List OwnStep) (i
   owner-act (Loosening found mark answer) stands knows = knows
   owner-act (Loosened found mark answer) stands knows = knows
   owner-act (Emptied answer) stands knows = answers-plain (Emptied answer) answer refl knows
-
--- ---- what other threads leave
-
-module _ (w new : World) (thread : ℕ) (call : CallState) (steps : List OwnStep)
-    (same : owns new.past thread call.server ≡ owns w.past thread call.server) where
-  unowned-kept : IsUnowned w.past thread call.number call.server steps → IsUnowned new.past thread call.number call.server steps
-  unowned-kept unowned = record { none = unowned.none; owned = same ∙ unowned.owned }
-
-  owner-kept : (phase : Phase) → KnowsOwner w thread call steps phase → KnowsOwner new thread call steps phase
-  owner-kept Start knows = knows
-  owner-kept (Read found mark answer) knows = (knows.0, λ unmarked. unowned-kept (knows.1 unmarked))
-  owner-kept (AtThreshold found) knows = unowned-kept knows
-  owner-kept (Limit found) knows = unowned-kept knows
-  owner-kept (Reserving found slots) knows = unowned-kept knows
-  owner-kept (Holding found) knows = unowned-kept knows
-  owner-kept Firming knows = tt
-  owner-kept Losing knows = unowned-kept knows
-  owner-kept (Loosening found mark answer) knows = knows
-  owner-kept (Loosened found mark answer) knows = knows
-  owner-kept (Emptied answer) knows = knows
-
-owns-stepped : (w : World) (thread other : ℕ) (state : ThreadState) (server : ℕ) → (thread ≡ other → ⊥)
-    → owns (stepped_from w other state).past thread server ≡ owns w.past thread server
-owns-stepped w thread other NotEnrolled server apart = owns-apart w.past (enrol_step w.core other) thread server apart
-owns-stepped w thread other (Idle number) server apart = refl
-owns-stepped w thread other (InCall call phase) server apart = owns-apart w.past (act_step w.core other call phase) thread server apart
-
-owner-open : (w : World) (thread : ℕ) (call : CallState) (steps : List OwnStep) (phase : Phase)
-    → KnowsOwner w thread call steps phase → IsOwnersAnswer (open_call thread call steps)
-owner-open w thread call steps phase knows =
-    all_any
-    (λ (it : OwnStep). IsOwner it.step.before call.number call.server → (None ≢ Some Worn) × (None ≢ Some Contended))
-    (λ it owner. (λ e. cc, λ e. cc)) steps
-
-pub OwnersAnswers-run : InEveryRun (λ s w. All IsOwnersAnswer (calls_of w.past))
-OwnersAnswers-run s ranges turns =
-    (InFamily-run s KnowsOwner IsOwnersAnswer
-    (λ w thread number op server both stands. All-nil (IsNotOwners number server))
-    owner-open
-    (λ w thread call steps phase both inside stands found knows.
-    owner-act w thread call steps both.0.core inside both.0.owned phase stands knows)
-    (λ w thread other op server call steps phase knows. owner-kept w (begun w other op server) thread call steps refl phase knows)
-    (λ w thread other state call steps phase both inside at here apart knows.
-    owner-kept w (stepped_from w other state) thread call steps (owns-stepped w thread other state call.server apart) phase knows)
-    ranges turns).1.calls

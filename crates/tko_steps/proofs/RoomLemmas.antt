@@ -24,7 +24,7 @@ use Rattle.tko_steps.specs.Invariant.{IsCore, IsOwnOrUp, IsWrite, firm_at, held_
 use Rattle.tko_steps.specs.Table.{action_of}
 use Rattle.tko_steps.proofs.ThreadLemmas.{number-lt}
 use Rattle.tko_steps.proofs.CoreLemmas.{group-there, one-le-firm, own-group}
-use Rattle.tko_steps.proofs.PhaseLemmas.{knows_at, one-le-held}
+use Rattle.tko_steps.proofs.PhaseStepLemmas.{knows_at, one-le-held}
 
 -- as many threads are enrolled as drew a number, so a number is one of the settings' threads
 pub enrolled-le : (core : CoreState) → IsCore core → core.shared.enrolled ≤ core.settings.threads

@@ -15,7 +15,7 @@ use Rattle.tko_steps.specs.Invariant.{IsCore, holds_in, is_loose_in}
 use Rattle.tko_steps.specs.Safe.{CountSlots, HasOneResponsible, OwnsItsMarks}
 use Rattle.tko_steps.proofs.CountLemmas.{get_or-replicate_same, bit}
 use Rattle.tko_steps.proofs.SoftMarkLemmas.{loose-le-holds}
-use Rattle.tko_steps.proofs.PhaseLemmas.{IsCore-after_act}
+use Rattle.tko_steps.proofs.PhaseStepLemmas.{IsCore-after_act}
 use Rattle.tko_steps.proofs.BeginLemmas.{IsCore-after_begin, IsCore-after_enrol, IsCore-opened_core}
 use Rattle.tko_steps.proofs.OwnLemmas.{AreOwned, AreOwned-act, AreOwned-begun, AreOwned-enrolled}
 use Rattle.tko_steps.proofs.OwnedLemmas.{names-none, names-true, true-names}

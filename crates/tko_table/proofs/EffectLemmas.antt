@@ -16,7 +16,8 @@ use Rattle.tko_steps.specs.Core.{CoreState, abstract_of, owner_of, seen_by, shar
 use Rattle.tko_steps.specs.Steps.{is_done}
 use Rattle.tko_steps.specs.Invariant.{IsCore, IsFoundBy}
 use Rattle.tko_steps.specs.Table.{action_of, same_server, same_slots}
-use Rattle.tko_steps.proofs.PhaseLemmas.{free-found, free-fresh, knows_at, owners-written}
+use Rattle.tko_steps.proofs.PhaseLemmas.{free-found, free-fresh, owners-written}
+use Rattle.tko_steps.proofs.PhaseStepLemmas.{knows_at}
 use Rattle.tko_steps.proofs.TableLemmas.{same_server-true}
 use Rattle.tko_table.specs.declared.pass.Change.{Change}
 use Rattle.tko_table.specs.History.{change_by}

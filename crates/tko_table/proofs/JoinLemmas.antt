@@ -18,8 +18,8 @@ use Rattle.tko_table.specs.History.{Begins}
 use Rattle.tko_table.specs.Passes.{OwnsItsMarks, HasItsChanges, longest_seen, raised, with_seen}
 use Rattle.tko_table.specs.Rule.{IsKept, IsPlanned, core_in, joined, shared_in, states_of}
 use Rattle.tko_table.proofs.AllowsLemmas.{Rule, there-lt}
-use Rattle.tko_table.proofs.ChangeLemmas.{told-seen}
-use Rattle.tko_table.proofs.EnrolLemmas.{All-left, All-right, seen-view}
+use Rattle.tko_table.proofs.ThreadChangeLemmas.{told-seen}
+use Rattle.tko_table.proofs.EnrolRuleLemmas.{All-left, All-right, seen-view}
 use Rattle.tko_table.proofs.SplitLemmas.{kept-permuted}
 
 -- ---- the passes of one seat go to another

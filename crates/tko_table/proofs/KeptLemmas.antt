@@ -24,7 +24,7 @@ use Rattle.tko_steps.proofs.OwnedLemmas.{own-step}
 use Rattle.tko_steps.specs.Steps.{is_done, state_after}
 use Rattle.tko_steps.specs.Invariant.{IsCore, IsPhase}
 use Rattle.tko_steps.specs.Table.{action_of, next_of}
-use Rattle.tko_steps.proofs.PhaseLemmas.{IsCore-after_act, knows_at}
+use Rattle.tko_steps.proofs.PhaseStepLemmas.{IsCore-after_act, knows_at}
 use Rattle.tko_steps.proofs.RoomLemmas.{enrolled-le}
 use Rattle.tko_steps.proofs.ThreadLemmas.{number-lt, number-once}
 use Rattle.tko_table.specs.declared.pass.Change.{Change}
@@ -33,7 +33,8 @@ use Rattle.tko_table.specs.History.{Begins, Replays, change_by, changes_in, made
 use Rattle.tko_table.specs.Passes.{StandsIn, OwnsItsMarks, HasItsChanges, after_step, changes_by, decided_after, is_marked_by, mine_after, owns, pending}
 use Rattle.tko_table.specs.Rule.{IsKept, IsPlanned, IsPlannedAt, core_in, health_in, joined, shared_in, states_of}
 use Rattle.tko_table.specs.Steps.{Takes}
-use Rattle.tko_table.proofs.ChangeLemmas.{changes-drawn, made-changes, made_by-append, other-changes, sure-from, told-next, told-other}
+use Rattle.tko_table.proofs.AddedChangeLemmas.{made_by-append, sure-from, told-next}
+use Rattle.tko_table.proofs.ThreadChangeLemmas.{changes-drawn, made-changes, other-changes, told-other}
 use Rattle.tko_table.proofs.EffectLemmas.{Effect, IsQuiet, IsWritten, effect-of}
 use Rattle.tko_table.proofs.HistoryLemmas.{Begins-all, Begins-more, Replays-push}
 use Rattle.tko_table.proofs.JoinedLemmas.{IsOneOf, one-joined}

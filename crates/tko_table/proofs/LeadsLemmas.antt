@@ -8,7 +8,7 @@ use Rattle.tko_model.specs.Settings.{Settings}
 use Rattle.tko_model.specs.declared.state.ServerState.{ServerState}
 use Rattle.tko_model.specs.Tracker.{after, changed, opened, reply_of, server_at, transition_on}
 use Rattle.tko_steps.specs.Legal.{tracker_in}
-use Rattle.tko_steps.proofs.LegalLemmas.{IsNotNewer}
+use Rattle.tko_steps.proofs.SoFarLemmas.{IsNotNewer}
 use Rattle.tko_table.specs.declared.pass.Change.{Change}
 use Rattle.tko_table.specs.History.{HasChangeOf, Leads, Replays}
 

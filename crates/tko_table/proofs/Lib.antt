@@ -1,9 +1,12 @@
+pub mod AddedChangeLemmas
 pub mod AllowsLemmas
+pub mod AllowsStepLemmas
 pub mod BeginLemmas
 pub mod ChangeLemmas
 pub mod ClosingLemmas
 pub mod EffectLemmas
 pub mod EnrolLemmas
+pub mod EnrolRuleLemmas
 pub mod HistoryLemmas
 pub mod JoinLemmas
 pub mod JoinedLemmas
@@ -16,4 +19,7 @@ pub mod PlanLemmas
 pub mod SharedLemmas
 pub mod SplitLemmas
 pub mod StepLemmas
+pub mod StepTakenLemmas
+pub mod ThreadChangeLemmas
 pub mod ValueLemmas
+pub mod WordStepLemmas

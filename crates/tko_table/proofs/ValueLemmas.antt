@@ -17,8 +17,9 @@ use Rattle.tko_table.specs.declared.pass.Pass.{Pass}
 use Rattle.tko_table.specs.Passes.{count_enrolled}
 use Rattle.tko_table.specs.Rule.{enrolment_place, health_place, soft_place}
 use Rattle.tko_table.specs.Steps.{Enrolled, Exchanged, Looked, Plays, LookedAtSlots}
-use Rattle.tko_table.proofs.AllowsLemmas.{Rule, Seat, allows-exchange, allows-give, allows-look, allows-loosen, allows-settle, allows-look_at_slots, allows-reserve}
-use Rattle.tko_table.proofs.EnrolLemmas.{allows-enrol}
+use Rattle.tko_table.proofs.AllowsLemmas.{Rule, Seat}
+use Rattle.tko_table.proofs.AllowsStepLemmas.{allows-exchange, allows-give, allows-look, allows-loosen, allows-settle, allows-look_at_slots, allows-reserve}
+use Rattle.tko_table.proofs.EnrolRuleLemmas.{allows-enrol}
 use Rattle.tko_model.specs.Groups.{group_of}
 use Rattle.tko_steps.specs.Core.{slots_in}
 use Rattle.tko_steps.specs.declared.phase.Slots.{Slots}

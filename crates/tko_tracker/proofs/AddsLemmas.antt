@@ -26,12 +26,14 @@ use Rattle.tko_table.specs.History.{Replays, changes_in, made_by, made_with}
 use Rattle.tko_table.specs.Passes.{changes_by, decided_after, mine_after, pending, pending_at}
 use Rattle.tko_table.specs.Rule.{IsPlanned, IsPlannedAt}
 use Rattle.tko_table.specs.Steps.{Takes}
-use Rattle.tko_table.proofs.ChangeLemmas.{IsSure, made-changes, made_by-append, told-next}
+use Rattle.tko_table.proofs.AddedChangeLemmas.{IsSure, made_by-append, told-next}
+use Rattle.tko_table.proofs.ThreadChangeLemmas.{made-changes}
 use Rattle.tko_table.proofs.PlanLemmas.{plans-next}
 use Rattle.tko_tracker.specs.Calls.{IsStep}
 use Rattle.tko_tracker.specs.History.{IsAnsweredAt}
 use Rattle.tko_tracker.proofs.KnowsLemmas.{KnowsAt}
-use Rattle.tko_tracker.proofs.PlaceLemmas.{PlaceAfter, PlaceAt, is_start, place-next, start-at-end}
+use Rattle.tko_tracker.proofs.PlaceLemmas.{PlaceAfter, PlaceAt}
+use Rattle.tko_tracker.proofs.PlaceStepLemmas.{is_start, place-next, start-at-end}
 use Rattle.tko_tracker.proofs.SoloLemmas.{SoloAfter, SoloAt, none-other, solo-next}
 
 -- what a call at this phase has added, where its pass was the first as it began

@@ -1,11 +1,16 @@
 pub mod AddsLemmas
 pub mod ClosingLemmas
 pub mod KnowsLemmas
+pub mod KnowsStepLemmas
 pub mod LookLemmas
 pub mod OwnedLemmas
 pub mod PassLemmas
 pub mod PlaceLemmas
+pub mod PlaceStepLemmas
+pub mod ReleasedLemmas
 pub mod RetireLemmas
 pub mod RunLemmas
+pub mod RunStepLemmas
 pub mod SoloLemmas
+pub mod StepNumberLemmas
 pub mod TryLemmas

@@ -23,7 +23,7 @@ use Rattle.tko_steps.proofs.TableLemmas.{eq-same_server}
 use Rattle.tko_table.specs.declared.pass.Change.{Change}
 use Rattle.tko_table.specs.History.{Replays, made_by}
 use Rattle.tko_table.specs.Passes.{changes_by}
-use Rattle.tko_table.proofs.ChangeLemmas.{made_by-append}
+use Rattle.tko_table.proofs.AddedChangeLemmas.{made_by-append}
 use Rattle.tko_table.proofs.LeadsLemmas.{replays-changed}
 use Rattle.tko_tracker.specs.Tries.{IsChangedByOthers}
 use Rattle.tko_model.specs.Groups.{group_of, limit_at}

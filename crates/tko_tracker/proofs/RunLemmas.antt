@@ -1,44 +1,27 @@
--- A call under way: what its loop keeps from step to step.
-use Rattle.std.proofs.Common.{◌≡◌, ℕ, ◌+◌, ◌<◌, ◌≤◌, true, eqb, List, [], ◌∷◌, ◌++◌, refl, sym, ap, ◌∙◌, subst, arith}
-use Rattle.std.proofs.lemmas.Bool.{cond_both, eqb-true}
-use Rattle.tko_model.specs.declared.mark.Mark.{Mark}
-use Rattle.tko_model.specs.declared.mark.Mark.TheVariants.{Up, Soft, Hard}
+-- A call under way: what its loop keeps, from its begin to its answer.
+use Rattle.std.proofs.Common.{◌≡◌, ℕ, ◌<◌, List, [], ◌∷◌, ◌++◌, refl, sym, ap, ◌∙◌, subst, arith}
 use Rattle.tko_model.specs.declared.mark.Op.{Op}
-use Rattle.tko_model.specs.declared.mark.Op.TheVariants.{LookUp}
 use Rattle.tko_model.specs.declared.mark.Reply.{Reply}
-use Rattle.tko_model.specs.declared.mark.Reply.TheVariants.{Marked}
 use Rattle.tko_model.specs.Settings.{Settings}
-use Rattle.tko_model.specs.declared.state.ServerState.{ServerState}
-use Rattle.tko_model.specs.Looks.{look_reply}
-use Rattle.tko_model.specs.declared.transition.Transition.{Transition}
 use Rattle.tko_model.specs.Ranges.{IsWithinRanges}
-use Rattle.tko_model.specs.Tracker.{on_others, on_own_hard, on_own_soft, stays, transition}
 use Rattle.tko_steps.specs.declared.phase.Call.{Call}
 use Rattle.tko_steps.specs.declared.phase.Phase.{Phase}
-use Rattle.tko_steps.specs.declared.phase.Phase.TheVariants.{Start, Read, AtThreshold, Limit, Reserving, Holding, Firming, Losing, Loosening, Loosened, Emptied}
+use Rattle.tko_steps.specs.declared.phase.Phase.TheVariants.{Start}
 use Rattle.tko_steps.specs.declared.phase.ThreadState.TheVariants.{Idle, InCall}
-use Rattle.tko_steps.specs.declared.table.Decision.{Decision}
-use Rattle.tko_steps.specs.declared.table.Decision.TheVariants.{Goes, Answers}
-use Rattle.tko_steps.specs.declared.table.Observed.{Observed}
 use Rattle.tko_steps.specs.declared.table.Observed.TheVariants as seen
-use Rattle.tko_steps.specs.Core.{CoreState, follows, seen_by}
-use Rattle.tko_steps.specs.Cost.{most_steps}
+use Rattle.tko_steps.specs.Core.{follows}
 use Rattle.tko_steps.specs.Runs.{OwnStep}
-use Rattle.tko_steps.specs.Steps.{begun_by, in_call, is_done, state_after}
-use Rattle.tko_steps.specs.Table.{action_of, next_of, sets_out}
-use Rattle.tko_steps.proofs.OwnLemmas.{act_step}
+use Rattle.tko_steps.specs.Steps.{begun_by, in_call}
 use Rattle.tko_table.specs.declared.pass.Pass.{Pass}
-use Rattle.tko_table.specs.History.{Replays, changes_in, made_by, made_with, place_of_answer}
-use Rattle.tko_table.specs.Passes.{changes_by, owned_after, owns}
-use Rattle.tko_table.specs.Steps.{IsSound}
-use Rattle.tko_tracker.specs.Tries.{HasTried, Taken, and_steps, own_step, own_steps}
-use Rattle.tko_tracker.specs.Calls.{Called, GoesOn, IsStep, IsTaken, Leads, answers_owner, can_answer, owned_left}
-use Rattle.tko_tracker.specs.Running.{CanCall, IsReady, Ran, Stepped}
+use Rattle.tko_table.specs.History.{changes_in, made_by, made_with, place_of_answer}
+use Rattle.tko_tracker.specs.Tries.{HasTried, Taken, and_steps, own_steps}
+use Rattle.tko_tracker.specs.Calls.{Called, Leads}
+use Rattle.tko_tracker.specs.Running.{CanCall, IsReady}
 use Rattle.tko_tracker.specs.History.{Adds, IsAnsweredAt}
-use Rattle.tko_tracker.proofs.AddsLemmas.{HasAdded, HasAddedAfter, HasEnded, added-next, added-none}
-use Rattle.tko_tracker.proofs.KnowsLemmas.{Knows, KnowsAfter, KnowsAt, knows-next, left}
-use Rattle.tko_tracker.proofs.LookLemmas.{IsOwn, SeenAfter, SeenAt, exchange-lost, look-changed, seen-next}
-use Rattle.tko_tracker.proofs.TryLemmas.{KnowsAnywhere, TriedAfter, begins-anywhere, slot-held, tried-next, turn-is}
+use Rattle.tko_tracker.proofs.AddsLemmas.{HasAdded, HasEnded, added-none}
+use Rattle.tko_tracker.proofs.KnowsLemmas.{Knows}
+use Rattle.tko_tracker.proofs.LookLemmas.{SeenAt}
+use Rattle.tko_tracker.proofs.TryLemmas.{KnowsAnywhere, begins-anywhere}
 
 -- the call of the pass that the view had first, at this phase
 pub record IsUnderWay
@@ -110,7 +93,7 @@ ready s number op server before call phase view at =
     }
 
 -- a call that ended, by the number, operation and server that it began with
-ended-adds : (s : Settings) (first mid : Pass) (number : ℕ) (op : Op) (server : ℕ) (call : Call) (answer : Reply) → first.state ≡ Idle number → first.settings ≡ s
+pub ended-adds : (s : Settings) (first mid : Pass) (number : ℕ) (op : Op) (server : ℕ) (call : Call) (answer : Reply) → first.state ≡ Idle number → first.settings ≡ s
     → call.number ≡ number → call.op ≡ op → call.server ≡ server → HasEnded s first mid call answer → Adds first op server answer mid
 ended-adds s first mid number op server call answer idle same by does on ended =
     let made : made_with call answer ended.at ≡ made_with (begun_by number op server) answer ended.at =
@@ -129,190 +112,5 @@ ended-adds s first mid number op server call answer idle same by does on ended =
       alone = λ one. ended.alone (ap (λ (it : Settings). it.threads) (sym same) ∙ one);
     }
 
-head : (one other : Pass) → one ∷ [] ≡ other ∷ [] → one ≡ other
+pub head : (one other : Pass) → one ∷ [] ≡ other ∷ [] → one ≡ other
 head one other e = cc
-
--- what one more step makes of it
-module _ (s : Settings) (ranges : IsWithinRanges s) (number : ℕ) (op : Op) (server : ℕ) (before : List Pass) (call : Call) (phase : Phase)
-    (view : List Pass) (at : IsUnderWay s number op server before call phase view) (read : Observed) (after : List Pass)
-    (stepped : Stepped s view call phase read after) where
-  abbrev mid : Pass
-  mid = stepped.new
-
-  same-pass : stepped.old ≡ at.now
-  same-pass = head stepped.old at.now (sym stepped.was ∙ at.is)
-
-  step : IsStep at.now call phase read mid
-  step = subst (λ it. IsStep it call phase read mid) same-pass stepped.step
-
-  decided : next_of at.now.settings call phase read ≡ next_of s call phase read
-  decided = ap (λ it. next_of it call phase read) at.settings
-
-  state-mid : mid.state ≡ state_after call (next_of s call phase read)
-  state-mid = ap (λ (it : Pass). it.state) step.takes.knows ∙ ap (state_after call) decided
-
-  settings-mid : mid.settings ≡ s
-  settings-mid = ap (λ (it : Pass). it.settings) step.takes.knows ∙ at.settings
-
-  reads-here : read ≡ seen_by s step.takes.core.shared call.server (action_of call.number phase)
-  reads-here =
-      step.takes.reads ∙ ap (λ (it : Settings). seen_by it step.takes.core.shared call.server (action_of call.number phase)) at.settings
-
-  knows-mid : KnowsAfter s at.first.steps at.first.owned call phase (next_of s call phase read) mid.steps mid.owned
-  knows-mid =
-      let takes = step.takes in
-      let act = action_of call.number phase in
-      let steps : at.now.steps + 1 ≡ mid.steps = sym (ap (λ (it : Pass). it.steps) takes.knows) in
-      let owned : owned_after at.now.owned call.server act (is_done read) ≡ mid.owned = sym (ap (λ (it : Pass). it.owned) takes.knows) in
-      let P : Observed → Type 0 = λ it.
-      KnowsAfter s at.first.steps at.first.owned call phase (next_of s call phase it) (at.now.steps + 1)
-      (owned_after at.now.owned call.server act (is_done it)) in
-      let Q : ℕ → Type 0 = λ n. KnowsAfter s at.first.steps at.first.owned call phase (next_of s call phase read) n
-      (owned_after at.now.owned call.server act (is_done read)) in
-      let R : List ℕ → Type 0 = λ it. KnowsAfter s at.first.steps at.first.owned call phase (next_of s call phase read) mid.steps it in
-      let next = knows-next s ranges at.first.steps at.first.owned call (subst (λ n. n < s.threads) (sym at.by) at.within) at.now.steps at.now.owned
-      takes.core.shared phase (subst (IsSound s call.server) reads-here stepped.sound) (λ found mark is marked. sym reads-here ∙ step.sure found mark is marked) at.knows (takes.own call.server) in
-      subst R owned (subst Q steps (subst P (sym reads-here) next))
-
-  added-mid : HasAddedAfter s at.first mid call (next_of s call phase read)
-  added-mid = added-next s at.first at.now mid call phase read at.added at.settings (subst (λ n. n < s.threads) (sym at.by) at.within) call.op at.first.owned at.now.owned at.knows.at step
-
-  abbrev core : CoreState
-  core = step.takes.core
-
-  abbrev thread : ℕ
-  thread = step.takes.is_found.thread
-
-  found-here : Replays s (at.now.seen ++ step.takes.between) core.shared.servers
-  found-here = subst (λ it. Replays it (at.now.seen ++ step.takes.between) core.shared.servers) at.settings step.takes.found
-
-  abbrev taken : Taken
-  taken = record { read = read; step = act_step core thread call phase; after = mid }
-
-  seen-here : SeenAt at.now.settings call.number call.server at.now.seen phase
-  seen-here = subst (λ it. SeenAt it call.number call.server at.now.seen phase) (sym at.settings) at.seen
-
-  own-here : (it : Phase) → KnowsAt call.op call.server at.first.owned at.now.owned it → IsOwn s call core.shared at.now.seen step.takes.between found-here step.takes.others it
-  own-here Start knows = tt
-  own-here (Read found mark answer) knows = tt
-  own-here (AtThreshold found) knows = tt
-  own-here (Limit found) knows = tt
-  own-here (Reserving found slots) knows = tt
-  own-here (Holding found) knows = tt
-  own-here Firming knows = tt
-  own-here Losing knows = tt
-  own-here (Loosening found mark answer) knows = knows.3
-  own-here (Loosened found mark answer) knows = tt
-  own-here (Emptied answer) knows = tt
-
-  seen-mid : SeenAfter s call.number call.server mid.seen (next_of s call phase read)
-  seen-mid =
-      let next = seen-next s call core.shared at.now.seen step.takes.between found-here step.takes.others phase (own-here phase at.knows.at) at.seen in
-      let P : Observed → Type 0 = λ it.
-      SeenAfter s call.number call.server ((at.now.seen ++ step.takes.between) ++ changes_by call phase (is_done it)) (next_of s call phase it) in
-      let here : (at.now.seen ++ step.takes.between) ++ changes_by call phase (is_done read) ≡ mid.seen = sym (ap (λ (it : Pass). it.seen) step.takes.knows) in
-      subst (λ it. SeenAfter s call.number call.server it (next_of s call phase read)) here (subst P (sym reads-here) next)
-
-  is-taken : IsTaken at.now call phase taken
-  is-taken =
-      let found = step.takes.is_found in
-      record {
-        step = step;
-        turn = turn-is core thread call phase found.inside found.stands;
-        held = λ group there e. slot-held at.now.settings core thread call phase found.is found.stands found.settings group there e;
-        lost = λ expected mark is lost.
-            exchange-lost at.now.settings call core.shared at.now.seen step.takes.between step.takes.found step.takes.others phase read expected mark
-            seen-here step.takes.reads (λ marked. step.sure expected mark is marked) is lost;
-        changed = λ expected then is_limit is other.
-            look-changed at.now.settings call core.shared at.now.seen step.takes.between step.takes.found step.takes.others expected then read
-            (subst (SeenAt at.now.settings call.number call.server at.now.seen) is_limit seen-here)
-            (step.takes.reads ∙ ap (λ it. seen_by at.now.settings core.shared call.server (action_of call.number it)) is_limit) is other;
-      }
-
-  follows-is : follows core call phase ≡ next_of s call phase read
-  follows-is =
-      ap (λ (it : Settings). next_of it call phase (seen_by it core.shared call.server (action_of call.number phase))) (step.takes.is_found.settings ∙ at.settings)
-      ∙ ap (next_of s call phase) (sym reads-here)
-
-  tried-mid : TriedAfter s call (own_step taken ∷ at.own) (next_of s call phase read)
-  tried-mid =
-      let found = step.takes.is_found in
-      let next = tried-next s core thread call phase at.own at.now.steps found.is found.inside found.stands (found.settings ∙ at.settings) at.tried in
-      let count : at.now.steps + 1 ≡ mid.steps = sym (ap (λ (it : Pass). it.steps) step.takes.knows) in
-      let P : ℕ → Type 0 = λ n. TriedAfter s call (record { at = n; step = act_step core thread call phase } ∷ at.own) (next_of s call phase read) in
-      subst P count (subst (TriedAfter s call (record { at = at.now.steps + 1; step = act_step core thread call phase } ∷ at.own)) follows-is next)
-
-  leads-mid : (decision : Decision) → next_of s call phase read ≡ decision → (steps : List Taken) (answer : Reply) (end : Pass)
-      → GoesOn call decision (λ same later. Leads mid same later steps answer end) (λ given. (steps ≡ []) × (given ≡ answer) × (mid ≡ end))
-      → HasTried s answer (and_steps (own_step taken ∷ at.own) steps)
-      → Called at.first op server answer end
-  leads-mid decision is steps answer end goes tried =
-      let P : Decision → Type 0 = λ it.
-      GoesOn call it (λ same later. Leads mid same later steps answer end) (λ given. (steps ≡ []) × (given ≡ answer) × (mid ≡ end)) in
-      at.rest (taken ∷ steps) answer end (is-taken, subst P (sym (decided ∙ is)) goes) tried
-
-  pub goes-on : (lost : ℕ) (next : Phase) → next_of s call phase read ≡ Goes lost next
-      → IsUnderWay s number op server before (record call { lost = lost }) next after × (left s lost next < left s call.lost phase)
-  goes-on lost next is =
-      let both = subst (λ it. KnowsAfter s at.first.steps at.first.owned call phase it mid.steps mid.owned) is knows-mid in (
-        record {
-          first = at.first;
-          now = mid;
-          was = at.was;
-          is = stepped.is;
-          idle = at.idle;
-          same = at.same;
-          settings = settings-mid;
-          within = at.within;
-          by = at.by;
-          does = at.does;
-          on = at.on;
-          stands = ap (λ state. in_call state op server) (state-mid ∙ ap (state_after call) is);
-          knows = both.0;
-          added = subst (HasAddedAfter s at.first mid call) is added-mid;
-          own = own_step taken ∷ at.own;
-          tried = subst (TriedAfter s call (own_step taken ∷ at.own)) is tried-mid;
-          seen = subst (SeenAfter s call.number call.server mid.seen) is seen-mid;
-          rest = λ steps answer end leads tried. leads-mid (Goes lost next) is steps answer end leads tried;
-        },
-        both.1,
-      )
-
-  pub answers : (answer : Reply) → next_of s call phase read ≡ Answers answer → Ran s number before op server answer after
-  answers answer is =
-      let ends = subst (λ it. KnowsAfter s at.first.steps at.first.owned call phase it mid.steps mid.owned) is knows-mid in
-      record {
-        old = at.first;
-        new = mid;
-        was = at.was;
-        is = stepped.is;
-        called = leads-mid (Answers answer) is [] answer mid (refl, refl, refl) (subst (TriedAfter s call (own_step taken ∷ at.own)) is tried-mid);
-        adds = ended-adds s at.first mid number op server call answer at.idle at.same at.by at.does at.on (subst (HasAddedAfter s at.first mid call) is added-mid);
-        state = state-mid ∙ ap (state_after call) is ∙ ap Idle at.by;
-        settings = settings-mid ∙ sym at.same;
-        steps = subst (λ it. mid.steps ≤ at.first.steps + most_steps s it) at.does ends.few;
-        allowed = subst (λ it. can_answer it answer ≡ true) at.does ends.allowed;
-        owned = subst (λ it. mid.owned ≡ owned_left answer it at.first.owned) at.on ends.leaves;
-        owner = subst (λ it. owns at.first.owned server ≡ true → answers_owner it answer ≡ true) at.does
-            (subst (λ it. owns at.first.owned it ≡ true → answers_owner call.op answer ≡ true) at.on ends.owner);
-      }
-
--- a look-up's first step answers it
-look-stays : (s : Settings) (number stamp : ℕ) (mark : Mark) → transition s true number LookUp mark stamp ≡ stays (look_reply mark)
-look-stays s number stamp (Up count) = refl
-look-stays s number stamp (Soft owner) =
-    cond_both (eqb owner number) (on_own_soft number LookUp) (on_others LookUp (Soft owner)) (λ it. it ≡ stays (Marked (Soft owner)))
-    (λ mine. ap (λ it. stays (Marked (Soft it))) (sym (eqb-true owner number mine))) (λ theirs. refl)
-look-stays s number stamp (Hard owner) =
-    cond_both (eqb owner number) (on_own_hard number LookUp) (on_others LookUp (Hard owner)) (λ it. it ≡ stays (Marked (Hard owner)))
-    (λ mine. ap (λ it. stays (Marked (Hard it))) (sym (eqb-true owner number mine))) (λ theirs. refl)
-
--- a look-up that took its one step
-pub looked-up : (s : Settings) (ranges : IsWithinRanges s) (number server : ℕ) (before : List Pass) (found : ServerState) (read : Observed) (after : List Pass)
-    → CanCall s number before → read ≡ seen.Server found → Stepped s before (begun_by number LookUp server) Start read after
-    → Ran s number before LookUp server (look_reply found.mark) after
-looked-up s ranges number server before found read after can is stepped =
-    let call = begun_by number LookUp server in
-    answers s ranges number LookUp server before call Start before (begins s number LookUp server before ranges can) read after stepped (look_reply found.mark)
-    (ap (λ it. next_of s call Start it) is
-    ∙ ap (λ (given : Transition). sets_out call found given.reply given.change) (look-stays s number found.stamp found.mark))

@@ -26,7 +26,8 @@ use Rattle.tko_steps.specs.Steps.{answer_of, kind_of, kind_of_exchange}
 use Rattle.tko_steps.specs.Table.{action_of}
 use Rattle.tko_steps.proofs.FamilyLemmas.{Follows, act_own}
 use Rattle.tko_steps.proofs.LoserLemmas.{passes-count_by}
-use Rattle.tko_steps.proofs.LostLemmas.{HasCounted, HasLooked, IsTried, KnowsTries, Tries, tries-act}
+use Rattle.tko_steps.proofs.LostLemmas.{HasCounted, HasLooked, IsTried, KnowsTries, Tries}
+use Rattle.tko_steps.proofs.LostStepLemmas.{tries-act}
 use Rattle.tko_steps.proofs.OwnLemmas.{act_step}
 use Rattle.tko_steps.proofs.TryLemmas.{exchange-not_look}
 use Rattle.tko_steps.proofs.WiringLemmas.{stepped_from}

@@ -4,15 +4,16 @@ use Rattle.tko_steps.specs.Legal.{ChangesAtMostOnce, IsFullAtLimit, IsLegal}
 use Rattle.tko_steps.specs.Lost.{ExpectsWhatItSaw, HasLostEachTry}
 use Rattle.tko_steps.specs.Runs.{Call, calls_of, run}
 use Rattle.tko_steps.proofs.ChainLemmas.{ChangesAreOwn-run, IsChain-run}
-use Rattle.tko_steps.proofs.EveryCallLemmas.{SoundCalls-run, softs_in-le}
+use Rattle.tko_steps.proofs.EveryCallLemmas.{softs_in-le}
+use Rattle.tko_steps.proofs.EveryTurnLemmas.{SoundCalls-run}
 use Rattle.tko_steps.proofs.KindLemmas.{HaveKinds-core, NoneIsLost-run}
 use Rattle.tko_steps.proofs.LegalLemmas.{IsSoundCall}
 use Rattle.tko_steps.proofs.LoserLemmas.{LosesToOthers-run}
 use Rattle.tko_steps.proofs.LostLemmas.{IsTried}
 use Rattle.tko_steps.proofs.OtherLemmas.{TriedCalls-run}
-use Rattle.tko_steps.proofs.CostLemmas.{ShortCalls-run}
+use Rattle.tko_steps.proofs.CostStepLemmas.{ShortCalls-run}
 use Rattle.tko_steps.proofs.NumberLemmas.{Numbers-run}
-use Rattle.tko_steps.proofs.OwnerLemmas.{OwnersAnswers-run}
+use Rattle.tko_steps.proofs.OwnerTurnLemmas.{OwnersAnswers-run}
 use Rattle.tko_steps.proofs.RunLemmas.{CountSlots-core, HasOneResponsible-core, Holds-run, OwnsItsMarks-world}
 use Rattle.std.proofs.Common.{subst}
 use Rattle.tko_model.specs.Settings.{Settings}

@@ -1,5 +1,5 @@
 -- Each clause is one part of what holds of the world in every run of the thread alone.
-use Rattle.tko_steps.proofs.SoloLemmas.{HoldsAlone-run, Replays-run}
+use Rattle.tko_steps.proofs.SoloRunLemmas.{HoldsAlone-run, Replays-run}
 use Rattle.tko_steps.proofs.law.one_thread_alone.Goals as goal
 
 pub returns-clause-calls : goal.returns-clause-calls

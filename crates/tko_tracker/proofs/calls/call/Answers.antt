@@ -1,5 +1,5 @@
 use Rattle.std.proofs.Common.{sym}
-use Rattle.tko_tracker.proofs.RetireLemmas.{pass-after}
+use Rattle.tko_tracker.proofs.ReleasedLemmas.{pass-after}
 use Rattle.tko_tracker.proofs.calls.call.Goals as goal
 
 pub invariant_of-pass : goal.invariant_of-pass

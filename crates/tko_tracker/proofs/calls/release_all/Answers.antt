@@ -1,7 +1,8 @@
 use Rattle.std.proofs.Common.{◌+◌, ◌≤◌, ◌∙◌, ap, arith, subst, sym}
 use Rattle.tko_table.specs.declared.words.Words.{Words}
 use Rattle.tko_tracker.specs.Seated.{tracker_of}
-use Rattle.tko_tracker.proofs.RetireLemmas.{IsReleased, released-all, released-next, released-skip}
+use Rattle.tko_tracker.proofs.RetireLemmas.{IsReleased, released-skip}
+use Rattle.tko_tracker.proofs.ReleasedLemmas.{released-all, released-next}
 use Rattle.tko_tracker.proofs.calls.release_all.Goals.{then-owns, else-owns}
 use Rattle.tko_tracker.proofs.calls.release_all.Goals as goal
 

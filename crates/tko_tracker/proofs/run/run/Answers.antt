@@ -1,5 +1,5 @@
 use Rattle.std.proofs.Common.{◌∙◌, sym}
-use Rattle.tko_tracker.proofs.RunLemmas.{answers, goes-on}
+use Rattle.tko_tracker.proofs.RunStepLemmas.{answers, goes-on}
 use Rattle.tko_tracker.proofs.run.run.Goals as goal
 
 pub returns-in-Answers-clause-ran : goal.returns-in-Answers-clause-ran

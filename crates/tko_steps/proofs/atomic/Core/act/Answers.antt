@@ -3,7 +3,7 @@ use Rattle.tko_steps.specs.Core.{CanAct, CoreState, IsPlace, after_act, reported
 use Rattle.tko_steps.specs.Invariant.{IsCore}
 use Rattle.tko_steps.specs.Steps.{place_of}
 use Rattle.tko_steps.specs.Table.{action_of}
-use Rattle.tko_steps.proofs.PhaseLemmas.{IsCore-after_act}
+use Rattle.tko_steps.proofs.PhaseStepLemmas.{IsCore-after_act}
 use Rattle.tko_steps.proofs.RoomLemmas.{CanAct-at, IsPlace-at}
 use Rattle.tko_steps.proofs.StepLemmas.{IsPlace-after, reported, reported-is}
 use Rattle.tko_steps.proofs.atomic.Core.act.Goals as goal

@@ -5,7 +5,7 @@ use Rattle.tko_steps.specs.declared.table.Observed.{Observed}
 use Rattle.tko_steps.specs.declared.table.Observed.TheVariants as read
 use Rattle.tko_steps.specs.Core.{slots_in}
 use Rattle.tko_table.specs.Steps.{Took, read_in, view_of}
-use Rattle.tko_table.proofs.AllowsLemmas.{under-way}
+use Rattle.tko_table.proofs.StepTakenLemmas.{under-way}
 use Rattle.tko_table.proofs.ValueLemmas.{allows-look_at_slots_at, soft-place-under}
 use Rattle.tko_model.proofs.GroupLemmas.{group_of-lt, groups-le}
 use Rattle.tko_table.proofs.words.Words.look_at_slots.Goals as goal

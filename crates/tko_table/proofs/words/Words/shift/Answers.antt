@@ -2,7 +2,7 @@ use Rattle.std.proofs.Common.{arith, subst, sym, ap, ◌∙◌}
 use Rattle.tko_steps.specs.declared.table.Action.{Action}
 use Rattle.tko_steps.specs.Table.{action_of}
 use Rattle.tko_table.specs.Steps.{Took, is_settle, read_in, view_of}
-use Rattle.tko_table.proofs.AllowsLemmas.{shift-loosen, shift-settle}
+use Rattle.tko_table.proofs.StepTakenLemmas.{shift-loosen, shift-settle}
 use Rattle.tko_table.proofs.ValueLemmas.{allows-loosen_of, allows-settle_of, soft-place-under}
 use Rattle.tko_model.proofs.GroupLemmas.{group_of-lt, groups-le}
 use Rattle.tko_table.proofs.words.Words.shift.Goals as goal

@@ -1,5 +1,5 @@
 use Rattle.std.proofs.Common.{◌∙◌, sym}
-use Rattle.tko_tracker.proofs.RunLemmas.{goes-on}
+use Rattle.tko_tracker.proofs.RunStepLemmas.{goes-on}
 use Rattle.tko_tracker.proofs.tests.ends.take_steps.Goals as goal
 
 pub loop-preserved : goal.loop-preserved
