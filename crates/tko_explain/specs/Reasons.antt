@@ -1,5 +1,5 @@
 -- The line that says why a text is no configuration.
-use Rattle.std.specs.Prelude.{◌≡◌, ℕ, ◌==◌, Bool, ◌&&◌, not, if◌then◌else◌, List, [], ◌∷◌, ◌++◌, Option, Some, None, codes, decimal, length, option_map, string_bytes, take, unwrap_or, false}
+use Rattle.std.specs.Prelude.{◌≡◌, ℕ, ◌==◌, Bool, ◌&&◌, not, if◌then◌else◌, List, [], ◌∷◌, ◌++◌, Option, Some, None, codes, decimal, is_some, length, option_map, string_bytes, unwrap_or, false}
 use Rattle.std.specs.List.{list_all, position_from}
 use Rattle.std.specs.Str.{IsUtf8, bytes_eq}
 use Rattle.json.specs.Print.{quoted}
@@ -7,7 +7,7 @@ use Rattle.serde_json.specs.Data.{Data, null, boolean, number, string, array, ob
 use Rattle.serde_json.specs.Find.{get}
 use Rattle.serde_json.specs.Read.{read}
 use Rattle.tko_pools.specs.Addresses.{is_address}
-use Rattle.tko_pools.specs.Json.{Pool, child_prefix, pools_of, text_of}
+use Rattle.tko_pools.specs.Json.{Pool, child_name, pools_of, text_of}
 use Rattle.tko_pools.specs.declared.fault.ConfigFault.{ConfigFault}
 use Rattle.tko_pools.specs.declared.fault.ConfigFault.TheVariants as fault
 use Rattle.tko_explain.specs.Parts.{list_in, members_in}
@@ -43,7 +43,7 @@ names_failover kind =
     unwrap_or (option_map (λ value. bytes_eq (text_of value) (codes "FailoverRoute")) kind) false
 
 abbrev pub is_child : List ℕ → Bool
-is_child text = bytes_eq (take (length child_prefix) text) child_prefix
+is_child text = is_some (child_name text)
 
 -- whether there is one or more, and each is the text of a child
 abbrev pub are_children : List (List ℕ) → Bool

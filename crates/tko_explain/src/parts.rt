@@ -1,21 +1,13 @@
 //! Parts of a configuration's JSON.
-ghost use Rattle.std.specs.Prelude.{◌≡◌, ◌++◌, IfOk, OnOk, map, option_map};
+ghost use Rattle.std.specs.Prelude.{◌≡◌, ◌++◌, IfOk, OnOk, map};
 ghost use Rattle.serde_json.specs.View.{items_view, view};
 ghost use Rattle.tko_explain.specs.Parts.{list_in, names_in, pool_named};
-ghost use Rattle.tko_pools.specs.Json.{pools_in, text_of, texts_of};
+ghost use Rattle.tko_pools.specs.Json.{texts_of};
 
 use serde_json::Value;
 use std::alloc::Global;
 use tko_bytes::NoMemory;
-
-const CHILD_PREFIX: &str = "PoolRoute|";
-
-/// The text of a value, and the empty one of anything else.
-pub(crate) fn text_of(value: &Value) -> &str
-    ensures { result.now ≡ text_of (view value.now) }
-{
-    value.as_str().unwrap_or("")
-}
+use tko_pools::{child_name, text_of};
 
 /// The list that an object has under a key, and the empty one where it has none.
 pub(crate) fn list_in<'a>(key: &str, value: &'a Value) -> &'a [Value]
@@ -25,14 +17,6 @@ pub(crate) fn list_in<'a>(key: &str, value: &'a Value) -> &'a [Value]
         Some(list) => list.as_slice(),
         None => &[],
     }
-}
-
-/// The object of pools, where there is one.
-pub(crate) fn pools_in(root: &Value) -> Option<&Value>
-    ensures { option_map (λ pools. view pools.now) result ≡ pools_in (view root.now) }
-{
-    let pools = root.get("pools")?;
-    if pools.is_object() { Some(pools) } else { None }
 }
 
 /// The pools that the route of a configuration names.
@@ -64,5 +48,5 @@ fn push_names<'a>(list: &'a [Value], names: &mut Vec<&'a str>) -> Result<(), NoM
 fn pool_named(text: &str) -> &str
     ensures { result.now ≡ pool_named text.now }
 {
-    text.strip_prefix(CHILD_PREFIX).unwrap_or(text)
+    child_name(text).unwrap_or(text)
 }

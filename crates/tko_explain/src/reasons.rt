@@ -5,15 +5,13 @@ ghost use Rattle.serde_json.specs.View.{items_view, members_view, view};
 ghost use Rattle.tko_explain.specs.Reasons.{IsReasonOf, address_text, are_children, bad_place, flaw_text, is_child, names_failover, object_text, place_or, place_text, reason_line, root_place_text, route_text};
 ghost use Rattle.tko_pools.specs.Json.{pools_of, texts_of};
 
-use crate::parts::{list_in, text_of};
+use crate::parts::list_in;
 use crate::printing::append_around;
 use serde_json::{Map, Value};
 use std::alloc::Global;
 use tko_bytes::NoMemory;
 use tko_model::append_number;
-use tko_pools::{ConfigFault, is_address};
-
-const CHILD_PREFIX: &str = "PoolRoute|";
+use tko_pools::{ConfigFault, child_name, is_address, text_of};
 
 /// The line that says why a text is no configuration, where this is its fault: with the pool, the
 /// place in its list and the text of an address, or with what `serde_json` says of a text that is
@@ -189,5 +187,5 @@ fn are_children(list: &[Value]) -> bool
 fn is_child(text: &str) -> bool
     ensures { result ≡ is_child text.now }
 {
-    text.strip_prefix(CHILD_PREFIX).is_some()
+    child_name(text).is_some()
 }

@@ -5,13 +5,14 @@ ghost use Rattle.serde_json.specs.View.{items_view, members_view, view};
 ghost use Rattle.tko_pools.specs.Json.{texts_of};
 ghost use Rattle.tko_explain.specs.Repeats.{IsKeyText, name_again, names_again, pools_again, repeats_text, servers_again};
 
-use crate::parts::{list_in, names_in, text_of};
+use crate::parts::{list_in, names_in};
 use crate::printing::{append_around, quoted};
 use crate::warnings::is_among;
 use json::{Error, Scratch};
 use serde_json::{Map, Value};
 use std::alloc::Global;
 use tko_bytes::NoMemory;
+use tko_pools::text_of;
 
 const KEY_TWICE: &str = "warning: an object has a key twice, and the last one counts\n";
 

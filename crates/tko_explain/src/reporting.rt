@@ -9,7 +9,7 @@ ghost use Rattle.tko_pools.specs.Json.{texts_of};
 ghost use Rattle.tko_pools.specs.Numbering.{number_in};
 ghost use Rattle.tko_pools.specs.SoftLimits.{soft_limit_named};
 
-use crate::parts::{list_in, names_in, pools_in, text_of};
+use crate::parts::{list_in, names_in};
 use crate::printing::append_named;
 use crate::repeats::{append_repeats, key_text};
 use crate::warnings::append_warnings;
@@ -17,7 +17,7 @@ use serde_json::Value;
 use std::alloc::Global;
 use tko_bytes::NoMemory;
 use tko_model::append_number;
-use tko_pools::{Config, ConfigFault, soft_limit_named};
+use tko_pools::{Config, ConfigFault, pools_in, soft_limit_named, text_of};
 
 const VALUES_NOTE: &[u8] =
     b"note: no server may hold a value above 1 MiB (memcached -I above 1m): it would be marked\n";

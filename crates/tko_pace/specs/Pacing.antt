@@ -3,9 +3,17 @@ use Rattle.std.specs.Prelude.{◌<◌, ◌≤◌, ◌+◌, ◌-◌, ◌^◌, nat
 use Rattle.tko_pace.specs.declared.pace.Pace.{Pace}
 use Rattle.tko_pace.specs.declared.pace.Span.{Span}
 
+-- how many bytes a client must take in a span
+abbrev pub least_taken : ℕ
+least_taken = 65536
+
+-- the last moment that a clock can show
+abbrev pub last_moment : ℕ
+last_moment = 2 ^ 64 - 1
+
 -- a span that begins now
 abbrev pub fresh_span : ℕ → Span
-fresh_span now = record { began = now; missing = 65536 }
+fresh_span now = record { began = now; missing = least_taken }
 
 -- the client took so many bytes of a span more, and others wait
 abbrev pub taken : ℕ → Option Span → Option Span
@@ -15,7 +23,7 @@ taken count (Some span) = Some (record span { missing = span.missing - count })
 -- so long no replies were to be taken in a span, so that it ends later
 abbrev pub delayed : ℕ → Option Span → Option Span
 delayed time None = None
-delayed time (Some span) = Some (record span { began = min (span.began + time) (2 ^ 64 - 1) })
+delayed time (Some span) = Some (record span { began = min (span.began + time) last_moment })
 
 -- replies wait in a span that lasts too long by now, and the client took too little in it
 abbrev pub IsSlowIn : Option Span → ℕ → ℕ → Type 0

@@ -1,6 +1,6 @@
 //! How fast a client takes its replies.
 ghost use Rattle.std.specs.Prelude.{◌≡◌, ◌-◌, ◌==◌, ◌↔◌, nat_lt, if◌then◌else◌, IsFalse, None};
-ghost use Rattle.tko_pace.specs.Pacing.{IsSlow, delayed, paced, taken};
+ghost use Rattle.tko_pace.specs.Pacing.{IsSlow, delayed, fresh_span, paced, taken};
 
 /// How many bytes a client must take in each span of time while replies wait.
 const LEAST: u64 = 65_536;
@@ -24,7 +24,7 @@ pub struct Pace {
 
 impl Span {
     fn new(now: u64) -> Span
-        ensures { result ≡ record { began = now; missing = 65536 } }
+        ensures { result ≡ fresh_span now }
     {
         Span {
             began: now,

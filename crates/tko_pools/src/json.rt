@@ -5,10 +5,11 @@ ghost use Rattle.tko_pools.specs.Json.{child_name, pools_in, servers_named, serv
 
 use serde_json::Value;
 
+/// How the text of a child begins.
 const CHILD_PREFIX: &str = "PoolRoute|";
 
 /// The text of a value, and the empty one of anything else.
-pub(crate) fn text_of(value: &Value) -> &str
+pub fn text_of(value: &Value) -> &str
     ensures { result.now ≡ text_of (view value.now) }
 {
     value.as_str().unwrap_or("")
@@ -25,7 +26,7 @@ pub(crate) fn servers_of(value: &Value) -> &[Value]
 }
 
 /// The object of pools, where there is one.
-pub(crate) fn pools_in(root: &Value) -> Option<&Value>
+pub fn pools_in(root: &Value) -> Option<&Value>
     ensures { option_map (λ pools. view pools.now) result ≡ pools_in (view root.now) }
 {
     let pools = root.get("pools")?;
@@ -42,8 +43,8 @@ pub(crate) fn servers_named<'a>(pools: &'a Value, name: &str) -> &'a [Value]
     }
 }
 
-/// The pool that the text of a child names.
-pub(crate) fn child_name(text: &str) -> Option<&str>
+/// The pool that the text of a child names, `PoolRoute|` and its name.
+pub fn child_name(text: &str) -> Option<&str>
     ensures { option_map (λ name. name.now) result ≡ child_name text.now }
 {
     text.strip_prefix(CHILD_PREFIX)

@@ -7,6 +7,7 @@
 //! - *Soft limit* of a pool: how many of the servers of its group may have a soft mark, where the
 //!   pool says so. *Group*: the servers that have the same first child.
 //! - *Target*: the server that a child has for a key, by `fnv1a`.
+//! - `pools_in`, `text_of`, `child_name`: parts of the JSON, as `Config` reads them.
 #![tactic(auto)]
 
 mod address;
@@ -24,6 +25,7 @@ pub use address::is_address;
 pub use config::Config;
 pub use fault::ConfigFault;
 pub use hash::fnv1a;
+pub use json::{child_name, pools_in, text_of};
 pub use soft_limits::soft_limit_named;
 
 #[cfg(test)]
