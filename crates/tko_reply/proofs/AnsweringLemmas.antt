@@ -68,11 +68,11 @@ values_or_not (Some (response.ClientError text)) = inr (λ some. cc)
 values_or_not (Some (response.ServerError text)) = inr (λ some. cc)
 
 -- the reply to one key is that of its trail
-pub one_reply : (key : List ℕ) (trail : List Attempt) → IsReply (key ∷ []) (routed_key key trail ∷ []) (reply_text trail)
+pub one_reply : (key : List ℕ) (trail : List Attempt) → IsReply 1 (key ∷ []) (routed_key key trail ∷ []) (reply_text trail)
 one_reply key trail = elim (values_or_not (answer_of trail)) [
   | inl (some, text) ↦ all_values refl (All-cons HasValues (routed_key key trail) [] some (All-nil HasValues))
       (text ∙ ap (λ xs. xs ++ end_line) (sym (append-nil (unwrap_or (values_in (answer_of trail)) []))))
-  | inr none ↦ first_other [] (routed_key key trail) [] refl refl (All-nil HasValues) none refl
+  | inr none ↦ first_other [] (routed_key key trail) [] [] refl (omega arith) refl (All-nil HasValues) none refl
 ]
 
 -- one more key at the end

@@ -88,7 +88,7 @@ module _ {config : Configuration} where
           some = subst (λ keys. 0 < length keys) (sym (retrieval_keys all unique)) some;
           each = keys_push config (retrieval all unique) so_far.routed last was more so_far.each is;
           reply = reply_text trail;
-          is_reply = first_other so_far.routed last rest refl (retrieval_keys all unique ∙ are) so_far.values none refl;
+          is_reply = first_other so_far.routed last [] rest refl (omega arith) (retrieval_keys all unique ∙ are) so_far.values none refl;
           is_written = sym (retrieval_written all unique (reply_text trail));
         });
         appended =
@@ -144,7 +144,7 @@ module _ {config : Configuration} where
           some = omega (arith, ap length keys);
           each = (more, [], is, refl, ap (λ xs. xs ++ more) none ∙ sym (append-nil more));
           reply = reply_text trail;
-          is_reply = subst (λ ks. IsReply ks (routed_key key trail ∷ []) (reply_text trail)) (sym keys) (one_reply key trail);
+          is_reply = subst (λ ks. IsReply 1 ks (routed_key key trail ∷ []) (reply_text trail)) (sym keys) (one_reply key trail);
           is_written = refl;
         });
         appended = said.1 ∙ ap (λ xs. xs ++ written request (reply_text trail)) same;

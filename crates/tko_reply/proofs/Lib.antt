@@ -1,4 +1,4 @@
-mod AnsweringLemmas
+pub mod AnsweringLemmas
 mod AskingLemmas
 pub mod CutLemmas
 pub mod DrivingLemmas
@@ -12,3 +12,4 @@ pub mod ReachLemmas
 pub mod ResultLemmas
 pub mod StandsLemmas
 mod StatusLemmas
+mod TurnLemmas

@@ -80,7 +80,7 @@ pub record AnswersByKeys (config : Configuration) (request : Request) (routed : 
   pub some : 0 < length (request_keys request)
   pub each : AreKeysRouted config request routed done
   pub reply : List ℕ
-  pub is_reply : IsReply (request_keys request) routed reply
+  pub is_reply : IsReply 1 (request_keys request) routed reply
   pub is_written : text ≡ written request reply
 
 -- what is done for a request once it was recorded: the keys that are routed for it, and the text

@@ -1,5 +1,5 @@
 -- What is done for a request, one interaction after another, and what each does to the parts.
-use Rattle.std.specs.Prelude.{◌≡◌, ◌+◌, ℕ, List, map, sum_by}
+use Rattle.std.specs.Prelude.{◌≡◌, ◌+◌, ℕ, List, [], ◌∷◌, map, sum_by}
 use Rattle.tko_model.specs.Records.{Gains, HealthItem}
 use Rattle.tko_pools.specs.Configs.{Configuration}
 use Rattle.tko_route.specs.Calls.{Call, Came, IsExchange, Told, sends_of}
@@ -19,6 +19,11 @@ pub data Interaction : Type 0 where
 -- health was told or asked this
 abbrev pub health_calls : List HealthItem → List Interaction
 health_calls items = map Made (map Told items)
+
+-- the marks of these attempts are noted, if there are any
+abbrev pub marks_of : List Attempt → List Interaction
+marks_of [] = []
+marks_of (one ∷ attempts) = Noted (one ∷ attempts) ∷ []
 
 -- how often an interaction sent to a server
 abbrev pub sends_by : ℕ → Interaction → ℕ

@@ -1,5 +1,5 @@
 -- The texts that a client gets for its requests.
-use Rattle.std.specs.Prelude.{◌≡◌, ℕ, List, [], ◌∷◌, ◌++◌, codes, map, flat_map, All, Option, Some, None, IsSome, sum_by, unwrap_or, if◌then◌else◌}
+use Rattle.std.specs.Prelude.{◌≡◌, ◌<◌, ℕ, List, [], ◌∷◌, ◌++◌, codes, length, map, flat_map, All, Option, Some, None, IsSome, sum_by, unwrap_or, if◌then◌else◌}
 use Rattle.tko_text.specs.declared.request.Request.{Request}
 use Rattle.tko_text.specs.declared.response.Response.{Response}
 use Rattle.tko_text.specs.declared.response.Response.TheVariants.{Values}
@@ -58,16 +58,29 @@ HasValues one = IsSome (values_in (answer_of one.trail))
 abbrev pub joined : List RoutedKey → List ℕ
 joined routed = flat_map (λ one. unwrap_or (values_in (answer_of one.trail)) []) routed
 
--- the reply to a request for these keys, of which these were routed, in order: all values and then
--- `END`; or the whole reply to the first key whose response is no list of values, after which no
--- key is routed
-pub data IsReply (keys : List (List ℕ)) (routed : List RoutedKey) (reply : List ℕ) : Type 0 where
+-- The reply to a request for these keys, of which these were routed, in order: all values and then
+-- `END`; or the whole reply to the first key whose response is no list of values. Fewer than `most`
+-- keys behind that one were routed: where at most so many are under way at once, they may have been
+-- begun before its response came.
+pub data IsReply (most : ℕ) (keys : List (List ℕ)) (routed : List RoutedKey) (reply : List ℕ)
+    : Type 0 where
   all_values : keys ≡ keys_in routed → All HasValues routed → reply ≡ joined routed ++ end_line
-      → IsReply keys routed reply
-  first_other : (before : List RoutedKey) (last : RoutedKey) (unrouted : List (List ℕ))
+      → IsReply most keys routed reply
+  first_other : (before : List RoutedKey) (last : RoutedKey) (ahead : List RoutedKey)
+      (unrouted : List (List ℕ)) → routed ≡ before ++ last ∷ ahead → length ahead < most
+      → keys ≡ keys_in routed ++ unrouted → All HasValues before → ¬ (HasValues last)
+      → reply ≡ reply_text last.trail → IsReply most keys routed reply
+
+-- the same where one key is routed after another: none is behind the first whose response is no
+-- list of values
+pub data IsReplyInTurn (keys : List (List ℕ)) (routed : List RoutedKey) (reply : List ℕ)
+    : Type 0 where
+  only_values : keys ≡ keys_in routed → All HasValues routed → reply ≡ joined routed ++ end_line
+      → IsReplyInTurn keys routed reply
+  last_other : (before : List RoutedKey) (last : RoutedKey) (unrouted : List (List ℕ))
       → routed ≡ before ++ last ∷ [] → keys ≡ keys_in routed ++ unrouted
       → All HasValues before → ¬ (HasValues last) → reply ≡ reply_text last.trail
-      → IsReply keys routed reply
+      → IsReplyInTurn keys routed reply
 
 -- what the client gets of a reply: nothing where it asked for none
 abbrev pub written : Request → List ℕ → List ℕ

@@ -1,6 +1,6 @@
 -- A key of a request: as it was read, once replies before its own were written, and while it is
 -- sent.
-use Rattle.std.specs.Prelude.{ℕ, ◌-◌}
+use Rattle.std.specs.Prelude.{ℕ, ◌-◌, Bool, true, false, []}
 use Rattle.tko_text.specs.declared.request.Request.{Request}
 use Rattle.tko_text.specs.SentRequests.{is_silent}
 use Rattle.tko_route.specs.Underway.{Awaited}
@@ -12,6 +12,16 @@ use Rattle.tko_reply.specs.declared.asking.Share.TheVariants as share
 -- the request is silent
 abbrev pub whole_of : Request → OneKey
 whole_of request = record { request = request; share = share.Whole (is_silent request) }
+
+-- a request for one of several keys whose replies are kept apart: its response is the values of one
+-- key, which no other bytes of its outbox come before
+abbrev pub one_of : Request → OneKey
+one_of request = record { request = request; share = share.Joined 0 [] }
+
+-- the values of a key are joined with those of others
+abbrev pub is_joined : Share → Bool
+is_joined (share.Whole silent) = false
+is_joined (share.Joined begin left) = true
 
 -- the share once so many bytes were dropped from the front of the outbox
 abbrev pub shifted_share : ℕ → Share → Share

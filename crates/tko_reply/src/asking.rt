@@ -5,7 +5,7 @@ ghost use Rattle.tko_reply.specs.Answering.{Extends};
 ghost use Rattle.tko_reply.specs.Asking.{Begins, Continues, Goes, GoesTo, HasFront, IsJoined, Settles, course_of, front_of};
 ghost use Rattle.tko_reply.specs.Cuts.{EndsBy, IsBeginCut, IsEndOf, KeyLost};
 ghost use Rattle.tko_reply.specs.Sends.{AfterSend, IsOutTo};
-ghost use Rattle.tko_reply.specs.Standing.{asking, whole_of};
+ghost use Rattle.tko_reply.specs.Standing.{asking, is_joined, one_of, whole_of};
 ghost use Rattle.tko_pools.specs.Configs.{AreServers};
 ghost use Rattle.tko_route.specs.Routing.{GoesOn};
 ghost use Rattle.tko_route.specs.Trail.{form_at};
@@ -24,6 +24,7 @@ use tko_pools::Config;
 use tko_route::{Health, Stage, Waiting};
 use tko_text::Request;
 
+mod handing;
 mod joining;
 
 /// The reply to `version`.
@@ -59,6 +60,23 @@ impl OneKey {
         let silent = request.is_silent();
         let share = Share::Whole(silent);
         OneKey { request, share }
+    }
+
+    /// A request for one of several keys, whose response is put into an outbox of its own: its values
+    /// without the line `END`, or the whole text where it is no list of values.
+    pub fn one_of(alloc: Global, request: Request) -> OneKey
+        ensures { result ≡ one_of request }
+    {
+        let share = Share::Joined(0, KeysLeft::none(alloc));
+        OneKey { request, share }
+    }
+
+    /// Whether its response is one of those that are joined. Of an ended key of several: whether the
+    /// response was a list of values.
+    pub fn is_listed(&self) -> bool
+        ensures { result ≡ is_joined self.now.share }
+    {
+        matches!(self.share, Share::Joined(_, _))
     }
 
     /// The request in the form in which the server gets it; until `first`, as it was read.

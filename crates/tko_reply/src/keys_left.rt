@@ -1,14 +1,15 @@
 //! The keys of a request that are still to be asked for.
-ghost use Rattle.std.specs.Prelude.{◌≡◌, ◌∷◌, [], MatchOption};
+ghost use Rattle.std.specs.Prelude.{◌≡◌, ◌↔◌, ◌∷◌, [], IsTrue, MatchOption};
 ghost use Rattle.std.specs.Vec.Iter.{into_iter_items};
 
+use std::alloc::Global;
 use std::marker::Model;
 use std::vec::IntoIter;
 use tko_text::Key;
 
 /// Keys in order, each of which is taken once. Contracts see the list of those that are left.
 #[derive(Drop)]
-pub(crate) struct KeysLeft {
+pub struct KeysLeft {
     keys: IntoIter<Key>,
 }
 
@@ -28,10 +29,26 @@ impl KeysLeft {
         KeysLeft { keys }
     }
 
-    pub(crate) fn next(&mut self) -> Option<Key>
+    pub(crate) fn none(alloc: Global) -> KeysLeft
+        ensures { result ≡ [] }
+    {
+        KeysLeft {
+            keys: Vec::new(alloc).into_iter(),
+        }
+    }
+
+    /// Takes the next one.
+    pub fn next(&mut self) -> Option<Key>
         ensures { MatchOption result ((self.old ≡ []) × (self.new ≡ []))
             (λ key. self.old ≡ key ∷ self.new) }
     {
         self.keys.next()
+    }
+
+    /// Whether none is left.
+    pub fn is_empty(&self) -> bool
+        ensures { IsTrue result ↔ (self.now ≡ []) }
+    {
+        self.keys.len() == 0
     }
 }

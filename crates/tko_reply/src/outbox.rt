@@ -12,8 +12,6 @@ use tko_text::{Response, Value};
 
 mod replies;
 
-pub(crate) use replies::END;
-
 /// This number of bytes of replies is enough to be written. A single reply may be longer.
 const REPLY_BOUND: usize = 65_536;
 
@@ -125,6 +123,23 @@ impl Outbox {
         self.bytes.clear();
         self.long = Some(text);
         Ok(())
+    }
+
+    /// Appends all of another outbox. Its long text is not copied, unless another one follows.
+    pub fn append_all(&mut self, other: Outbox) -> Result<(), NoMemory>
+        ensures ok { OnOk result (self.new ≡ self.old ++ other) }
+        ensures err { OnErr result (Extends self.old self.new) }
+    {
+        let Outbox {
+            before,
+            long,
+            bytes,
+        } = other;
+        self.append(&before)?;
+        if let Some(text) = long {
+            self.append_long(text)?;
+        }
+        self.append(&bytes)
     }
 
     /// Drops all but the first `len` bytes.

@@ -29,7 +29,7 @@ pub(crate) fn first_key(request: &Request) -> Option<&Key>
 }
 
 /// Whether it is a request for the values of several keys.
-pub(crate) fn has_several(request: &Request) -> bool
+pub fn has_several(request: &Request) -> bool
     ensures several { IsTrue result ↔ (1 < length (request_keys request.now)) }
     ensures some { IsKeyed request.now → 0 < length (request_keys request.now) }
 {
@@ -41,7 +41,7 @@ pub(crate) fn has_several(request: &Request) -> bool
 }
 
 /// Leaves its first key alone to a request for the values of several, and returns the others.
-pub(crate) fn split_keys(request: &mut Request, alloc: Global) -> Result<KeysLeft, NoMemory>
+pub fn split_keys(request: &mut Request, alloc: Global) -> Result<KeysLeft, NoMemory>
     requires { 1 < length (request_keys request.old) }
     ensures { IfOk result (λ left. IsSplit request.old request.new left) }
 {

@@ -9,7 +9,7 @@ ghost use Rattle.tko_reply.specs.declared.asking.Share.TheVariants.{Joined};
 
 use crate::asking::{OneKey, Share};
 use crate::keys_left::KeysLeft;
-use crate::outbox::{END, Outbox};
+use crate::outbox::Outbox;
 use crate::requests::{has_several, set_key, split_keys};
 use std::alloc::Global;
 use tko_bytes::NoMemory;
@@ -84,7 +84,7 @@ pub(crate) fn join_next(
             Ok(true)
         }
         None => {
-            outbox.append(END)?;
+            outbox.append_end()?;
             Ok(false)
         }
     }

@@ -3,7 +3,7 @@ ghost use Rattle.std.specs.Prelude.{◌≡◌, ◌≤◌, ◌↔◌, ◌++◌, i
 ghost use Rattle.std.specs.Option.{option_copied};
 ghost use Rattle.tko_reply.specs.Answering.{Extends};
 ghost use Rattle.tko_reply.specs.Cuts.{LooksSome};
-ghost use Rattle.tko_reply.specs.Replies.{text_of_answer, values_in};
+ghost use Rattle.tko_reply.specs.Replies.{end_line, text_of_answer, values_in};
 ghost use Rattle.tko_reply.specs.Status.{IsStatusAfter};
 
 use super::Outbox;
@@ -17,7 +17,7 @@ use tko_text::Response;
 const NO_SERVER: &[u8] = b"SERVER_ERROR no server\r\n";
 
 /// The line that ends a list of values.
-pub(crate) const END: &[u8] = b"END\r\n";
+const END: &[u8] = b"END\r\n";
 
 impl Outbox {
     /// Appends the response, or that there is none.
@@ -91,6 +91,14 @@ impl Outbox {
         self.truncate(waiting);
         self.append_reply(response)?;
         Ok(false)
+    }
+
+    /// Appends the line that ends a list of values.
+    pub fn append_end(&mut self) -> Result<(), NoMemory>
+        ensures ok { OnOk result (self.new ≡ self.old ++ end_line) }
+        ensures err { OnErr result (self.new ≡ self.old) }
+    {
+        self.append(END)
     }
 
     /// Appends the status of the servers.

@@ -7,6 +7,6 @@ pub returns-in-Some-clause-ok : goal.returns-in-Some-clause-ok
 returns-in-Some-clause-ok c = λ begin.
     next begin _ _ (ap (Joined begin) c.in-Some.ensures) refl c.set_key.ensures refl refl
 
-pub returns-in_ok-append-in-None-clause-ok : goal.returns-in_ok-append-in-None-clause-ok
-returns-in_ok-append-in-None-clause-ok c = λ begin.
-    last begin (ap (Joined begin) c.in-None.ensures.0) refl c.in_ok-append-in-None.ensures.ok
+pub returns-in_ok-append_end-in-None-clause-ok : goal.returns-in_ok-append_end-in-None-clause-ok
+returns-in_ok-append_end-in-None-clause-ok c = λ begin.
+    last begin (ap (Joined begin) c.in-None.ensures.0) refl c.in_ok-append_end-in-None.ensures.ok
