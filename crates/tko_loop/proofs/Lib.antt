@@ -1,1 +1,2 @@
+mod LeaveLemmas
 mod WalkLemmas

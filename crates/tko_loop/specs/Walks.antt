@@ -1,5 +1,5 @@
 -- The walk over the clients: how far each is, and which of them end by their limits.
-use Rattle.std.specs.Prelude.{◌≡◌, ◌≤◌, ◌<◌, ◌+◌, ◌-◌, ◌↔◌, nat_le, if◌then◌else◌, ℕ, zero, suc, List, Option, Some, None, is_some, length, slice_get}
+use Rattle.std.specs.Prelude.{◌≡◌, ◌≤◌, ◌<◌, ◌+◌, ◌-◌, ◌↔◌, nat_le, if◌then◌else◌, ℕ, Bool, true, false, zero, suc, List, [], ◌∷◌, Option, Some, None, length, slice_get}
 use Rattle.std.specs.Option.{option_and_then}
 use Rattle.tko_roster.specs.Rosters.{session_at}
 use Rattle.tko_mux.specs.declared.client.Client.{Client}
@@ -17,13 +17,18 @@ use Rattle.tko_port.specs.declared.talking.Tally.{Tally}
 use Rattle.tko_port.specs.Talks.{Talk}
 use Rattle.tko_worker.specs.Workers.{Sight, tally_at}
 
+-- whether a client awaits a server
+abbrev pub is_waiting_for : List ℕ → Bool
+is_waiting_for [] = false
+is_waiting_for (server ∷ others) = true
+
 -- how far a client is, unless it is to leave
-abbrev pub progress_by : Presence → Option ℕ → Talk → Option Progress
+abbrev pub progress_by : Presence → List ℕ → Talk → Option Progress
 progress_by Here awaited talk = Some (record {
   requests = talk.answered;
   taken = talk.taken;
   waiting = length talk.output;
-  is_asking = is_some awaited;
+  is_asking = is_waiting_for awaited;
 })
 progress_by (Leaving why) awaited talk = None
 

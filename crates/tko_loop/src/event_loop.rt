@@ -221,7 +221,7 @@ impl<P, T: Talking<P> + Drop, K: Drop> EventLoop<T, P, K> {
     {
         for _ in 0..ADMISSIONS {
             match self.entry.clients.try_recv(rt) {
-                Ok(arrival) => self.admit(host, arrival),
+                Ok(arrival) => self.admit(alloc, host, arrival),
                 Err(TryRecvError::Empty) => return Intake::Empty,
                 Err(TryRecvError::Disconnected) => return Intake::Closed,
             }
@@ -231,18 +231,23 @@ impl<P, T: Talking<P> + Drop, K: Drop> EventLoop<T, P, K> {
 
     /// Takes in a client. It is closed at once if there is no memory for it, or if its socket
     /// cannot be registered.
-    fn admit<H: Host<P, T>>(&mut self, host: &mut H, arrival: Arrival<K>)
+    fn admit<H: Host<P, T>>(&mut self, alloc: Global, host: &mut H, arrival: Arrival<K>)
         requires order { IsInOrder (T.awaited, T.talk, held_port) T.ready self.old.worker.clients }
         ensures buffer { self.new.buffer ≡ self.old.buffer }
         ensures order { IsInOrder (T.awaited, T.talk, held_port) T.ready self.new.worker.clients }
     {
-        if self.take_in(host, arrival).is_none() {
+        if self.take_in(alloc, host, arrival).is_none() {
             host.refused();
         }
     }
 
     /// Takes in a client, and returns its number.
-    fn take_in<H: Host<P, T>>(&mut self, host: &mut H, arrival: Arrival<K>) -> Option<usize>
+    fn take_in<H: Host<P, T>>(
+        &mut self,
+        alloc: Global,
+        host: &mut H,
+        arrival: Arrival<K>,
+    ) -> Option<usize>
         requires order { IsInOrder (T.awaited, T.talk, held_port) T.ready self.old.worker.clients }
         ensures buffer { self.new.buffer ≡ self.old.buffer }
         ensures order { IsInOrder (T.awaited, T.talk, held_port) T.ready self.new.worker.clients }
@@ -254,7 +259,7 @@ impl<P, T: Talking<P> + Drop, K: Drop> EventLoop<T, P, K> {
         let socket = Socket::accepted(self.entry.poll.registry(), token, stream).ok()?;
         let talk = host.greet(self.worker.clients.parts()).ok()?;
         let port = Held::client(socket, ticket);
-        let number = self.worker.clients.open(port, talk).ok()?;
+        let number = self.worker.clients.open(alloc, port, talk).ok()?;
         self.seats.take(number);
         let time = ClientTime::begin(self.moment, self.limits.write);
         self.times.begin(number, time);

@@ -9,7 +9,7 @@ use tko_worker::EventWorker;
 
 /// What a loop calls, whose sessions are over parts of type `P`.
 pub trait Host<P, T: Talking<P> + Drop> {
-    ghost use Rattle.std.specs.Prelude.{◌≡◌, ℕ, [], None, IfOk, length};
+    ghost use Rattle.std.specs.Prelude.{◌≡◌, ℕ, [], IfOk, length};
     ghost use Rattle.tko_worker.specs.Workers.{IsInOrder};
 
     /// What a round at this moment does to the parts.
@@ -18,7 +18,7 @@ pub trait Host<P, T: Talking<P> + Drop> {
     /// The session of a client that came, to which no bytes came and from which none went.
     fn greet(&mut self, parts: &P) -> Result<T, NoMemory>
         ensures ready { IfOk result (λ talk. T.ready parts.now [] [] talk) }
-        ensures idle { IfOk result (λ talk. T.awaited talk ≡ None) };
+        ensures idle { IfOk result (λ talk. T.awaited talk ≡ []) };
 
     /// The round at the end of a turn of events of this moment, once its clients were served. A
     /// request that is sent is due at the second moment.

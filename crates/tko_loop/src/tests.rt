@@ -43,6 +43,7 @@ fn clear_of(server: usize) -> Option<Clear>
 
 impl Talking<()> for Talk {
     ghost use Rattle.std.specs.Prelude.{None, Some, length};
+    ghost use Rattle.tko_mux.specs.Awaits.{awaited_one};
 
     ghost talk = { λ it. record {
       stage = it.stage;
@@ -52,9 +53,11 @@ impl Talking<()> for Talk {
       held = length it.output.items;
     } };
 
-    ghost awaited = { λ it. it.awaits };
+    ghost awaited = { λ it. awaited_one it.awaits };
 
     ghost asks_for = { λ it. Some it.request };
+
+    ghost waits_for = { λ it _. Some it.request };
 
     ghost does = { λ _ _ _. Unit {0} };
 
@@ -69,6 +72,10 @@ impl Talking<()> for Talk {
     ghost same_stays = { λ _. tt };
 
     fn go_on(&mut self, _parts: &mut ()) -> Result<Option<Clear>, NoMemory> {
+        self.stage = Stage::Waits;
+        if self.awaits.is_some() {
+            return Ok(None);
+        }
         self.stage = if self.is_ended {
             Stage::Over
         } else {
@@ -81,6 +88,7 @@ impl Talking<()> for Talk {
         if is_plus || self.unread.first() == Some(&b'?') {
             self.unread.clear();
             self.awaits = Some(0);
+            self.stage = Stage::Waits;
             return Ok(clear_of(0));
         }
         if self.unread.first() == Some(&b'!') {
@@ -127,24 +135,28 @@ impl Talking<()> for Talk {
         self.stage = Stage::Over;
     }
 
-    fn take(&mut self, _parts: &mut (), came: Came) -> Option<Clear> {
+    fn take(&mut self, _parts: &mut (), _server: usize, came: Came) -> Option<Clear> {
         self.awaits = None;
         self.answered += 1;
         let word = match came {
             Came::Response(_) => b"came".as_slice(),
             Came::Fate(Fate::Refused) => b"refused".as_slice(),
             Came::Fate(Fate::Timeout) => b"late".as_slice(),
-            Came::Fate(_) => b"failed".as_slice(),
+            Came::Fate(_) | Came::Unsent => b"failed".as_slice(),
         };
         let _ = self.output.extend_from_slice(word);
         None
     }
 
-    fn awaited(&self) -> Option<usize> {
-        self.awaits
+    fn is_waiting(&self) -> bool {
+        self.awaits.is_some()
     }
 
     fn request(&self) -> &Request {
+        &self.request
+    }
+
+    fn request_to(&self, _server: usize) -> &Request {
         &self.request
     }
 }

@@ -1,3 +1,4 @@
+pub mod AwaitsLemmas
 mod LineLemmas
 mod LinkingLemmas
 mod MuxLemmas

@@ -18,7 +18,7 @@ use Rattle.tko_pipe.specs.Pipes.{IsShut, Shutting, is_asked}
 use Rattle.tko_roster.specs.Rosters.{RosterState}
 use Rattle.tko_mux.specs.declared.client.Client.{Client}
 use Rattle.tko_mux.specs.Lines.{IsLineLeft, IsLinePushed, IsOnLive, IsOnPipe, LineState, line_by, line_of, waiters, waiting_on}
-use Rattle.tko_mux.specs.Muxes.{ReadsFirst}
+use Rattle.tko_mux.specs.Muxes.{ReadsFirst, WaitsFor}
 use Rattle.tko_mux.specs.Linking.{waiters_at, waiters_on}
 
 -- those that wait on a connection wait on its line
@@ -105,15 +105,15 @@ none_leave line pipe none is =
     ∙ ap waiting_on is
 
 -- who waits on a line after a response was looked for there
-pub read_leaves : {S P : Type 0} (asks_for : S → Option Request)
-    (roster : RosterState (Client S) P) (first : Option Waiter) (old new : LineState)
+pub read_leaves : {S P : Type 0} (waits_for : WaitsFor S) (roster : RosterState (Client S) P)
+    (server : ℕ) (first : Option Waiter) (old new : LineState)
     (taken : Result (Option (Asker × Response)) ShutCause) → old.ended ≡ None
-    → ReadsFirst asks_for roster first old taken new
+    → ReadsFirst waits_for roster server first old taken new
     → TakeLeaves taken (waiters old) (waiters new)
-read_leaves asks_for roster None old new taken none reads =
+read_leaves waits_for roster server None old new taken none reads =
     subst (λ (it : Result (Option (Asker × Response)) ShutCause).
     TakeLeaves it (waiters old) (waiters new)) (sym reads.0) (ap waiters reads.1)
-read_leaves asks_for roster (Some first) old new taken none reads =
+read_leaves waits_for roster server (Some first) old new taken none reads =
     let on = reads.on in
     let before : on.was.waiting ≡ waiters old = sym (none_leave old on.was none on.from) in
     let after : on.now.waiting ≡ waiters new =

@@ -7,7 +7,7 @@ use Rattle.tko_text.specs.declared.request.Request.TheVariants as request
 use Rattle.tko_pipe.specs.declared.waiter.Asker.TheVariants as asker
 use Rattle.tko_pipe.specs.declared.waiter.Waiter.{Waiter}
 use Rattle.tko_pipe.specs.Pipes.{PipeState, pushing}
-use Rattle.std.specs.Prelude.{IfSome, IsSome, OnErr, OnOk, Result, Ok, Err}
+use Rattle.std.specs.Prelude.{IfSome, OnErr, OnOk, Result, Ok, Err}
 use Rattle.tko_text.specs.declared.response.Response.{Response}
 use Rattle.tko_pipe.specs.declared.fates.Fate.{Fate}
 use Rattle.tko_pipe.specs.declared.fates.ShutCause.{ShutCause}
@@ -18,33 +18,30 @@ use Rattle.tko_mux.specs.declared.mux.delivery.Delivery.{Delivery}
 use Rattle.tko_mux.specs.Asks.{AskingActs}
 use Rattle.tko_mux.specs.Lines.{IsLinePushed, LineLeaves, LineState, first_on, waiters, waiting_on}
 use Rattle.tko_mux.specs.Linking.{AreLinked, AwaitsBy, AwaitsFirst, IsFree, Linked, awaited_at, waiters_at, waiters_on}
-use Rattle.tko_mux.specs.Muxes.{HasNoneLeaving, IsDelivered, IsRead, IsTold, MuxState, Reaches, ReadsOn}
-use Rattle.tko_mux.proofs.LinkingLemmas.{first_awaits, first_loose, probe_linked, probe_taken, same_linked}
+use Rattle.tko_mux.specs.Muxes.{HasNoneLeaving, IsDelivered, IsRead, IsTold, MuxState, Reaches, ReadsOn, WaitsFor}
+use Rattle.tko_mux.proofs.LinkingLemmas.{IsWithout, first_awaits, first_loose, first_without, last_without, probe_linked, probe_taken, same_linked}
 use Rattle.tko_mux.proofs.LineLemmas.{OneLeaves, TakeLeaves, left_leaves, others_wait, pushed_waits, read_leaves, set_waits}
 
-awaits_by : (aw : ℕ → Option ℕ) (queue : ℕ → List Waiter) (server : ℕ) (by : Asker) (it : Waiter)
+awaits_by : (aw : ℕ → List ℕ) (queue : ℕ → List Waiter) (server : ℕ) (by : Asker) (it : Waiter)
     (rest : List Waiter) → Linked aw queue → queue server ≡ it ∷ rest → it.by ≡ by
-    → AwaitsBy aw by
+    → AwaitsBy aw server by
 awaits_by aw queue server (asker.Client number) it rest linked is by =
-    subst IsSome (sym (first_awaits aw queue server number it rest linked is by)) refl
+    first_awaits aw queue server number it rest linked is by
 awaits_by aw queue server asker.Probe it rest linked is by = tt
 
 -- one that left the front of a line is free to take what came
-frees : (aw : ℕ → Option ℕ) (old new : ℕ → List Waiter) (server : ℕ) (by : Asker) (it : Waiter)
-    → Linked aw old → old server ≡ it ∷ new server → it.by ≡ by
-    → ((other : ℕ) → other ≢ server → new other ≡ old other) → IsFree aw new by
-frees aw old new server (asker.Client number) it linked is by others = (
-  subst IsSome (sym (first_awaits aw old server number it (new server) linked is by)) refl,
-  first_loose aw old new server number it linked is by others,
-)
-frees aw old new server asker.Probe it linked is by others =
-    probe_taken aw old new server it linked is by others
+frees : (aw : ℕ → List ℕ) (old new : ℕ → List Waiter) (server : ℕ) (by : Asker) → Linked aw old
+    → IsWithout server by old new → IsFree aw new server by
+frees aw old new server (asker.Client number) linked one =
+    first_loose aw old new server number linked one
+frees aw old new server asker.Probe linked one = probe_taken aw old new server linked one
 
-pub one_free : {S P : Type 0} (awaited : S → Option ℕ) (p old : MuxState S P) (server : ℕ)
+pub one_free : {S P : Type 0} (awaited : S → List ℕ) (p old : MuxState S P) (server : ℕ)
     (by : Asker) (was now : LineState) → p ≡ old → server < length p.lines
     → was ≡ slice_index_or p.lines server was → AreLinked awaited old.roster.slots old.lines
     → OneLeaves by (waiters was) (waiters now)
-    → IsFree (awaited_at awaited p.roster.slots) (waiters_at (slice_set p.lines server now)) by
+    → IsFree (awaited_at awaited p.roster.slots) (waiters_at (slice_set p.lines server now)) server
+    by
 one_free {S} {P} awaited p old server by was now same below read linked one =
     let here : AreLinked awaited p.roster.slots p.lines =
     subst (λ (m : MuxState S P). AreLinked awaited m.roster.slots m.lines) (sym same) linked in
@@ -55,11 +52,14 @@ one_free {S} {P} awaited p old server by was now same below read linked one =
     at ∙ one.front
     ∙ ap (λ (w : List Waiter). one.waiter ∷ w) (sym (set_waits p.lines server now below)) in
     frees (awaited_at awaited p.roster.slots) (waiters_at p.lines)
-    (waiters_at (slice_set p.lines server now)) server by one.waiter here front (sym one.is_by)
-    (λ other apart. others_wait p.lines server now other apart)
+    (waiters_at (slice_set p.lines server now)) server by here
+    (subst (λ (it : Asker). IsWithout server it (waiters_at p.lines)
+    (waiters_at (slice_set p.lines server now))) (sym one.is_by)
+    (first_without (waiters_at p.lines) (waiters_at (slice_set p.lines server now)) server
+    one.waiter front (λ other apart. others_wait p.lines server now other apart)))
 
 -- a line on which the same wait as before
-pub line_linked : {S P : Type 0} (awaited : S → Option ℕ) (p old : MuxState S P) (server : ℕ)
+pub line_linked : {S P : Type 0} (awaited : S → List ℕ) (p old : MuxState S P) (server : ℕ)
     (was now : LineState) → p ≡ old → server < length p.lines
     → was ≡ slice_index_or p.lines server was → AreLinked awaited old.roster.slots old.lines
     → waiters now ≡ waiters was
@@ -81,7 +81,7 @@ line_linked {S} {P} awaited p old server was now same below read linked waits =
     ])
 
 -- a probe at the end of a line
-pub probed_linked : {S P : Type 0} (awaited : S → Option ℕ) (p old : MuxState S P) (server : ℕ)
+pub probed_linked : {S P : Type 0} (awaited : S → List ℕ) (p old : MuxState S P) (server : ℕ)
     (was now : LineState) (it : Waiter) → p ≡ old → server < length p.lines
     → was ≡ slice_index_or p.lines server was → AreLinked awaited old.roster.slots old.lines
     → it.by ≡ asker.Probe → waiters now ≡ waiters was ++ it ∷ []
@@ -96,8 +96,11 @@ probed_linked {S} {P} awaited p old server was now it same below read linked by 
     set_waits p.lines server now below ∙ waits
     ∙ ap (λ (w : List Waiter). w ++ it ∷ []) (sym at) in
     probe_linked (awaited_at awaited p.roster.slots) (waiters_at p.lines)
-    (waiters_at (slice_set p.lines server now)) server it here by mine
-    (λ other apart. others_wait p.lines server now other apart)
+    (waiters_at (slice_set p.lines server now)) server here
+    (subst (λ (one : Asker). IsWithout server one (waiters_at (slice_set p.lines server now))
+    (waiters_at p.lines)) by
+    (last_without (waiters_at p.lines) (waiters_at (slice_set p.lines server now)) server it mine
+    (λ other apart. others_wait p.lines server now other apart)))
 
 -- nobody is left on the line that was read
 pub none_leaving : {S P : Type 0} (p old : MuxState S P) (server : ℕ) (was : LineState) → p ≡ old
@@ -108,24 +111,24 @@ none_leaving {S} {P} p old server was same below read none =
     (subst (λ (m : MuxState S P). HasNoneLeaving (slice_get m.lines server)) (sym same) none)
 
 -- the first that waits on a line awaits its server
-first_waiting : (aw : ℕ → Option ℕ) (queue : ℕ → List Waiter) (server : ℕ) (waiting : List Waiter)
-    → Linked aw queue → queue server ≡ waiting → AwaitsFirst aw (slice_get waiting 0)
+first_waiting : (aw : ℕ → List ℕ) (queue : ℕ → List Waiter) (server : ℕ) (waiting : List Waiter)
+    → Linked aw queue → queue server ≡ waiting → AwaitsFirst aw server (slice_get waiting 0)
 first_waiting aw queue server [] linked is = tt
 first_waiting aw queue server (it ∷ rest) linked is =
     awaits_by aw queue server it.by it rest linked is refl
 
-first_on_pipe : (aw : ℕ → Option ℕ) (queue : ℕ → List Waiter) (server : ℕ)
+first_on_pipe : (aw : ℕ → List ℕ) (queue : ℕ → List Waiter) (server : ℕ)
     (pipe : Option PipeState) → Linked aw queue → queue server ≡ waiting_on pipe
-    → AwaitsFirst aw (first_on pipe)
+    → AwaitsFirst aw server (first_on pipe)
 first_on_pipe aw queue server None linked is = tt
 first_on_pipe aw queue server (Some pipe) linked is =
     first_waiting aw queue server pipe.waiting linked is
 
-pub first_on_line : {S P : Type 0} (awaited : S → Option ℕ) (p old : MuxState S P) (server : ℕ)
+pub first_on_line : {S P : Type 0} (awaited : S → List ℕ) (p old : MuxState S P) (server : ℕ)
     (was : LineState) → p ≡ old → server < length p.lines
     → was ≡ slice_index_or p.lines server was → AreLinked awaited old.roster.slots old.lines
     → HasNoneLeaving (slice_get old.lines server)
-    → AwaitsFirst (awaited_at awaited p.roster.slots) (first_on was.pipe)
+    → AwaitsFirst (awaited_at awaited p.roster.slots) server (first_on was.pipe)
 first_on_line {S} {P} awaited p old server was same below read linked left =
     let here : AreLinked awaited p.roster.slots p.lines =
     subst (λ (m : MuxState S P). AreLinked awaited m.roster.slots m.lines) (sym same) linked in
@@ -138,34 +141,35 @@ first_on_line {S} {P} awaited p old server was same below read linked left =
     (at ∙ all)
 
 -- one to whom a response came is free to take it
-pub read_free : {S P : Type 0} (awaited : S → Option ℕ) (asks_for : S → Option Request)
-    (p old : MuxState S P) (server : ℕ) (by : Asker) (response : Response) (was now : LineState)
+pub read_free : {S P : Type 0} (awaited : S → List ℕ) (waits_for : WaitsFor S) (p old : MuxState S P)
+    (server : ℕ) (by : Asker) (response : Response) (was now : LineState)
     (taken : Result (Option (Asker × Response)) ShutCause) → p ≡ old → server < length p.lines
     → was ≡ slice_index_or p.lines server was → AreLinked awaited old.roster.slots old.lines
-    → HasNoneLeaving (slice_get old.lines server) → ReadsOn asks_for p.roster was taken now
+    → HasNoneLeaving (slice_get old.lines server) → ReadsOn waits_for p.roster server was taken now
     → taken ≡ Ok (Some (by, response))
-    → IsFree (awaited_at awaited p.roster.slots) (waiters_at (slice_set p.lines server now)) by
-read_free {S} {P} awaited asks_for p old server by response was now taken same below read linked
+    → IsFree (awaited_at awaited p.roster.slots) (waiters_at (slice_set p.lines server now)) server
+    by
+read_free {S} {P} awaited waits_for p old server by response was now taken same below read linked
     left reads is =
     let none : was.ended ≡ None = none_leaving p old server was same below read left in
     let leaves : TakeLeaves (Ok (Some (by, response))) (waiters was) (waiters now) =
     subst (λ (t : Result (Option (Asker × Response)) ShutCause).
     TakeLeaves t (waiters was) (waiters now)) is
-    (read_leaves asks_for p.roster (first_on was.pipe) was now taken none reads) in
+    (read_leaves waits_for p.roster server (first_on was.pipe) was now taken none reads) in
     one_free awaited p old server by was now same below read linked leaves
 
 -- where no response came, all wait as before
-pub unread_linked : {S P : Type 0} (awaited : S → Option ℕ) (asks_for : S → Option Request)
+pub unread_linked : {S P : Type 0} (awaited : S → List ℕ) (waits_for : WaitsFor S)
     (p old : MuxState S P) (server : ℕ) (was now : LineState)
     (taken : Result (Option (Asker × Response)) ShutCause) → p ≡ old → server < length p.lines
     → was ≡ slice_index_or p.lines server was → AreLinked awaited old.roster.slots old.lines
-    → HasNoneLeaving (slice_get old.lines server) → ReadsOn asks_for p.roster was taken now
+    → HasNoneLeaving (slice_get old.lines server) → ReadsOn waits_for p.roster server was taken now
     → (taken ≡ Ok None) ⊎ ((cause : ShutCause) × (taken ≡ Err cause))
     → AreLinked awaited p.roster.slots (slice_set p.lines server now)
-unread_linked {S} {P} awaited asks_for p old server was now taken same below read linked left reads
+unread_linked {S} {P} awaited waits_for p old server was now taken same below read linked left reads
     none =
     let ended : was.ended ≡ None = none_leaving p old server was same below read left in
-    let leaves = read_leaves asks_for p.roster (first_on was.pipe) was now taken ended reads in
+    let leaves = read_leaves waits_for p.roster server (first_on was.pipe) was now taken ended reads in
     let Leaves : Result (Option (Asker × Response)) ShutCause → Type 0 =
     λ t. TakeLeaves t (waiters was) (waiters now) in
     let waits : waiters now ≡ waiters was =
@@ -176,19 +180,20 @@ unread_linked {S} {P} awaited asks_for p old server was now taken same below rea
     line_linked awaited p old server was now same below read linked waits
 
 -- a response was looked for, and reached whom it was for
-pub reached : {S P I O : Type 0} (acts : AskingActs S P I O) (awaited : S → Option ℕ)
-    (asks_for : S → Option Request) (p old : MuxState S P) (server due : ℕ) (was now : LineState)
+pub reached : {S P I O : Type 0} (acts : AskingActs S P I O) (awaited : S → List ℕ)
+    (asks_for : S → Option Request) (waits_for : WaitsFor S) (p old : MuxState S P)
+    (server due : ℕ) (was now : LineState)
     (taken found : Result (Option (Asker × Response)) ShutCause)
     (result : Result (Option (Delivery O)) ShutCause) (new : MuxState S P) → p ≡ old
     → server < length p.lines → was ≡ slice_index_or p.lines server was
-    → ReadsOn asks_for p.roster was taken now → taken ≡ found
-    → Reaches acts awaited asks_for (record p { lines = slice_set p.lines server now }) found due
-    result new
-    → IsRead acts awaited asks_for old server due result new
-reached {S} {P} {I} {O} acts awaited asks_for p old server due was now taken found result new same
+    → ReadsOn waits_for p.roster server was taken now → taken ≡ found
+    → Reaches acts awaited asks_for (record p { lines = slice_set p.lines server now }) server found
+    due result new
+    → IsRead acts awaited asks_for waits_for old server due result new
+reached {S} {P} {I} {O} acts awaited asks_for waits_for p old server due was now taken found result new same
     below read reads is reaches =
     let Read : MuxState S P → Type 0 = λ m.
-    IsRead acts awaited asks_for m server due result new in
+    IsRead acts awaited asks_for waits_for m server due result new in
     subst Read same (record {
       taken = found;
       lines = slice_set p.lines server now;
@@ -197,7 +202,7 @@ reached {S} {P} {I} {O} acts awaited asks_for p old server due was now taken fou
         now = now;
         from = at_index p.lines server was below read;
         ends = subst (λ (t : Result (Option (Asker × Response)) ShutCause).
-            ReadsOn asks_for p.roster was t now) is reads;
+            ReadsOn waits_for p.roster server was t now) is reads;
         to = refl;
       };
       reaches = reaches;
@@ -213,12 +218,13 @@ of_line {S} {P} holds p old server was same below read is =
     (subst (λ (m : MuxState S P). IfSome (slice_get m.lines server) holds) (sym same) is)
 
 -- one that left is free to take what became of its request
-pub left_free : {S P : Type 0} (awaited : S → Option ℕ) (p old : MuxState S P) (server : ℕ)
+pub left_free : {S P : Type 0} (awaited : S → List ℕ) (p old : MuxState S P) (server : ℕ)
     (by : Asker) (fate : Fate) (was now : LineState) (left : Option (Asker × Fate)) → p ≡ old
     → server < length p.lines → was ≡ slice_index_or p.lines server was
     → AreLinked awaited old.roster.slots old.lines → LineLeaves was left now
     → left ≡ Some (by, fate)
-    → IsFree (awaited_at awaited p.roster.slots) (waiters_at (slice_set p.lines server now)) by
+    → IsFree (awaited_at awaited p.roster.slots) (waiters_at (slice_set p.lines server now)) server
+    by
 left_free {S} {P} awaited p old server by fate was now left same below read linked leaves is =
     let step : LineLeaves was (Some (by, fate)) now =
     subst (λ (l : Option (Asker × Fate)). LineLeaves was l now) is leaves in
@@ -226,13 +232,13 @@ left_free {S} {P} awaited p old server by fate was now left same below read link
     (left_leaves was now by fate step)
 
 -- the one that left was told
-pub left_told : {S P I O : Type 0} (acts : AskingActs S P I O) (awaited : S → Option ℕ)
+pub left_told : {S P I O : Type 0} (acts : AskingActs S P I O) (awaited : S → List ℕ)
     (asks_for : S → Option Request) (p old : MuxState S P) (server due : ℕ) (was now : LineState)
     (by : Asker) (fate : Fate) (left : Option (Asker × Fate)) (delivery : Delivery O)
     (new : MuxState S P) → p ≡ old → server < length p.lines
     → was ≡ slice_index_or p.lines server was → LineLeaves was left now → left ≡ Some (by, fate)
-    → IsDelivered acts awaited asks_for (record p { lines = slice_set p.lines server now }) by
-    (came.Fate fate) due delivery new
+    → IsDelivered acts awaited asks_for (record p { lines = slice_set p.lines server now }) server
+    by (came.Fate fate) due delivery new
     → IsTold acts awaited asks_for old server due delivery new
 left_told {S} {P} {I} {O} acts awaited asks_for p old server due was now by fate left delivery new
     same below read leaves is reaches =
@@ -262,7 +268,7 @@ none_left was now left leaves is =
     ∙ ap (λ (w : List Waiter). w ++ waiting_on was.pipe) (sym none.0)
 
 -- a probe at the end of a line, or no memory for it
-pub probe_ends : {S P E : Type 0} (awaited : S → Option ℕ) (p old : MuxState S P)
+pub probe_ends : {S P E : Type 0} (awaited : S → List ℕ) (p old : MuxState S P)
     (server limit due : ℕ) (was now : LineState) (result : Result Unit E) → p ≡ old
     → server < length p.lines → was ≡ slice_index_or p.lines server was
     → AreLinked awaited old.roster.slots old.lines

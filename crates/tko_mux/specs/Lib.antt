@@ -1,4 +1,5 @@
 pub mod Asks
+pub mod Awaits
 pub mod Lines
 pub mod Linking
 pub mod Muxes

@@ -1,5 +1,5 @@
 -- The sessions of a worker's clients, and the lines to the servers that they wait on.
-use Rattle.std.specs.Prelude.{◌≡◌, ℕ, List, Option, Some, None, Result, Ok, Err, slice_get, slice_set, replicate}
+use Rattle.std.specs.Prelude.{◌≡◌, ℕ, List, Option, Some, None, IsSome, Result, Ok, Err, slice_get, slice_set, replicate}
 use Rattle.tko_text.specs.declared.request.Request.TheVariants as request
 use Rattle.tko_text.specs.declared.request.Request.{Request}
 use Rattle.tko_text.specs.declared.response.Response.{Response}
@@ -10,7 +10,7 @@ use Rattle.tko_pipe.specs.declared.waiter.Asker.TheVariants as asker
 use Rattle.tko_pipe.specs.declared.waiter.Waiter.{Waiter}
 use Rattle.tko_pipe.specs.Ends.{TakeEnds}
 use Rattle.tko_pipe.specs.Pipes.{pushing}
-use Rattle.tko_roster.specs.Rosters.{IsActed, RosterState, nobody, session_at}
+use Rattle.tko_roster.specs.Rosters.{IfHas, IsActed, RosterState, nobody, session_at}
 use Rattle.tko_mux.specs.declared.asking.Came.{Came}
 use Rattle.tko_mux.specs.declared.asking.Came.TheVariants as came
 use Rattle.tko_mux.specs.declared.asking.Given.{Given}
@@ -19,7 +19,7 @@ use Rattle.tko_mux.specs.declared.client.Client.{Client}
 use Rattle.tko_mux.specs.declared.mux.delivery.Delivery.{Delivery}
 use Rattle.tko_mux.specs.declared.mux.delivery.Delivery.TheVariants.{Probed, Reached}
 use Rattle.tko_mux.specs.declared.mux.delivery.Done.{Done}
-use Rattle.tko_mux.specs.Asks.{AskingActs, IsCall, no_memory}
+use Rattle.tko_mux.specs.Asks.{AskingActs, IsCall}
 use Rattle.tko_mux.specs.Lines.{IsLinePushed, IsOnPipe, LineLeaves, LineState, first_on, idle_line}
 
 -- the time limit of each connection, the sessions by number, and for each server its line
@@ -38,10 +38,17 @@ pub record IsOnLine (did : LineState → LineState → Type 0) (old : List LineS
   pub to : new ≡ slice_set old server now
 
 -- the number's session makes this call
-abbrev pub Calls : {S P I O : Type 0} → AskingActs S P I O → (S → Option ℕ)
+abbrev pub Calls : {S P I O : Type 0} → AskingActs S P I O → (S → List ℕ)
     → RosterState (Client S) P → ℕ → Given I → Option ℕ → O → RosterState (Client S) P → Type 0
 Calls acts awaited old number given asked did new =
     IsActed (IsCall acts awaited) old number (given, (asked, did)) new
+
+-- the number's session has the request that it asks to send, if it asks
+abbrev pub HasRequest : {S : Type 0} → (S → Option Request) → List (Option (Client S)) → ℕ
+    → Option ℕ → Type 0
+HasRequest asks_for slots number None = Unit {0}
+HasRequest asks_for slots number (Some server) =
+    IfHas slots number (λ client. IsSome (asks_for client.session))
 
 -- the request of the number's session waits behind the others on this line
 pub record IsPushedFor {S P : Type 0} (asks_for : S → Option Request)
@@ -60,26 +67,26 @@ pub record IsSent {S P : Type 0} (asks_for : S → Option Request) (old : MuxSta
   pub kept : new.roster ≡ old.roster
   pub limit : new.limit ≡ old.limit
 
--- memory ran out for the number's request, which is told its session
-pub record IsStopped {S P I O : Type 0} (acts : AskingActs S P I O) (awaited : S → Option ℕ)
-    (old : MuxState S P) (number : ℕ) (did : O) (new : MuxState S P) : Type 0 where
-  pub told : Calls acts awaited old.roster number (Outcome no_memory) None did new.roster
+-- memory ran out for the number's request to this server, which is told its session
+pub record IsStopped {S P I O : Type 0} (acts : AskingActs S P I O) (awaited : S → List ℕ)
+    (old : MuxState S P) (number server : ℕ) (did : O) (new : MuxState S P) : Type 0 where
+  pub told : Calls acts awaited old.roster number (Outcome server came.Unsent) None did new.roster
   pub kept : new.lines ≡ old.lines
   pub limit : new.limit ≡ old.limit
 
 -- what is done for a session that asks: nothing if it asks nobody; else its request goes out, or
 -- memory ran out for it
-abbrev pub SendEnds : {S P I O : Type 0} → AskingActs S P I O → (S → Option ℕ)
+abbrev pub SendEnds : {S P I O : Type 0} → AskingActs S P I O → (S → List ℕ)
     → (S → Option Request) → MuxState S P → ℕ → Option ℕ → ℕ → Option O → MuxState S P → Type 0
 SendEnds acts awaited asks_for old number None due stopped new =
     (stopped ≡ None) × (new ≡ old)
 SendEnds acts awaited asks_for old number (Some server) due None new =
     IsSent asks_for old number server due new
 SendEnds acts awaited asks_for old number (Some server) due (Some did) new =
-    IsStopped acts awaited old number did new
+    IsStopped acts awaited old number server did new
 
 -- the number's session makes this call, and whom it asks gets its request
-pub record IsMade {S P I O : Type 0} (acts : AskingActs S P I O) (awaited : S → Option ℕ)
+pub record IsMade {S P I O : Type 0} (acts : AskingActs S P I O) (awaited : S → List ℕ)
     (asks_for : S → Option Request) (old : MuxState S P) (number : ℕ) (given : Given I) (due : ℕ)
     (done : Done O) (new : MuxState S P) : Type 0 where
   pub asked : Option ℕ
@@ -88,13 +95,15 @@ pub record IsMade {S P I O : Type 0} (acts : AskingActs S P I O) (awaited : S �
   pub sends : SendEnds acts awaited asks_for (record old { roster = mid }) number asked due
       done.stopped new
 
--- what came for this one reaches it: a client's session takes it; what came for a probe is returned
-abbrev pub IsDelivered : {S P I O : Type 0} → AskingActs S P I O → (S → Option ℕ)
-    → (S → Option Request) → MuxState S P → Asker → Came → ℕ → Delivery O → MuxState S P → Type 0
-IsDelivered acts awaited asks_for old by what due (Reached number done) new =
+-- what came from this server for this one reaches it: a client's session takes it; what came for a
+-- probe is returned
+abbrev pub IsDelivered : {S P I O : Type 0} → AskingActs S P I O → (S → List ℕ)
+    → (S → Option Request) → MuxState S P → ℕ → Asker → Came → ℕ → Delivery O → MuxState S P
+    → Type 0
+IsDelivered acts awaited asks_for old server by what due (Reached number done) new =
     (by ≡ asker.Client number)
-    × IsMade acts awaited asks_for old number (Outcome what) due done new
-IsDelivered acts awaited asks_for old by what due (Probed it) new =
+    × IsMade acts awaited asks_for old number (Outcome server what) due done new
+IsDelivered acts awaited asks_for old server by what due (Probed it) new =
     (by ≡ asker.Probe) × (it ≡ what) × (new ≡ old)
 
 -- nobody has a number, and there is no connection to any of so many servers
@@ -109,68 +118,76 @@ begun_with limit parts servers = record {
 abbrev pub line_at : {S P : Type 0} → MuxState S P → ℕ → Option LineState
 line_at mux server = slice_get mux.lines server
 
--- the request that is lent to read the response to it: that of the client's session, or the one
--- that a probe sends
-abbrev pub IsLent : {S P : Type 0} → (S → Option Request) → RosterState (Client S) P → Asker
-    → Request → Type 0
-IsLent {S} asks_for roster (asker.Client number) it =
-    (client : Client S) × (session_at roster.slots number ≡ Some client)
-    × (asks_for client.session ≡ Some it)
-IsLent asks_for roster asker.Probe it = it ≡ request.Version
+-- the first request that is under way to a server, of a session
+abbrev pub WaitsFor : Type 0 → Type 0
+WaitsFor S = S → ℕ → Option Request
 
--- a response was looked for on this line, to the request of the one that waits for it
-pub record IsReadFor {S P : Type 0} (asks_for : S → Option Request)
-    (roster : RosterState (Client S) P) (by : Asker) (old : LineState)
+-- the request that is lent to read the response to it: the first of the client's session that is
+-- under way to this server, or the one that a probe sends
+abbrev pub IsLent : {S P : Type 0} → WaitsFor S → RosterState (Client S) P → ℕ → Asker → Request
+    → Type 0
+IsLent {S} waits_for roster server (asker.Client number) it =
+    (client : Client S) × (session_at roster.slots number ≡ Some client)
+    × (waits_for client.session server ≡ Some it)
+IsLent waits_for roster server asker.Probe it = it ≡ request.Version
+
+-- a response of this server was looked for on its line, to the request of the one that waits for it
+pub record IsReadFor {S P : Type 0} (waits_for : WaitsFor S) (roster : RosterState (Client S) P)
+    (server : ℕ) (by : Asker) (old : LineState)
     (taken : Result (Option (Asker × Response)) ShutCause) (new : LineState) : Type 0 where
   pub lent : Request
-  pub is_lent : IsLent asks_for roster by lent
+  pub is_lent : IsLent waits_for roster server by lent
   pub on : IsOnPipe (λ was now. TakeEnds was lent taken now) old new
 
 -- the same of the first that waits on this line, if somebody does
-abbrev pub ReadsFirst : {S P : Type 0} → (S → Option Request) → RosterState (Client S) P
-    → Option Waiter → LineState → Result (Option (Asker × Response)) ShutCause → LineState → Type 0
-ReadsFirst asks_for roster None old taken new = (taken ≡ Ok None) × (new ≡ old)
-ReadsFirst asks_for roster (Some waiter) old taken new =
-    IsReadFor asks_for roster waiter.by old taken new
-
-abbrev pub ReadsOn : {S P : Type 0} → (S → Option Request) → RosterState (Client S) P
+abbrev pub ReadsFirst : {S P : Type 0} → WaitsFor S → RosterState (Client S) P → ℕ → Option Waiter
     → LineState → Result (Option (Asker × Response)) ShutCause → LineState → Type 0
-ReadsOn asks_for roster old taken new =
-    ReadsFirst asks_for roster (first_on old.pipe) old taken new
+ReadsFirst waits_for roster server None old taken new = (taken ≡ Ok None) × (new ≡ old)
+ReadsFirst waits_for roster server (Some waiter) old taken new =
+    IsReadFor waits_for roster server waiter.by old taken new
+
+abbrev pub ReadsOn : {S P : Type 0} → WaitsFor S → RosterState (Client S) P → ℕ → LineState
+    → Result (Option (Asker × Response)) ShutCause → LineState → Type 0
+ReadsOn waits_for roster server old taken new =
+    ReadsFirst waits_for roster server (first_on old.pipe) old taken new
 
 -- where the response that was read, if one was, goes
-abbrev pub Reaches : {S P I O : Type 0} → AskingActs S P I O → (S → Option ℕ)
-    → (S → Option Request) → MuxState S P → Result (Option (Asker × Response)) ShutCause → ℕ
+abbrev pub Reaches : {S P I O : Type 0} → AskingActs S P I O → (S → List ℕ)
+    → (S → Option Request) → MuxState S P → ℕ → Result (Option (Asker × Response)) ShutCause → ℕ
     → Result (Option (Delivery O)) ShutCause → MuxState S P → Type 0
-Reaches acts awaited asks_for mid (Ok None) due result new = (result ≡ Ok None) × (new ≡ mid)
-Reaches acts awaited asks_for mid (Err cause) due result new = (result ≡ Err cause) × (new ≡ mid)
-Reaches {S} {P} {I} {O} acts awaited asks_for mid (Ok (Some taken)) due result new =
+Reaches acts awaited asks_for mid server (Ok None) due result new =
+    (result ≡ Ok None) × (new ≡ mid)
+Reaches acts awaited asks_for mid server (Err cause) due result new =
+    (result ≡ Err cause) × (new ≡ mid)
+Reaches {S} {P} {I} {O} acts awaited asks_for mid server (Ok (Some taken)) due result new =
     (delivery : Delivery O) × (result ≡ Ok (Some delivery))
-    × IsDelivered acts awaited asks_for mid taken.0 (came.Response taken.1) due delivery new
+    × IsDelivered acts awaited asks_for mid server taken.0 (came.Response taken.1) due delivery new
 
 -- a response of this server was looked for, to the first that waits for one, and reaches that
-pub record IsRead {S P I O : Type 0} (acts : AskingActs S P I O) (awaited : S → Option ℕ)
-    (asks_for : S → Option Request) (old : MuxState S P) (server due : ℕ)
+pub record IsRead {S P I O : Type 0} (acts : AskingActs S P I O) (awaited : S → List ℕ)
+    (asks_for : S → Option Request) (waits_for : WaitsFor S) (old : MuxState S P) (server due : ℕ)
     (result : Result (Option (Delivery O)) ShutCause) (new : MuxState S P) : Type 0 where
   pub taken : Result (Option (Asker × Response)) ShutCause
   pub lines : List LineState
-  pub on : IsOnLine (λ was now. ReadsOn asks_for old.roster was taken now) old.lines server lines
-  pub reaches : Reaches acts awaited asks_for (record old { lines = lines }) taken due result new
+  pub on : IsOnLine (λ was now. ReadsOn waits_for old.roster server was taken now) old.lines server
+      lines
+  pub reaches : Reaches acts awaited asks_for (record old { lines = lines }) server taken due result
+      new
 
 -- the next of those that waited on a connection to this server that was shut is told what became of
 -- its request
-pub record IsTold {S P I O : Type 0} (acts : AskingActs S P I O) (awaited : S → Option ℕ)
+pub record IsTold {S P I O : Type 0} (acts : AskingActs S P I O) (awaited : S → List ℕ)
     (asks_for : S → Option Request) (old : MuxState S P) (server due : ℕ) (delivery : Delivery O)
     (new : MuxState S P) : Type 0 where
   pub by : Asker
   pub fate : Fate
   pub lines : List LineState
   pub on : IsOnLine (λ was now. LineLeaves was (Some (by, fate)) now) old.lines server lines
-  pub reaches : IsDelivered acts awaited asks_for (record old { lines = lines }) by
+  pub reaches : IsDelivered acts awaited asks_for (record old { lines = lines }) server by
       (came.Fate fate) due delivery new
 
 -- the next that leaves is told, or nobody waits on a connection that was shut
-abbrev pub LeaveEnds : {S P I O : Type 0} → AskingActs S P I O → (S → Option ℕ)
+abbrev pub LeaveEnds : {S P I O : Type 0} → AskingActs S P I O → (S → List ℕ)
     → (S → Option Request) → MuxState S P → ℕ → ℕ → Option (Delivery O) → MuxState S P → Type 0
 LeaveEnds acts awaited asks_for old server due None new =
     IsOnLine (λ was now. LineLeaves was None now) old.lines server new.lines

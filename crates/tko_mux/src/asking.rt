@@ -4,31 +4,37 @@ use tko_model::Clear;
 use tko_pipe::Fate;
 use tko_text::{Request, Response};
 
-/// What came of a request that was sent.
+/// What came of a request.
 #[derive(Debug, Drop)]
 pub enum Came {
-    /// The response to it.
+    /// The response to it. It is that of the first request that is under way to its server.
     Response(Response),
-    /// No response came.
+    /// No response came. The same of that.
     Fate(Fate),
+    /// Memory ran out before it was sent. So it is the last request that was asked for, and those
+    /// that were sent to its server before are still under way.
+    Unsent,
 }
 
 /// What a session is given.
 #[derive(Debug, Drop)]
 pub enum Given<I> {
-    /// An input while no request of it is under way, or one that leaves its request under way.
+    /// An input.
     Input(I),
-    /// What came of its request.
-    Outcome(Came),
+    /// What came of a request of it to this server.
+    Outcome(usize, Came),
 }
 
 /// A client's session over parts of type `P`, which all sessions of a worker share. Each call
-/// returns the permission to send a request, if it asks a server, and what the session did.
+/// returns the permission to send a request, if it asks a server, and what the session did. Several
+/// of its requests may be under way, also to one server: what comes from a server is of the first
+/// of those that are under way to it, in the order in which they were asked for.
 pub trait Asking<P> {
-    ghost use Rattle.std.specs.Prelude.{◌≡◌, ℕ, Option, IsSome, Some};
+    ghost use Rattle.std.specs.Prelude.{◌≡◌, ◌≢◌, ◌<◌, ℕ, List, [], Option, IfSome, IsSome, Some};
+    ghost use Rattle.std.specs.Bool.{OnFalse, OnTrue};
     ghost use Rattle.tko_text.specs.declared.request.Request.{Request};
     ghost use Rattle.tko_mux.specs.declared.asking.Given.{Given};
-    ghost use Rattle.tko_mux.specs.Asks.{IsAsking, IsTaking};
+    ghost use Rattle.tko_mux.specs.Awaits.{IsAsking, IsTaking, times_due};
 
     type Input: Drop;
 
@@ -46,40 +52,51 @@ pub trait Asking<P> {
     /// What calls leave of the parts, so that all other sessions stay ready.
     ghost stays: { P → P → Type 0 };
 
-    /// The server that its request is under way to.
-    ghost awaited: { Self → Option ℕ };
+    /// The servers that its requests are under way to, one for each request, in any order.
+    ghost awaited: { Self → List ℕ };
 
-    /// The request that is under way.
+    /// The request that its last call asked to send.
     ghost asks_for: { Self → Option Request };
 
-    /// Makes one call.
+    /// The first of its requests that are under way to a server, whose response comes next.
+    ghost waits_for: { Self → ℕ → Option Request };
+
+    /// Makes one call. Where it asks a server, one request more is under way.
     fn act(&mut self, parts: &mut P, input: Self::Input) -> (Option<Clear>, Self::Output)
         requires ready { ready parts.old self.old }
         requires may { may self.old input }
         ensures acts { acts (self.old, parts.old) (Given.Input input, (result.0, result.1))
             (self.new, parts.new) }
         ensures asks { IsAsking result.0 (awaited self.old) (awaited self.new) }
+        ensures request { IfSome result.0 (λ server. IsSome (asks_for self.new)) }
         ensures ready { ready parts.new self.new }
         ensures stays { stays parts.old parts.new };
 
-    /// Takes what came of its request, and may ask the next server.
-    fn take(&mut self, parts: &mut P, came: Came) -> (Option<Clear>, Self::Output)
+    /// Takes what came of a request to this server, and may ask the next one.
+    fn take(&mut self, parts: &mut P, server: usize, came: Came) -> (Option<Clear>, Self::Output)
         requires ready { ready parts.old self.old }
-        requires awaits { IsSome (awaited self.old) }
-        ensures acts { acts (self.old, parts.old) (Given.Outcome came, (result.0, result.1))
+        requires awaits { 0 < times_due (awaited self.old) server }
+        ensures acts { acts (self.old, parts.old) (Given.Outcome server came, (result.0, result.1))
             (self.new, parts.new) }
-        ensures asks { IsTaking came result.0 (awaited self.new) }
+        ensures asks { IsTaking server came result.0 (awaited self.old) (awaited self.new) }
+        ensures request { IfSome result.0 (λ it. IsSome (asks_for self.new)) }
         ensures ready { ready parts.new self.new }
         ensures stays { stays parts.old parts.new };
 
-    /// The server that its request is under way to.
-    fn awaited(&self) -> Option<usize>
-        ensures { result ≡ awaited self.now };
+    /// Whether a request of it is under way.
+    fn is_waiting(&self) -> bool
+        ensures some { OnTrue result (awaited self.now ≢ []) }
+        ensures none { OnFalse result (awaited self.now ≡ []) };
 
-    /// The request that is under way.
+    /// The request that its last call asked to send.
     fn request(&self) -> &Request
-        requires { IsSome (awaited self.now) }
+        requires { IsSome (asks_for self.now) }
         ensures { asks_for self.now ≡ Some result.now };
+
+    /// The first of its requests that are under way to this server.
+    fn request_to(&self, server: usize) -> &Request
+        requires { 0 < times_due (awaited self.now) server }
+        ensures { waits_for self.now server ≡ Some result.now };
 
     ghost stay_ready: { (session : Self) (old new : P) → stays old new → ready old session
         → ready new session };

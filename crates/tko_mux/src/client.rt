@@ -11,13 +11,14 @@ pub struct Client<S> {
 }
 
 impl<P, S: Asking<P>> Driven<P> for Client<S> {
-    ghost use Rattle.tko_mux.specs.Asks.{IsCall, MayCall};
+    ghost use Rattle.tko_mux.specs.Asks.{IsAskingCall, MayCall};
 
     type Input = Given<S::Input>;
 
     type Output = (Option<Clear>, S::Output);
 
-    ghost acts = { λ old call new. IsCall S.acts S.awaited old (call.0, (call.1.0, call.1.1)) new };
+    ghost acts = { λ old call new. IsAskingCall S.acts S.awaited S.asks_for old
+        (call.0, (call.1.0, call.1.1)) new };
 
     ghost may = { λ client given. MayCall S.may S.awaited client given };
 
@@ -32,7 +33,7 @@ impl<P, S: Asking<P>> Driven<P> for Client<S> {
     fn act(&mut self, parts: &mut P, given: Self::Input) -> Self::Output {
         match given {
             Given::Input(input) => self.session.act(parts, input),
-            Given::Outcome(came) => self.session.take(parts, came),
+            Given::Outcome(server, came) => self.session.take(parts, server, came),
         }
     }
 }

@@ -1,11 +1,11 @@
 //! The sessions of a worker's clients, and the lines to the servers that they wait on.
-ghost use Rattle.std.specs.Prelude.{◌≡◌, ◌<◌, ℕ, None, Some, IfErr, IfNone, IfSome, IsSome, IfOk, OnErr, OnOk, length, option_copied, option_map, replicate};
+ghost use Rattle.std.specs.Prelude.{◌≡◌, ◌<◌, ℕ, [], None, Some, IfErr, IfNone, IfSome, IsSome, IfOk, OnErr, OnOk, length, option_copied, option_map, replicate};
 ghost use Rattle.std.specs.Bool.{OnFalse, OnTrue};
 ghost use Rattle.tko_pipe.specs.Pipes.{pushing};
 ghost use Rattle.tko_roster.specs.Rosters.{AreReady, IfHas, IsAdmitted, IsReleased, session_at};
 ghost use Rattle.tko_mux.specs.Lines.{IsLinePushed, idle_line};
 ghost use Rattle.tko_mux.specs.Linking.{AreLinked, IsAsker, IsKept, IsLoose, awaited_at, waiters_at};
-ghost use Rattle.tko_mux.specs.Muxes.{IsMade, IsOnLine, IsPushedFor, IsSent, IsStopped, SendEnds, begun_with};
+ghost use Rattle.tko_mux.specs.Muxes.{HasRequest, IsMade, IsOnLine, IsPushedFor, IsSent, IsStopped, SendEnds, begun_with};
 
 mod delivery;
 mod wire;
@@ -16,7 +16,7 @@ use std::alloc::Global;
 use std::marker::Model;
 use tko_bytes::NoMemory;
 use tko_model::{Clear, Duty};
-use tko_pipe::{Asker, Fate};
+use tko_pipe::Asker;
 use tko_roster::{Driven, Roster, Visit};
 use tko_text::Request;
 
@@ -60,7 +60,7 @@ impl<P: Drop, S: Asking<P> + Drop> Mux<S, P> {
 impl<P, S: Asking<P> + Drop> Mux<S, P> {
     /// Gives a session a number that no other has. Without memory for it, the session is dropped.
     pub fn open(&mut self, session: S) -> Result<usize, NoMemory>
-        requires idle { S.awaited session ≡ None }
+        requires idle { S.awaited session ≡ [] }
         requires session { S.ready self.old.roster.parts session }
         requires ready { AreReady ⟦<Client<S> as Driven<P>>⟧.ready self.old.roster }
         requires linked { AreLinked S.awaited self.old.roster.slots self.old.lines }
@@ -97,11 +97,11 @@ impl<P, S: Asking<P> + Drop> Mux<S, P> {
 
     /// Whether the number has a session, and no request of it is under way.
     pub fn is_idle(&self, number: usize) -> bool
-        ensures idle { OnTrue result (awaited_at S.awaited self.now.roster.slots number ≡ None) }
+        ensures idle { OnTrue result (awaited_at S.awaited self.now.roster.slots number ≡ []) }
         ensures not { OnFalse result (IsKept S.awaited self.now.roster.slots number) }
     {
         match self.roster.get(number) {
-            Some(client) => client.session.awaited().is_none(),
+            Some(client) => !client.session.is_waiting(),
             None => false,
         }
     }
@@ -220,6 +220,7 @@ impl<P, S: Asking<P> + Drop> Mux<S, P> {
     ) -> Option<S::Output>
         requires asked { IsAsker (awaited_at S.awaited self.old.roster.slots)
             (waiters_at self.old.lines) number asked }
+        requires request { HasRequest S.asks_for self.old.roster.slots number asked }
         requires ready { AreReady ⟦<Client<S> as Driven<P>>⟧.ready self.old.roster }
         ensures ends { SendEnds S.acts S.awaited S.asks_for self.old number asked due result
             self.new }
@@ -227,18 +228,20 @@ impl<P, S: Asking<P> + Drop> Mux<S, P> {
         ensures linked { AreLinked S.awaited self.new.roster.slots self.new.lines }
     {
         let clear = asked?;
+        let to = clear.server();
         if self.push(alloc, number, clear, due) {
             return None;
         }
-        Some(self.stop(number))
+        Some(self.stop(number, to))
     }
 
-    /// Puts the request of a session that awaits this server on its line, and returns whether that
+    /// Puts the request of a session that asks this server on its line, and returns whether that
     /// was possible.
     fn push(&mut self, alloc: Global, number: usize, clear: Clear, due: u64) -> bool
-        requires awaits { awaited_at S.awaited self.old.roster.slots number ≡ Some clear }
+        requires request { IfHas self.old.roster.slots number
+            (λ client. IsSome (S.asks_for client.session)) }
         requires loose { IsLoose (awaited_at S.awaited self.old.roster.slots)
-            (waiters_at self.old.lines) number }
+            (waiters_at self.old.lines) number clear }
         ensures sent { OnTrue result (IsSent S.asks_for self.old number clear due self.new) }
         ensures linked { OnTrue result (AreLinked S.awaited self.new.roster.slots self.new.lines) }
         ensures not { OnFalse result (self.new ≡ self.old) }
@@ -258,18 +261,17 @@ impl<P, S: Asking<P> + Drop> Mux<S, P> {
         )
     }
 
-    /// The session of a client that waits for none is told that memory ran out for its request.
-    fn stop(&mut self, number: usize) -> S::Output
-        requires awaits { IsSome (awaited_at S.awaited self.old.roster.slots number) }
+    /// The session of a client is told that memory ran out before its request to this server was
+    /// sent.
+    fn stop(&mut self, number: usize, server: usize) -> S::Output
         requires loose { IsLoose (awaited_at S.awaited self.old.roster.slots)
-            (waiters_at self.old.lines) number }
+            (waiters_at self.old.lines) number server }
         requires ready { AreReady ⟦<Client<S> as Driven<P>>⟧.ready self.old.roster }
-        ensures stopped { IsStopped S.acts S.awaited self.old number result self.new }
+        ensures stopped { IsStopped S.acts S.awaited self.old number server result self.new }
         ensures ready { AreReady ⟦<Client<S> as Driven<P>>⟧.ready self.new.roster }
         ensures linked { AreLinked S.awaited self.new.roster.slots self.new.lines }
     {
-        let lost = Came::Fate(Fate::Memory);
-        let Some((_, did)) = self.roster.act(number, Given::Outcome(lost)) else {
+        let Some((_, did)) = self.roster.act(number, unsent(server)) else {
             unreachable!();
         };
         did
@@ -285,7 +287,7 @@ fn push_for<P, S: Asking<P> + Drop>(
     number: usize,
     due: u64,
 ) -> bool
-    requires { IsSome (awaited_at S.awaited roster.now.slots number) }
+    requires { IfHas roster.now.slots number (λ client. IsSome (S.asks_for client.session)) }
     ensures pushed { OnTrue result
         (IsPushedFor S.asks_for roster.now limit number due line.old line.new) }
     ensures not { OnFalse result (line.new ≡ line.old) }
@@ -298,6 +300,13 @@ fn push_for<P, S: Asking<P> + Drop>(
         Ok(()) => true,
         Err(_) => false,
     }
+}
+
+/// What a session is told whose request to this server could not be sent.
+fn unsent<I>(server: usize) -> Given<I>
+    ensures { result ≡ Given.Outcome server Came.Unsent }
+{
+    Given::Outcome(server, Came::Unsent)
 }
 
 /// Lines on which there is no connection.

@@ -3,6 +3,8 @@ ghost use Rattle.std.specs.Prelude.{◌≡◌, None, Some, IfOk};
 ghost use Rattle.tko_roster.specs.Rosters.{AreReady};
 ghost use Rattle.tko_mux.specs.Linking.{AreLinked};
 
+mod several;
+
 use crate::{Asking, Came, Client, Delivery, Mux};
 use std::alloc::Global;
 use std::test::Fail;
@@ -31,6 +33,7 @@ fn clear_of(server: usize) -> Option<Clear>
 
 impl Asking<()> for Caller {
     ghost use Rattle.std.specs.Prelude.{◌≡◌, None, Some, IfSome};
+    ghost use Rattle.tko_mux.specs.Awaits.{awaited_one};
 
     type Input = usize;
 
@@ -44,9 +47,11 @@ impl Asking<()> for Caller {
 
     ghost stays = { λ _ _. Unit {0} };
 
-    ghost awaited = { λ caller. caller.awaits };
+    ghost awaited = { λ caller. awaited_one caller.awaits };
 
     ghost asks_for = { λ caller. Some caller.request };
+
+    ghost waits_for = { λ caller _. Some caller.request };
 
     ghost stay_ready = { λ _ _ _ _ _. tt };
 
@@ -55,7 +60,7 @@ impl Asking<()> for Caller {
         (clear_of(server), true)
     }
 
-    fn take(&mut self, _parts: &mut (), came: Came) -> (Option<Clear>, bool) {
+    fn take(&mut self, _parts: &mut (), _server: usize, came: Came) -> (Option<Clear>, bool) {
         match came {
             Came::Fate(Fate::Refused) => {
                 self.awaits = Some(1);
@@ -68,11 +73,15 @@ impl Asking<()> for Caller {
         }
     }
 
-    fn awaited(&self) -> Option<usize> {
-        self.awaits
+    fn is_waiting(&self) -> bool {
+        self.awaits.is_some()
     }
 
     fn request(&self) -> &Request {
+        &self.request
+    }
+
+    fn request_to(&self, _server: usize) -> &Request {
         &self.request
     }
 }

@@ -1,5 +1,5 @@
 -- A client, its port and its session together, as it is called.
-use Rattle.std.specs.Prelude.{◌≡◌, ℕ, [], Option, None, IsSome}
+use Rattle.std.specs.Prelude.{◌≡◌, ◌≢◌, ℕ, List, [], Option, None, IsSome}
 use Rattle.tko_mux.specs.declared.asking.Given.{Given}
 use Rattle.tko_mux.specs.declared.asking.Given.TheVariants.{Input, Outcome}
 use Rattle.tko_port.specs.declared.guest.Event.{Event}
@@ -9,24 +9,17 @@ use Rattle.tko_port.specs.declared.guest.Presence.{Presence}
 use Rattle.tko_port.specs.declared.guest.Presence.TheVariants.{Here, Leaving}
 use Rattle.tko_port.specs.declared.guest.Shared.{Shared}
 use Rattle.tko_port.specs.declared.guest.Turned.{Turned}
-use Rattle.tko_port.specs.declared.guest.Turned.TheVariants.{Asks, Ends, Noted, Rests, Spent, Took}
+use Rattle.tko_port.specs.declared.guest.Turned.TheVariants.{Asks, AsksMore, Ends, Noted, Rests, Spent, Took}
 use Rattle.tko_port.specs.declared.settling.End.TheVariants.{Finished, LineTooLong, Memory, ReadFailed, WriteFailed}
-use Rattle.tko_port.specs.declared.talking.Stage.TheVariants.{Over, TooLong}
+use Rattle.tko_port.specs.declared.talking.Stage.TheVariants.{Over, TooLong, Waits}
 use Rattle.tko_port.specs.Ports.{PortState, now_readable, now_writable}
-use Rattle.tko_port.specs.Rests.{AtRest, RestsAt}
+use Rattle.tko_port.specs.Rests.{AtRest}
 use Rattle.tko_port.specs.Talks.{Talk}
-
--- it can be served only while no request of it is under way; an event can always be noted
-abbrev pub MayServe : Event → Option ℕ → Type 0
-MayServe Readable awaited = Unit {0}
-MayServe Writable awaited = Unit {0}
-MayServe Ended awaited = Unit {0}
-MayServe (Leave why) awaited = Unit {0}
-MayServe Serve awaited = awaited ≡ None
 
 -- it asks a server exactly if it says so
 abbrev pub AsksIf : Turned → Option ℕ → Type 0
 AsksIf Asks asked = IsSome asked
+AsksIf AsksMore asked = IsSome asked
 AsksIf Rests asked = asked ≡ None
 AsksIf Spent asked = asked ≡ None
 AsksIf (Ends why) asked = asked ≡ None
@@ -34,26 +27,27 @@ AsksIf Noted asked = asked ≡ None
 AsksIf Took asked = Unit {0}
 
 -- what serving it came to
-abbrev pub ServedAs : Turned → Talk → PortState → Type 0
-ServedAs Asks talk port = Unit {0}
-ServedAs Rests talk port = RestsAt talk.stage talk.output port
-ServedAs Spent talk port = Unit {0}
-ServedAs (Ends Finished) talk port = (talk.stage ≡ Over) × (talk.output ≡ [])
-ServedAs (Ends LineTooLong) talk port = (talk.stage ≡ TooLong) × (talk.output ≡ [])
-ServedAs (Ends Memory) talk port = Unit {0}
-ServedAs (Ends ReadFailed) talk port = Unit {0}
-ServedAs (Ends WriteFailed) talk port = Unit {0}
-ServedAs Noted talk port = ⊥
-ServedAs Took talk port = ⊥
+abbrev pub ServedAs : Turned → List ℕ → Talk → PortState → Type 0
+ServedAs Asks awaited talk port = (talk.stage ≡ Waits) × (awaited ≢ [])
+ServedAs AsksMore awaited talk port = Unit {0}
+ServedAs Rests awaited talk port = AtRest awaited talk port
+ServedAs Spent awaited talk port = Unit {0}
+ServedAs (Ends Finished) awaited talk port = (talk.stage ≡ Over) × (talk.output ≡ [])
+ServedAs (Ends LineTooLong) awaited talk port = (talk.stage ≡ TooLong) × (talk.output ≡ [])
+ServedAs (Ends Memory) awaited talk port = Unit {0}
+ServedAs (Ends ReadFailed) awaited talk port = Unit {0}
+ServedAs (Ends WriteFailed) awaited talk port = Unit {0}
+ServedAs Noted awaited talk port = ⊥
+ServedAs Took awaited talk port = ⊥
 
 -- a client as it is seen: whom it awaits, its session and its port, and whether it is still served
 pub record Seen : Type 0 where
-  pub awaited : Option ℕ
+  pub awaited : List ℕ
   pub talk : Talk
   pub port : PortState
   pub presence : Presence
 
-abbrev pub seen : {L T : Type 0} → (T → Option ℕ) → (T → Talk) → (L → PortState) → Guest L T → Seen
+abbrev pub seen : {L T : Type 0} → (T → List ℕ) → (T → Talk) → (L → PortState) → Guest L T → Seen
 seen awaited talk port guest = record {
   awaited = awaited guest.talk;
   talk = talk guest.talk;
@@ -90,6 +84,7 @@ abbrev pub presence_of : Turned → Presence
 presence_of Noted = Here
 presence_of Took = Here
 presence_of Asks = Here
+presence_of AsksMore = Here
 presence_of Rests = Here
 presence_of Spent = Here
 presence_of (Ends why) = Leaving why
@@ -98,7 +93,7 @@ presence_of (Ends why) = Leaving why
 -- to it
 abbrev pub ServesAs : Presence → Option ℕ → Turned → Seen → Seen → Type 0
 ServesAs Here asked did old new =
-    ServedAs did new.talk new.port × AsksIf did asked × (new.presence ≡ presence_of did)
+    ServedAs did new.awaited new.talk new.port × AsksIf did asked × (new.presence ≡ presence_of did)
 ServesAs (Leaving why) asked did old new = (did ≡ Ends why) × (asked ≡ None) × (new ≡ old)
 
 -- what a call does to it: an event is noted at its port, and its session stays; or it is served; or
@@ -113,7 +108,7 @@ GuestDoes (Input Ended) asked did old new =
 GuestDoes (Input (Leave why)) asked did old new =
     (did ≡ Noted) × (new ≡ record old { presence = Leaving why })
 GuestDoes (Input Serve) asked did old new = ServesAs old.presence asked did old new
-GuestDoes (Outcome came) asked did old new =
+GuestDoes (Outcome server came) asked did old new =
     (did ≡ Took) × (new.port ≡ old.port) × (new.presence ≡ old.presence)
 
 -- an event leaves the session as it is, and what all clients share
@@ -124,9 +119,9 @@ EventKeeps (Input Writable) old new = (new.0.talk ≡ old.0.talk) × (new.1 ≡ 
 EventKeeps (Input Ended) old new = (new.0.talk ≡ old.0.talk) × (new.1 ≡ old.1)
 EventKeeps (Input (Leave why)) old new = (new.0.talk ≡ old.0.talk) × (new.1 ≡ old.1)
 EventKeeps (Input Serve) old new = Unit {0}
-EventKeeps (Outcome came) old new = Unit {0}
+EventKeeps (Outcome server came) old new = Unit {0}
 
-pub record IsGuestCall {L T P : Type 0} (awaited : T → Option ℕ) (talk : T → Talk)
+pub record IsGuestCall {L T P : Type 0} (awaited : T → List ℕ) (talk : T → Talk)
     (port : L → PortState) (old : Guest L T × Shared P) (call : Given Event × (Option ℕ × Turned))
     (new : Guest L T × Shared P) : Type 0 where
   pub did : GuestDoes call.0 call.1.0 call.1.1 (seen awaited talk port old.0)
@@ -137,7 +132,7 @@ pub record IsGuestCall {L T P : Type 0} (awaited : T → Option ℕ) (talk : T �
 -- request of it is under way
 abbrev pub RestsBy : Presence → Seen → Type 0
 RestsBy Here it = AtRest it.awaited it.talk it.port
-RestsBy (Leaving why) it = IsSome it.awaited
+RestsBy (Leaving why) it = it.awaited ≢ []
 
 abbrev pub IsResting : Seen → Type 0
 IsResting it = RestsBy it.presence it

@@ -7,7 +7,7 @@ use Rattle.tko_port.specs.declared.guest.Presence.TheVariants.{Here, Leaving}
 use Rattle.tko_port.specs.declared.settling.End.{End}
 use Rattle.tko_port.specs.declared.settling.End.TheVariants.{Finished, LineTooLong, Memory, ReadFailed, WriteFailed}
 use Rattle.tko_port.specs.declared.settling.Settled.{Settled}
-use Rattle.tko_port.specs.declared.settling.Settled.TheVariants.{Asks, Ends, Rests, Spent}
+use Rattle.tko_port.specs.declared.settling.Settled.TheVariants.{Asks, AsksMore, Ends, Rests, Spent}
 use Rattle.tko_port.specs.Ports.{PortState}
 use Rattle.tko_port.specs.Talks.{Readiness}
 
@@ -34,6 +34,7 @@ ReadyEnd ready WriteFailed parts port talk = ReadyAt ready parts port talk
 -- a session after it was served, which came to this
 abbrev pub ReadyAs : {P T : Type 0} → Readiness P T → Settled → P → PortState → T → Type 0
 ReadyAs ready (Asks server) parts port talk = ReadyAt ready parts port talk
+ReadyAs ready (AsksMore server) parts port talk = ReadyAt ready parts port talk
 ReadyAs ready Rests parts port talk = ReadyAt ready parts port talk
 ReadyAs ready Spent parts port talk = ReadyAt ready parts port talk
 ReadyAs ready (Ends why) parts port talk = ReadyEnd ready why parts port talk

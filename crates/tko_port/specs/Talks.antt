@@ -1,11 +1,11 @@
 -- A client's session as its port sees it.
-use Rattle.std.specs.Prelude.{◌≢◌, ℕ, ◌+◌, ◌-◌, ◌^◌, List, [], ◌++◌, Option, length, min}
+use Rattle.std.specs.Prelude.{◌≡◌, ◌≢◌, ℕ, ◌+◌, ◌-◌, ◌^◌, List, [], ◌++◌, Option, length, min}
 use Rattle.tko_mux.specs.declared.asking.Came.{Came}
 use Rattle.tko_port.specs.declared.talking.Stage.{Stage}
-use Rattle.tko_port.specs.declared.talking.Stage.TheVariants.{Full, Going, NeedsInput, Over, TooLong}
+use Rattle.tko_port.specs.declared.talking.Stage.TheVariants.{Full, Going, NeedsInput, Over, TooLong, Waits}
 use Rattle.tko_port.specs.declared.talking.Tally.{Tally}
 
--- how far it is while no request of it is under way; the replies that wait to be written; how many
+-- how far it is; the replies that wait to be written; how many
 -- of its requests were answered, and how many bytes of its replies were written; and how many are
 -- held, of those that wait and of the one under way
 pub record Talk : Type 0 where
@@ -36,15 +36,26 @@ pub data TalkItem : Type 0 where
   NotFed : TalkItem
   Ended : TalkItem
   Sent : (count : ℕ) → TalkItem
-  Took : (came : Came) (asked : Option ℕ) → TalkItem
+  Took : (server : ℕ) (came : Came) (asked : Option ℕ) → TalkItem
 
 -- where its replies are to be written before it goes on, there are some
 abbrev pub HasReplies : Stage → List ℕ → Type 0
 HasReplies Full output = output ≢ []
 HasReplies Going output = Unit {0}
+HasReplies Waits output = Unit {0}
 HasReplies NeedsInput output = Unit {0}
 HasReplies Over output = Unit {0}
 HasReplies TooLong output = Unit {0}
+
+-- whom a session awaits at a stage: some server where nothing can be done before something comes for
+-- one of its requests; any where it can go on; else none
+abbrev pub AwaitsAt : Stage → List ℕ → Type 0
+AwaitsAt Going awaited = Unit {0}
+AwaitsAt Waits awaited = awaited ≢ []
+AwaitsAt Full awaited = awaited ≡ []
+AwaitsAt NeedsInput awaited = awaited ≡ []
+AwaitsAt Over awaited = awaited ≡ []
+AwaitsAt TooLong awaited = awaited ≡ []
 
 -- when a session can be called over parts, once these bytes came to it and these went from it
 abbrev pub Readiness : Type 0 → Type 0 → Type 1

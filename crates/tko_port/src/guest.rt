@@ -1,5 +1,6 @@
 //! A client: its port and its session, as the multiplexer calls them.
-ghost use Rattle.std.specs.Prelude.{◌≡◌, None};
+ghost use Rattle.std.specs.Prelude.{◌≡◌, IfSome, IsSome};
+ghost use Rattle.tko_mux.specs.Awaits.{IsAsking};
 ghost use Rattle.tko_port.specs.Guests.{AsksIf, ServedAs, presence_of};
 ghost use Rattle.tko_port.specs.Lives.{ReadyAt, ReadyBy};
 
@@ -46,10 +47,12 @@ pub enum Presence {
 pub enum Turned {
     /// The event was noted.
     Noted,
-    /// It took what came of its request.
+    /// It took what came of a request of it.
     Took,
-    /// It asks a server.
+    /// It asks a server, and can do nothing before something comes for one of its requests.
     Asks,
+    /// It asks a server, and more can be done for it.
+    AsksMore,
     /// Nothing can be done for it before its next event.
     Rests,
     /// More can be done for it in the next turn.
@@ -67,7 +70,7 @@ pub struct Guest<L, T> {
 }
 
 impl<P, L: Port, T: Talking<P>> Asking<Shared<P>> for Guest<L, T> {
-    ghost use Rattle.tko_port.specs.Guests.{IsGuestCall, MayServe};
+    ghost use Rattle.tko_port.specs.Guests.{IsGuestCall};
     ghost use Rattle.tko_port.specs.Lives.{IsGuestReady};
     ghost use Rattle.tko_port.specs.Staying.{guest_stays};
 
@@ -77,7 +80,7 @@ impl<P, L: Port, T: Talking<P>> Asking<Shared<P>> for Guest<L, T> {
 
     ghost acts = { λ old call new. IsGuestCall T.awaited T.talk L.port old call new };
 
-    ghost may = { λ guest event. MayServe event (T.awaited guest.talk) };
+    ghost may = { λ _ _. Unit {0} };
 
     ghost ready = { λ shared guest. IsGuestReady T.ready L.port shared.parts guest };
 
@@ -86,6 +89,8 @@ impl<P, L: Port, T: Talking<P>> Asking<Shared<P>> for Guest<L, T> {
     ghost awaited = { λ guest. T.awaited guest.talk };
 
     ghost asks_for = { λ guest. T.asks_for guest.talk };
+
+    ghost waits_for = { λ guest. T.waits_for guest.talk };
 
     ghost stay_ready = { λ guest old new stays. guest_stays T.ready guest.presence
         (L.port guest.port) guest.talk old.parts new.parts
@@ -120,16 +125,28 @@ impl<P, L: Port, T: Talking<P>> Asking<Shared<P>> for Guest<L, T> {
         }
     }
 
-    fn take(&mut self, shared: &mut Shared<P>, came: Came) -> (Option<Clear>, Turned) {
-        (self.talk.take(&mut shared.parts, came), Turned::Took)
+    fn take(
+        &mut self,
+        shared: &mut Shared<P>,
+        server: usize,
+        came: Came,
+    ) -> (Option<Clear>, Turned) {
+        (
+            self.talk.take(&mut shared.parts, server, came),
+            Turned::Took,
+        )
     }
 
-    fn awaited(&self) -> Option<usize> {
-        self.talk.awaited()
+    fn is_waiting(&self) -> bool {
+        self.talk.is_waiting()
     }
 
     fn request(&self) -> &Request {
         self.talk.request()
+    }
+
+    fn request_to(&self, server: usize) -> &Request {
+        self.talk.request_to(server)
     }
 }
 
@@ -140,9 +157,9 @@ fn serve<P, L: Port, T: Talking<P>>(
     shared: &mut Shared<P>,
 ) -> (Option<Clear>, Turned)
     requires ready { ReadyAt T.ready shared.old.parts (L.port port.old) talk.old }
-    requires here { T.awaited talk.old ≡ None }
-    ensures ends { ServedAs result.1 (T.talk talk.new) (L.port port.new) }
-    ensures asks { T.awaited talk.new ≡ result.0 }
+    ensures ends { ServedAs result.1 (T.awaited talk.new) (T.talk talk.new) (L.port port.new) }
+    ensures asks { IsAsking result.0 (T.awaited talk.old) (T.awaited talk.new) }
+    ensures request { IfSome result.0 (λ server. IsSome (T.asks_for talk.new)) }
     ensures asked { AsksIf result.1 result.0 }
     ensures ready { ReadyBy T.ready (presence_of result.1) shared.new.parts (L.port port.new)
         talk.new }
@@ -153,6 +170,7 @@ fn serve<P, L: Port, T: Talking<P>>(
     }
     match settle(port, talk, &mut shared.parts, &mut shared.buffer) {
         Settled::Asks(clear) => (Some(clear), Turned::Asks),
+        Settled::AsksMore(clear) => (Some(clear), Turned::AsksMore),
         Settled::Rests => (None, Turned::Rests),
         Settled::Spent => (None, Turned::Spent),
         Settled::Ends(why) => (None, Turned::Ends(why)),
@@ -165,8 +183,11 @@ fn presence_of(did: Turned) -> Presence
 {
     match did {
         Turned::Ends(why) => Presence::Leaving(why),
-        Turned::Noted | Turned::Took | Turned::Asks | Turned::Rests | Turned::Spent => {
-            Presence::Here
-        }
+        Turned::Noted
+        | Turned::Took
+        | Turned::Asks
+        | Turned::AsksMore
+        | Turned::Rests
+        | Turned::Spent => Presence::Here,
     }
 }

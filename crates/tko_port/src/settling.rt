@@ -1,9 +1,10 @@
 //! A client, from one event to the next.
 ghost use Rattle.std.specs.Prelude.{◌≡◌, ◌<◌, ◌≢◌, [], None, true, IfSome, IfNone, length};
+ghost use Rattle.tko_mux.specs.Awaits.{IsAsking};
 ghost use Rattle.std.specs.Bool.{OnFalse, OnTrue};
 ghost use Rattle.tko_port.specs.Lives.{ReadyAs, ReadyAt};
-ghost use Rattle.tko_port.specs.Rests.{CannotWrite, SettledAs, asked_as};
-ghost use Rattle.tko_port.specs.Talks.{HasReplies};
+ghost use Rattle.tko_port.specs.Rests.{CannotWrite, HasAsked, SettledAs, asked_as};
+ghost use Rattle.tko_port.specs.Talks.{AwaitsAt, HasReplies};
 
 use crate::{Port, Read, Stage, Talking};
 use tko_model::Clear;
@@ -28,8 +29,11 @@ pub enum End {
 /// What serving a client came to.
 #[derive(Debug, Drop)]
 pub enum Settled {
-    /// It asks the server that the permission names.
+    /// It asks the server that the permission names, and can do nothing before something comes for
+    /// one of its requests.
     Asks(Clear),
+    /// It asks the server that the permission names, and more can be done for it.
+    AsksMore(Clear),
     /// Nothing can be done for it before its next event.
     Rests,
     /// More can be done for it in the next turn.
@@ -46,10 +50,10 @@ pub fn settle<P, L: Port, T: Talking<P>>(
     buffer: &mut [u8],
 ) -> Settled
     requires ready { ReadyAt T.ready parts.old (L.port port.old) talk.old }
-    requires here { T.awaited talk.old ≡ None }
     requires room { 0 < length buffer.old }
-    ensures ends { SettledAs result (T.talk talk.new) (L.port port.new) }
-    ensures asks { T.awaited talk.new ≡ asked_as result }
+    ensures ends { SettledAs result (T.awaited talk.new) (T.talk talk.new) (L.port port.new) }
+    ensures asks { IsAsking (asked_as result) (T.awaited talk.old) (T.awaited talk.new) }
+    ensures request { HasAsked result (T.asks_for talk.new) }
     ensures ready { ReadyAs T.ready result parts.new (L.port port.new) talk.new }
     ensures stays { T.stays parts.old parts.new }
 {
@@ -69,19 +73,23 @@ fn serve<P, L: Port, T: Talking<P>>(
     buffer: &mut [u8],
 ) -> Option<Settled>
     requires ready { ReadyAt T.ready parts.old (L.port port.old) talk.old }
-    requires here { T.awaited talk.old ≡ None }
     requires room { 0 < length buffer.old }
     ensures ends { IfSome result (λ settled.
-        SettledAs settled (T.talk talk.new) (L.port port.new)) }
-    ensures asks { IfSome result (λ settled. T.awaited talk.new ≡ asked_as settled) }
-    ensures here { IfNone result (T.awaited talk.new ≡ None) }
+        SettledAs settled (T.awaited talk.new) (T.talk talk.new) (L.port port.new)) }
+    ensures asks { IfSome result (λ settled.
+        IsAsking (asked_as settled) (T.awaited talk.old) (T.awaited talk.new)) }
+    ensures request { IfSome result (λ settled. HasAsked settled (T.asks_for talk.new)) }
+    ensures same { IfNone result (IsAsking None (T.awaited talk.old) (T.awaited talk.new)) }
     ensures ready { IfSome result (λ settled.
         ReadyAs T.ready settled parts.new (L.port port.new) talk.new) }
     ensures on { IfNone result (ReadyAt T.ready parts.new (L.port port.new) talk.new) }
     ensures stays { T.stays parts.old parts.new }
 {
     match talk.go_on(parts) {
-        Ok(Some(clear)) => Some(Settled::Asks(clear)),
+        Ok(Some(clear)) => match talk.stage() {
+            Stage::Waits => Some(Settled::Asks(clear)),
+            _ => Some(Settled::AsksMore(clear)),
+        },
         Ok(None) => serve_here(port, talk, parts, buffer),
         Err(_) => Some(Settled::Ends(End::Memory)),
     }
@@ -95,13 +103,45 @@ fn serve_here<P, L: Port, T: Talking<P>>(
     buffer: &mut [u8],
 ) -> Option<Settled>
     requires ready { ReadyAt T.ready parts.old (L.port port.old) talk.old }
-    requires here { T.awaited talk.old ≡ None }
+    requires stage { AwaitsAt (T.talk talk.old).stage (T.awaited talk.old) }
     requires replies { HasReplies (T.talk talk.old).stage (T.talk talk.old).output }
     requires room { 0 < length buffer.old }
     ensures ends { IfSome result (λ settled.
-        SettledAs settled (T.talk talk.new) (L.port port.new)) }
-    ensures asks { IfSome result (λ settled. T.awaited talk.new ≡ asked_as settled) }
-    ensures here { IfNone result (T.awaited talk.new ≡ None) }
+        SettledAs settled (T.awaited talk.new) (T.talk talk.new) (L.port port.new)) }
+    ensures asks { IfSome result (λ settled. asked_as settled ≡ None) }
+    ensures request { IfSome result (λ settled. HasAsked settled (T.asks_for talk.new)) }
+    ensures same { T.awaited talk.new ≡ T.awaited talk.old }
+    ensures ready { IfSome result (λ settled.
+        ReadyAs T.ready settled parts.new (L.port port.new) talk.new) }
+    ensures on { IfNone result (ReadyAt T.ready parts.new (L.port port.new) talk.new) }
+    ensures stays { T.stays parts.old parts.new }
+{
+    if !talk.is_waiting() {
+        return serve_idle(port, talk, parts, buffer);
+    }
+    match talk.stage() {
+        Stage::Waits => Some(Settled::Rests),
+        _ => Some(Settled::Spent),
+    }
+}
+
+/// The same, where no request of it is under way: only then it is written to or read from.
+fn serve_idle<P, L: Port, T: Talking<P>>(
+    port: &mut L,
+    talk: &mut T,
+    parts: &mut P,
+    buffer: &mut [u8],
+) -> Option<Settled>
+    requires ready { ReadyAt T.ready parts.old (L.port port.old) talk.old }
+    requires here { T.awaited talk.old ≡ [] }
+    requires stage { AwaitsAt (T.talk talk.old).stage (T.awaited talk.old) }
+    requires replies { HasReplies (T.talk talk.old).stage (T.talk talk.old).output }
+    requires room { 0 < length buffer.old }
+    ensures ends { IfSome result (λ settled.
+        SettledAs settled (T.awaited talk.new) (T.talk talk.new) (L.port port.new)) }
+    ensures asks { IfSome result (λ settled. asked_as settled ≡ None) }
+    ensures request { IfSome result (λ settled. HasAsked settled (T.asks_for talk.new)) }
+    ensures here { T.awaited talk.new ≡ [] }
     ensures ready { IfSome result (λ settled.
         ReadyAs T.ready settled parts.new (L.port port.new) talk.new) }
     ensures on { IfNone result (ReadyAt T.ready parts.new (L.port port.new) talk.new) }
@@ -112,6 +152,7 @@ fn serve_here<P, L: Port, T: Talking<P>>(
     }
     match talk.stage() {
         Stage::Going => Some(Settled::Spent),
+        Stage::Waits => unreachable!(),
         Stage::Full => Some(Settled::Rests),
         Stage::NeedsInput => read_in(port, talk, parts, buffer),
         Stage::Over => over::<P, _>(talk, End::Finished),
@@ -157,11 +198,10 @@ fn write_out<P, L: Port, T: Talking<P>>(
     parts: &mut P,
 ) -> Option<Settled>
     requires ready { ReadyAt T.ready parts.old (L.port port.old) talk.old }
-    requires here { T.awaited talk.old ≡ None }
+    requires here { T.awaited talk.old ≡ [] }
     requires writable { (L.port port.old).writable ≡ true }
     ensures ends { IfSome result (λ settled. settled ≡ Settled.Ends End.WriteFailed) }
-    ensures asks { IfSome result (λ settled. T.awaited talk.new ≡ None) }
-    ensures here { IfNone result (T.awaited talk.new ≡ None) }
+    ensures here { T.awaited talk.new ≡ [] }
     ensures ready { ReadyAt T.ready parts.new (L.port port.new) talk.new }
     ensures stays { T.stays parts.old parts.new }
 {
@@ -182,14 +222,15 @@ fn read_in<P, L: Port, T: Talking<P>>(
     buffer: &mut [u8],
 ) -> Option<Settled>
     requires ready { ReadyAt T.ready parts.old (L.port port.old) talk.old }
-    requires here { T.awaited talk.old ≡ None }
+    requires here { T.awaited talk.old ≡ [] }
     requires needs { (T.talk talk.old).stage ≡ Stage.NeedsInput }
     requires cannot { CannotWrite (T.talk talk.old).output (L.port port.old) }
     requires room { 0 < length buffer.old }
     ensures ends { IfSome result (λ settled.
-        SettledAs settled (T.talk talk.new) (L.port port.new)) }
-    ensures asks { IfSome result (λ settled. T.awaited talk.new ≡ asked_as settled) }
-    ensures here { IfNone result (T.awaited talk.new ≡ None) }
+        SettledAs settled (T.awaited talk.new) (T.talk talk.new) (L.port port.new)) }
+    ensures asks { IfSome result (λ settled. asked_as settled ≡ None) }
+    ensures request { IfSome result (λ settled. HasAsked settled (T.asks_for talk.new)) }
+    ensures here { T.awaited talk.new ≡ [] }
     ensures ready { IfSome result (λ settled.
         ReadyAs T.ready settled parts.new (L.port port.new) talk.new) }
     ensures on { IfNone result (ReadyAt T.ready parts.new (L.port port.new) talk.new) }

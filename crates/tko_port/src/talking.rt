@@ -5,11 +5,13 @@ use tko_model::Clear;
 use tko_mux::Came;
 use tko_text::Request;
 
-/// How far a session is while no request of it is under way.
+/// How far a session is.
 #[derive(Clone, Copy, Debug, PartialEq, Eq)]
 pub enum Stage {
-    /// It can go on.
+    /// It can go on, also while requests of it are under way.
     Going,
+    /// Requests of it are under way, and it can do nothing before something comes for one of them.
+    Waits,
     /// Its replies are to be written before it goes on.
     Full,
     /// It needs more input.
@@ -33,21 +35,27 @@ pub struct Tally {
     pub held: usize,
 }
 
-/// A client's session over parts of type `P`, which all sessions of a worker share.
+/// A client's session over parts of type `P`, which all sessions of a worker share. Several of its
+/// requests may be under way, also to one server: what comes from a server is of the first of those
+/// that are under way to it, in the order in which they were asked for.
 pub trait Talking<P> {
-    ghost use Rattle.std.specs.Prelude.{◌≡◌, ◌≤◌, ◌++◌, ℕ, List, [], None, Option, Some, IfOk, IsSome, OnErr, OnOk, drop, length, take};
+    ghost use Rattle.std.specs.Prelude.{◌≡◌, ◌≢◌, ◌<◌, ◌≤◌, ◌++◌, ℕ, List, [], None, Option, Some, IfOk, IfSome, IsSome, OnErr, OnOk, drop, length, take};
+    ghost use Rattle.std.specs.Bool.{OnFalse, OnTrue};
     ghost use Rattle.tko_port.specs.declared.talking.Stage.TheVariants.{NeedsInput};
-    ghost use Rattle.tko_port.specs.Talks.{Dropped, Ended, Fed, GainsBytes, HasReplies, IsCallable, NotFed, SendsBytes, Sent, StaysReady, Talk, TalkItem, Took, Went, tally_of, taken_more};
+    ghost use Rattle.tko_port.specs.Talks.{AwaitsAt, Dropped, Ended, Fed, GainsBytes, HasReplies, IsCallable, NotFed, SendsBytes, Sent, StaysReady, Talk, TalkItem, Took, Went, tally_of, taken_more};
     ghost use Rattle.tko_text.specs.declared.request.Request.{Request};
-    ghost use Rattle.tko_mux.specs.Asks.{IsTaking};
+    ghost use Rattle.tko_mux.specs.Awaits.{IsAsking, IsTaking, times_due};
 
     ghost talk: { Self → Talk };
 
-    /// The server that its request is under way to.
-    ghost awaited: { Self → Option ℕ };
+    /// The servers that its requests are under way to, one for each request, in any order.
+    ghost awaited: { Self → List ℕ };
 
-    /// The request that is under way.
+    /// The request that its last call asked to send.
     ghost asks_for: { Self → Option Request };
+
+    /// The first of its requests that are under way to a server, whose response comes next.
+    ghost waits_for: { Self → ℕ → Option Request };
 
     /// What a call does to the session and to the parts.
     ghost does: { Self × P → TalkItem → Self × P → Type 0 };
@@ -58,16 +66,20 @@ pub trait Talking<P> {
     /// What calls leave of the parts, so that all other sessions stay ready.
     ghost stays: { P → P → Type 0 };
 
-    /// Goes on, for a bounded number of items. Returns the permission to send its request, if it
-    /// asks a server. An `Err` says that its request was dropped.
+    /// Goes on, for a bounded number of items, also while requests of it are under way. Returns the
+    /// permission to send one more, if it asks a server. An `Err` says that its request was dropped.
     fn go_on(&mut self, parts: &mut P) -> Result<Option<Clear>, NoMemory>
         requires ready { IsCallable ready (self.old, parts.old) }
-        requires here { awaited self.old ≡ None }
         ensures ok { IfOk result (λ asked. does (self.old, parts.old) (Went asked)
             (self.new, parts.new)) }
         ensures err { OnErr result (does (self.old, parts.old) Dropped (self.new, parts.new)) }
-        ensures asks { IfOk result (λ asked. awaited self.new ≡ asked) }
-        ensures here { OnErr result (awaited self.new ≡ None) }
+        ensures asks { IfOk result (λ asked.
+            IsAsking asked (awaited self.old) (awaited self.new)) }
+        ensures request { IfOk result (λ asked.
+            IfSome asked (λ server. IsSome (asks_for self.new))) }
+        ensures here { OnErr result (IsAsking None (awaited self.old) (awaited self.new)) }
+        ensures stage { IfOk result (λ asked.
+            AwaitsAt (talk self.new).stage (awaited self.new)) }
         ensures taken { (talk self.new).taken ≡ (talk self.old).taken }
         ensures replies { HasReplies (talk self.new).stage (talk self.new).output }
         ensures ready { StaysReady ready (self.old, parts.old) (self.new, parts.new) }
@@ -89,12 +101,12 @@ pub trait Talking<P> {
     /// Drops the first `count` bytes of the replies, which were written.
     fn sent(&mut self, parts: &mut P, count: usize)
         requires ready { IsCallable ready (self.old, parts.old) }
-        requires here { awaited self.old ≡ None }
+        requires here { awaited self.old ≡ [] }
         requires within { count ≤ length (talk self.old).output }
         ensures does { does (self.old, parts.old) (Sent count) (self.new, parts.new) }
         ensures output { (talk self.new).output ≡ drop count (talk self.old).output }
         ensures taken { (talk self.new).taken ≡ taken_more (talk self.old).taken count }
-        ensures here { awaited self.new ≡ None }
+        ensures here { awaited self.new ≡ [] }
         ensures ready { SendsBytes ready (take count (talk self.old).output)
             (self.old, parts.old) (self.new, parts.new) }
         ensures stays { stays parts.old parts.new };
@@ -102,13 +114,13 @@ pub trait Talking<P> {
     /// Takes the next piece of the client's bytes.
     fn feed(&mut self, parts: &mut P, piece: &[u8]) -> Result<(), NoMemory>
         requires ready { IsCallable ready (self.old, parts.old) }
-        requires here { awaited self.old ≡ None }
+        requires here { awaited self.old ≡ [] }
         requires needs { (talk self.old).stage ≡ NeedsInput }
         ensures ok { OnOk result (does (self.old, parts.old) (Fed piece.now)
             (self.new, parts.new)) }
         ensures err { OnErr result (does (self.old, parts.old) NotFed (self.new, parts.new)) }
         ensures taken { (talk self.new).taken ≡ (talk self.old).taken }
-        ensures here { awaited self.new ≡ None }
+        ensures here { awaited self.new ≡ [] }
         ensures fed { OnOk result (GainsBytes ready piece.now (self.old, parts.old)
             (self.new, parts.new)) }
         ensures kept { OnErr result (StaysReady ready (self.old, parts.old)
@@ -118,33 +130,41 @@ pub trait Talking<P> {
     /// The client's bytes end here.
     fn end(&mut self, parts: &mut P)
         requires ready { IsCallable ready (self.old, parts.old) }
-        requires here { awaited self.old ≡ None }
+        requires here { awaited self.old ≡ [] }
         requires needs { (talk self.old).stage ≡ NeedsInput }
         ensures does { does (self.old, parts.old) Ended (self.new, parts.new) }
         ensures taken { (talk self.new).taken ≡ (talk self.old).taken }
-        ensures here { awaited self.new ≡ None }
+        ensures here { awaited self.new ≡ [] }
         ensures ready { StaysReady ready (self.old, parts.old) (self.new, parts.new) }
         ensures stays { stays parts.old parts.new };
 
-    /// Takes what came of its request. Returns the permission to send the next one, if it asks a
-    /// server.
-    fn take(&mut self, parts: &mut P, came: Came) -> Option<Clear>
+    /// Takes what came of a request to this server. Returns the permission to send the next one, if
+    /// it asks a server.
+    fn take(&mut self, parts: &mut P, server: usize, came: Came) -> Option<Clear>
         requires ready { IsCallable ready (self.old, parts.old) }
-        requires awaits { IsSome (awaited self.old) }
-        ensures does { does (self.old, parts.old) (Took came result) (self.new, parts.new) }
-        ensures asks { IsTaking came result (awaited self.new) }
+        requires awaits { 0 < times_due (awaited self.old) server }
+        ensures does { does (self.old, parts.old) (Took server came result)
+            (self.new, parts.new) }
+        ensures asks { IsTaking server came result (awaited self.old) (awaited self.new) }
+        ensures request { IfSome result (λ it. IsSome (asks_for self.new)) }
         ensures taken { (talk self.new).taken ≡ (talk self.old).taken }
         ensures ready { StaysReady ready (self.old, parts.old) (self.new, parts.new) }
         ensures stays { stays parts.old parts.new };
 
-    /// The server that its request is under way to.
-    fn awaited(&self) -> Option<usize>
-        ensures { result ≡ awaited self.now };
+    /// Whether a request of it is under way.
+    fn is_waiting(&self) -> bool
+        ensures some { OnTrue result (awaited self.now ≢ []) }
+        ensures none { OnFalse result (awaited self.now ≡ []) };
 
-    /// The request that is under way.
+    /// The request that its last call asked to send.
     fn request(&self) -> &Request
-        requires { IsSome (awaited self.now) }
+        requires { IsSome (asks_for self.now) }
         ensures { asks_for self.now ≡ Some result.now };
+
+    /// The first of its requests that are under way to this server.
+    fn request_to(&self, server: usize) -> &Request
+        requires { 0 < times_due (awaited self.now) server }
+        ensures { waits_for self.now server ≡ Some result.now };
 
     ghost stay_ready: { (talking : Self) (came went : List ℕ) (old new : P) → stays old new
         → ready old came went talking → ready new came went talking };

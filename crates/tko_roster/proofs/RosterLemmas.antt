@@ -6,14 +6,14 @@ use Rattle.tko_roster.specs.Tagged.{Tagged, own, own_or}
 use Rattle.tko_roster.specs.Rosters.{Acted, Acting, Admitted, IsActOf, IsOwnAct, IsRosterStep, IsServed, IsSharedAct, Released, RosterAct, RosterState, session_at}
 
 -- what an act does to its number, and that it leaves the others
-record IsAlone {S P A : Type 0} (acts : Acting S P A) (awaited : S → Option ℕ)
+record IsAlone {S P A : Type 0} (acts : Acting S P A) (awaited : S → List ℕ)
     (old : RosterState S P) (number : ℕ) (it : RosterAct S A) (new : RosterState S P) : Type 0
   where
     mine : IsOwnAct acts awaited (session_at old.slots number) it (session_at new.slots number)
     others : (other : ℕ) → other ≢ number → session_at new.slots other ≡ session_at old.slots other
     shared : IsSharedAct acts old.parts (record { number = number; item = it }) new.parts
 
-is_alone : {S P A : Type 0} (acts : Acting S P A) (awaited : S → Option ℕ)
+is_alone : {S P A : Type 0} (acts : Acting S P A) (awaited : S → List ℕ)
     (old : RosterState S P) (number : ℕ) (it : RosterAct S A) (new : RosterState S P)
     → IsActOf acts awaited old number it new → IsAlone acts awaited old number it new
 is_alone acts awaited old number (Admitted session) new step = record {
@@ -41,7 +41,7 @@ is_alone acts awaited old number (Released session) new step = record {
 }
 
 -- the acts of a number lead from its session as it was to what it is
-own_lead : {S P A : Type 0} (acts : Acting S P A) (awaited : S → Option ℕ)
+own_lead : {S P A : Type 0} (acts : Acting S P A) (awaited : S → List ℕ)
     (old new : RosterState S P) (items : List (Tagged (RosterAct S A))) (number : ℕ)
     → Lead (IsRosterStep acts awaited) old items new
     → Lead (IsOwnAct acts awaited) (session_at old.slots number) (own number items)
@@ -72,7 +72,7 @@ own_lead {S} {P} {A} acts awaited old new (it ∷ items) number (mid, first, res
     ]
 
 -- all acts lead from the parts as they were to what they are
-shared_lead : {S P A : Type 0} (acts : Acting S P A) (awaited : S → Option ℕ)
+shared_lead : {S P A : Type 0} (acts : Acting S P A) (awaited : S → List ℕ)
     (old new : RosterState S P) (items : List (Tagged (RosterAct S A)))
     → Lead (IsRosterStep acts awaited) old items new
     → Lead (IsSharedAct acts) old.parts items new.parts
@@ -81,7 +81,7 @@ shared_lead acts awaited old new (it ∷ items) (mid, first, rest) =
     let alone = is_alone acts awaited old it.number it.item mid first in
     (mid.parts, alone.shared, shared_lead acts awaited mid new items rest)
 
-pub serves : {S P A : Type 0} (acts : Acting S P A) (awaited : S → Option ℕ)
+pub serves : {S P A : Type 0} (acts : Acting S P A) (awaited : S → List ℕ)
     (old : RosterState S P) (items : List (Tagged (RosterAct S A))) (new : RosterState S P)
     → Gains (IsRosterStep acts awaited) old items new → IsServed acts awaited old items new
 serves acts awaited old items new gains = record {

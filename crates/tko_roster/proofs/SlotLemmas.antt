@@ -1,5 +1,5 @@
 -- One number's slot, and the others.
-use Rattle.std.proofs.Common.{◌≡◌, ◌≢◌, ◌<◌, ℕ, List, refl, sym, ap, subst, ◌∙◌, inl, inr, length, Option, Some, None}
+use Rattle.std.proofs.Common.{◌≡◌, ◌≢◌, ◌<◌, ℕ, List, [], refl, sym, ap, subst, ◌∙◌, inl, inr, length, Option, Some, None}
 use Rattle.std.specs.Prelude.{IfNone, IfSome, slice_get, slice_set, slice_index_or}
 use Rattle.std.specs.Option.{option_and_then}
 use Rattle.std.proofs.lemmas.Bool.Decides.{eqb_tells}
@@ -124,10 +124,10 @@ ready_after ready slots number slot now before after is all stay mine other sess
     ]
 
 -- the number's session left
-pub released : {S P : Type 0} (awaited : S → Option ℕ) (p old : RosterState S P) (number : ℕ)
+pub released : {S P : Type 0} (awaited : S → List ℕ) (p old : RosterState S P) (number : ℕ)
     (session : S) (slot now : Option S) → p ≡ old → slice_get p.slots number ≡ Some slot
     → slot ≡ Some session → now ≡ None
-    → ((one : S) → session_at old.slots number ≡ Some one → awaited one ≡ None)
+    → ((one : S) → session_at old.slots number ≡ Some one → awaited one ≡ [])
     → IsReleased awaited old number session
     (record { parts = p.parts; slots = slice_set p.slots number now })
 released {S} {P} awaited p old number session slot now same is had none quiet =

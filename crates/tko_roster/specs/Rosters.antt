@@ -58,20 +58,20 @@ pub record IsActed {S P A : Type 0} (acts : Acting S P A) (old : RosterState S P
   pub made : acts (was, old.parts) call (now, new.parts)
 
 -- the number's session leaves, which has no request under way
-pub record IsReleased {S P : Type 0} (awaited : S → Option ℕ) (old : RosterState S P) (number : ℕ)
+pub record IsReleased {S P : Type 0} (awaited : S → List ℕ) (old : RosterState S P) (number : ℕ)
     (session : S) (new : RosterState S P) : Type 0 where
-  pub idle : awaited session ≡ None
+  pub idle : awaited session ≡ []
   pub moved : IsMoved old.slots number (Some session) None new.slots
   pub parts : new.parts ≡ old.parts
 
 -- one act of a number
-abbrev pub IsActOf : {S P A : Type 0} → Acting S P A → (S → Option ℕ) → RosterState S P → ℕ
+abbrev pub IsActOf : {S P A : Type 0} → Acting S P A → (S → List ℕ) → RosterState S P → ℕ
     → RosterAct S A → RosterState S P → Type 0
 IsActOf acts awaited old number (Admitted session) new = IsAdmitted old number session new
 IsActOf acts awaited old number (Acted call) new = IsActed acts old number call new
 IsActOf acts awaited old number (Released session) new = IsReleased awaited old number session new
 
-abbrev pub IsRosterStep : {S P A : Type 0} → Acting S P A → (S → Option ℕ) → RosterState S P
+abbrev pub IsRosterStep : {S P A : Type 0} → Acting S P A → (S → List ℕ) → RosterState S P
     → Tagged (RosterAct S A) → RosterState S P → Type 0
 IsRosterStep acts awaited old it new = IsActOf acts awaited old it.number it.item new
 
@@ -88,12 +88,12 @@ pub record IsOwnCall {S P A : Type 0} (acts : Acting S P A) (old : Option S) (ca
 
 -- what an act does to its number alone: a session comes only where there is none, makes its calls,
 -- and leaves only where no request of it is under way
-abbrev pub IsOwnAct : {S P A : Type 0} → Acting S P A → (S → Option ℕ) → Option S → RosterAct S A
+abbrev pub IsOwnAct : {S P A : Type 0} → Acting S P A → (S → List ℕ) → Option S → RosterAct S A
     → Option S → Type 0
 IsOwnAct acts awaited old (Admitted session) new = (old ≡ None) × (new ≡ Some session)
 IsOwnAct acts awaited old (Acted call) new = IsOwnCall acts old call new
 IsOwnAct acts awaited old (Released session) new =
-    (awaited session ≡ None) × (old ≡ Some session) × (new ≡ None)
+    (awaited session ≡ []) × (old ≡ Some session) × (new ≡ None)
 
 -- what a call does to the parts, whichever session makes it
 pub record IsSharedCall {S P A : Type 0} (acts : Acting S P A) (old : P) (call : A) (new : P)
@@ -112,7 +112,7 @@ IsSharedAct acts old it new = IsSharedActOf acts old it.item new
 
 -- What the acts of a roster mean: the parts were changed by all calls, in their order, and each
 -- number's own acts are those of one session after another.
-pub record IsServed {S P A : Type 0} (acts : Acting S P A) (awaited : S → Option ℕ)
+pub record IsServed {S P A : Type 0} (acts : Acting S P A) (awaited : S → List ℕ)
     (old : RosterState S P) (items : List (Tagged (RosterAct S A))) (new : RosterState S P) : Type 0
   where
     pub shared : Gains (IsSharedAct acts) old.parts items new.parts

@@ -3,7 +3,7 @@
 /// A client's session over parts of type `P`, which all sessions of a worker share. Contracts see
 /// each call of it as its input with its output.
 pub trait Driven<P> {
-    ghost use Rattle.std.specs.Prelude.{ℕ, Option};
+    ghost use Rattle.std.specs.Prelude.{ℕ, List};
 
     type Input: Drop;
 
@@ -21,8 +21,8 @@ pub trait Driven<P> {
     /// What calls leave of the parts, so that all other sessions stay ready.
     ghost stays: { P → P → Type 0 };
 
-    /// The server that its request is under way to.
-    ghost awaited: { Self → Option ℕ };
+    /// The servers that its requests are under way to, one for each request, in any order.
+    ghost awaited: { Self → List ℕ };
 
     /// Makes one call.
     fn act(&mut self, parts: &mut P, input: Self::Input) -> Self::Output

@@ -1,5 +1,5 @@
 //! The sessions of a worker's clients, by number.
-ghost use Rattle.std.specs.Prelude.{◌≡◌, ◌<◌, ℕ, None, Some, IfNone, IfOk, IfSome, IsSome, OnErr, length, option_copied};
+ghost use Rattle.std.specs.Prelude.{◌≡◌, ◌<◌, ℕ, [], None, Some, IfNone, IfOk, IfSome, IsSome, OnErr, length, option_copied};
 ghost use Rattle.std.specs.Bool.{OnFalse, OnTrue};
 ghost use Rattle.tko_roster.specs.Rosters.{AreReady, IfHas, IsActed, IsAdmitted, IsNobody, IsReleased, IsSlotCall, nobody, session_at};
 
@@ -147,7 +147,7 @@ impl<P, S: Driven<P> + Drop> Roster<S, P> {
     /// Takes the number from its session, if it has one. No request of it may be under way, so none
     /// can be answered to the next that has this number.
     pub fn release(&mut self, number: usize) -> Option<S>
-        requires idle { IfHas self.old.slots number (λ session. S.awaited session ≡ None) }
+        requires idle { IfHas self.old.slots number (λ session. S.awaited session ≡ []) }
         requires ready { AreReady S.ready self.old }
         ensures some { IfSome result (λ session.
             IsReleased S.awaited self.old number session self.new) }

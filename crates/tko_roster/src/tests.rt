@@ -1,5 +1,5 @@
 //! Sessions that come, act and leave.
-ghost use Rattle.std.specs.Prelude.{None};
+ghost use Rattle.std.specs.Prelude.{[]};
 
 use crate::{Driven, Roster};
 use std::test::Fail;
@@ -11,7 +11,7 @@ struct Tally {
 }
 
 impl Driven<u64> for Tally {
-    ghost use Rattle.std.specs.Prelude.{None};
+    ghost use Rattle.std.specs.Prelude.{[]};
 
     type Input = u64;
 
@@ -25,7 +25,7 @@ impl Driven<u64> for Tally {
 
     ghost stays = { λ _ _. Unit {0} };
 
-    ghost awaited = { λ _. None };
+    ghost awaited = { λ _. [] };
 
     ghost stay_ready = { λ _ _ _ _ _. tt };
 

@@ -10,14 +10,16 @@ use Rattle.tko_roster.specs.Rosters.{Acted, Admitted, Released, RosterState}
 use Rattle.tko_roster.specs.Tagged.{tagged}
 use Rattle.tko_mux.specs.declared.asking.Came.{Came}
 use Rattle.tko_mux.specs.declared.asking.Given.{Given}
-use Rattle.tko_mux.specs.declared.asking.Given.TheVariants.{Outcome}
+use Rattle.tko_mux.specs.declared.asking.Given.TheVariants.{Input, Outcome}
 use Rattle.tko_mux.specs.declared.client.Client.{Client}
 use Rattle.tko_mux.specs.declared.mux.delivery.Delivery.{Delivery}
 use Rattle.tko_mux.specs.declared.mux.delivery.Delivery.TheVariants.{Probed, Reached}
 use Rattle.tko_mux.specs.declared.mux.delivery.Done.{Done}
-use Rattle.tko_mux.specs.Asks.{no_memory}
-use Rattle.tko_mux.specs.Muxes.{IsDelivered, IsMade, LeaveEnds, MuxState, Reaches, SendEnds}
+use Rattle.tko_mux.specs.declared.asking.Came.TheVariants.{Unsent}
+use Rattle.tko_mux.specs.Muxes.{IsDelivered, IsMade, LeaveEnds, MuxState, Reaches, SendEnds, WaitsFor}
 use Rattle.tko_port.specs.declared.guest.Event.{Event}
+use Rattle.tko_port.specs.declared.guest.Event.TheVariants.{Leave}
+use Rattle.tko_port.specs.declared.guest.Turned.TheVariants as turned
 use Rattle.tko_port.specs.declared.guest.Guest.{Guest}
 use Rattle.tko_port.specs.declared.guest.Shared.{Shared}
 use Rattle.tko_port.specs.declared.guest.Turned.{Turned}
@@ -29,6 +31,7 @@ use Rattle.tko_worker.specs.Counts.{MuxAndEnds}
 use Rattle.tko_worker.specs.Servers.{HasLeftNext, HasTaken, ListsReached}
 use Rattle.tko_worker.specs.Workers.{DropEnds, IsOpened, ListEnds, Sight, WorkerState}
 use Rattle.tko_worker.specs.Workers as worker
+use Rattle.tko_worker.proofs.NotedLemmas.{leave_acts}
 
 -- nobody did anything
 pub acted_none : {L T P : Type 0} (sight : Sight L T) (at : RosterAndEnds L T P)
@@ -75,7 +78,7 @@ send_acted {L} {T} {P} sight asks_for mid new ends number due None stopped sends
 send_acted sight asks_for mid new ends number due (Some server) None sends =
     acted_same sight (mid.roster, ends) (new.roster, ends) sends.kept refl
 send_acted sight asks_for mid new ends number due (Some server) (Some did) sends = record {
-  acts = tagged number (Acted (Outcome no_memory, (None, did))) ∷ [];
+  acts = tagged number (Acted (Outcome server Unsent, (None, did))) ∷ [];
   gains = gains_one (sends.told, refl);
 }
 
@@ -109,11 +112,20 @@ act_acted sight asks_for old new ends number due given (Some done) made kept =
 
 -- a client that was to leave
 pub dropped_acted : {L T P : Type 0} (sight : Sight L T) (why : End) (old new : MuxAndEnds L T P)
-    (number : ℕ) → DropEnds sight.0 why old number new
+    (number : ℕ) → DropEnds sight why old number new
     → HaveActed sight (old.0.roster, old.1) (new.0.roster, new.1)
-dropped_acted {L} {T} {P} sight why old new number (worker.kept none same) =
+dropped_acted {L} {T} {P} sight why old new number (worker.kept none rests same) =
     subst (λ (m : MuxAndEnds L T P). HaveActed sight (old.0.roster, old.1) (m.0.roster, m.1))
     (sym same) (acted_none sight (old.0.roster, old.1))
+dropped_acted {L} {T} {P} sight why old new number (worker.leaving kept here
+    (worker.nobody none same) ends) =
+    acted_same sight (old.0.roster, old.1) (new.0.roster, new.1)
+    (ap (λ (m : MuxState (Guest L T) (Shared P)). m.roster) same) ends
+dropped_acted {L} {T} {P} sight why old new number (worker.leaving kept here (worker.noted is) ends) =
+    record {
+      acts = tagged number (Acted (Input (Leave why), (None, turned.Noted))) ∷ [];
+      gains = gains_one (leave_acts sight why old.0 new.0 number is, ends);
+    }
 dropped_acted sight why old new number (worker.left has counts) = record {
   acts = tagged number (Released has.client) ∷ [];
   gains = gains_one (has.released, (why, counts));
@@ -121,7 +133,7 @@ dropped_acted sight why old new number (worker.left has counts) = record {
 
 -- a client was noted
 pub listed_acted : {L T P : Type 0} (sight : Sight L T) (old new : MuxAndEnds L T P) (number : ℕ)
-    (numbers now : List ℕ) → ListEnds sight.0 old number numbers new now
+    (numbers now : List ℕ) → ListEnds sight old number numbers new now
     → HaveActed sight (old.0.roster, old.1) (new.0.roster, new.1)
 listed_acted {L} {T} {P} sight old new number numbers now (worker.listed is same) =
     subst (λ (m : MuxAndEnds L T P). HaveActed sight (old.0.roster, old.1) (m.0.roster, m.1))
@@ -132,7 +144,7 @@ listed_acted sight old new number numbers now (worker.lost is drops) =
 -- the same of the client that something reached
 reached_acted : {L T P : Type 0} (sight : Sight L T) (old new : MuxAndEnds L T P)
     (delivery : Option (Delivery Turned)) (numbers now : List ℕ)
-    → ListsReached sight.0 old delivery numbers new now
+    → ListsReached sight old delivery numbers new now
     → HaveActed sight (old.0.roster, old.1) (new.0.roster, new.1)
 reached_acted {L} {T} {P} sight old new None numbers now is =
     subst (λ (m : MuxAndEnds L T P). HaveActed sight (old.0.roster, old.1) (m.0.roster, m.1))
@@ -144,44 +156,44 @@ reached_acted {L} {T} {P} sight old new (Some (Probed it)) numbers now is =
     (sym is.0) (acted_none sight (old.0.roster, old.1))
 
 delivered_acted : {L T P : Type 0} (sight : Sight L T) (asks_for : Guest L T → Option Request)
-    (old new : MuxState (Guest L T) (Shared P)) (ends : EndCounts) (by : Asker) (what : Came)
-    (due : ℕ) (delivery : Delivery Turned)
+    (old new : MuxState (Guest L T) (Shared P)) (ends : EndCounts) (server : ℕ) (by : Asker)
+    (what : Came) (due : ℕ) (delivery : Delivery Turned)
     → IsDelivered (IsGuestCall sight.0 sight.1 sight.2) (λ guest. sight.0 guest.talk) asks_for old
-    by what due delivery new
+    server by what due delivery new
     → HaveActed sight (old.roster, ends) (new.roster, ends)
-delivered_acted sight asks_for old new ends by what due (Reached number done) is =
+delivered_acted sight asks_for old new ends server by what due (Reached number done) is =
     made_acted sight asks_for old new ends number due _ done is.1
-delivered_acted {L} {T} {P} sight asks_for old new ends by what due (Probed it) is =
+delivered_acted {L} {T} {P} sight asks_for old new ends server by what due (Probed it) is =
     acted_same sight (old.roster, ends) (new.roster, ends)
     (ap (λ (m : MuxState (Guest L T) (Shared P)). m.roster) is.2) refl
 
 reads_acted : {L T P : Type 0} (sight : Sight L T) (asks_for : Guest L T → Option Request)
-    (mid new : MuxState (Guest L T) (Shared P)) (ends : EndCounts) (due : ℕ)
+    (mid new : MuxState (Guest L T) (Shared P)) (ends : EndCounts) (server due : ℕ)
     (taken : Result (Option (Asker × Response)) ShutCause)
     (result : Result (Option (Delivery Turned)) ShutCause)
-    → Reaches (IsGuestCall sight.0 sight.1 sight.2) (λ guest. sight.0 guest.talk) asks_for mid taken
-    due result new
+    → Reaches (IsGuestCall sight.0 sight.1 sight.2) (λ guest. sight.0 guest.talk) asks_for mid server
+    taken due result new
     → HaveActed sight (mid.roster, ends) (new.roster, ends)
-reads_acted {L} {T} {P} sight asks_for mid new ends due (Ok None) result reaches =
+reads_acted {L} {T} {P} sight asks_for mid new ends server due (Ok None) result reaches =
     acted_same sight (mid.roster, ends) (new.roster, ends)
     (ap (λ (m : MuxState (Guest L T) (Shared P)). m.roster) reaches.1) refl
-reads_acted {L} {T} {P} sight asks_for mid new ends due (Err cause) result reaches =
+reads_acted {L} {T} {P} sight asks_for mid new ends server due (Err cause) result reaches =
     acted_same sight (mid.roster, ends) (new.roster, ends)
     (ap (λ (m : MuxState (Guest L T) (Shared P)). m.roster) reaches.1) refl
-reads_acted sight asks_for mid new ends due (Ok (Some found)) result reaches =
-    delivered_acted sight asks_for mid new ends found.0 _ due reaches.0 reaches.2
+reads_acted sight asks_for mid new ends server due (Ok (Some found)) result reaches =
+    delivered_acted sight asks_for mid new ends server found.0 _ due reaches.0 reaches.2
 
 -- a response was looked for
 pub taken_acted : {L T P : Type 0} (sight : Sight L T) (asks_for : Guest L T → Option Request)
-    (old new : WorkerState L T P) (server due : ℕ)
+    (waits_for : WaitsFor (Guest L T)) (old new : WorkerState L T P) (server due : ℕ)
     (result : Result (Option (Delivery Turned)) ShutCause)
-    → HasTaken sight asks_for old server due result new → HasActed sight old new
-taken_acted sight asks_for old new server due result taken =
+    → HasTaken sight asks_for waits_for old server due result new → HasActed sight old new
+taken_acted sight asks_for waits_for old new server due result taken =
     let read = taken.read in
     acted_on sight (old.mux.roster, old.ends) (taken.mid.roster, old.ends)
     (new.mux.roster, new.ends)
-    (reads_acted sight asks_for (record old.mux { lines = read.lines }) taken.mid old.ends due
-    read.taken result read.reaches)
+    (reads_acted sight asks_for (record old.mux { lines = read.lines }) taken.mid old.ends server
+    due read.taken result read.reaches)
     (reached_acted sight (taken.mid, old.ends) (new.mux, new.ends) _ old.touched new.touched
     taken.listed)
 
@@ -194,7 +206,7 @@ leaves_acted : {L T P : Type 0} (sight : Sight L T) (asks_for : Guest L T → Op
 leaves_acted sight asks_for old new ends server due None left =
     acted_same sight (old.roster, ends) (new.roster, ends) left.1 refl
 leaves_acted sight asks_for old new ends server due (Some delivery) told =
-    delivered_acted sight asks_for (record old { lines = told.lines }) new ends told.by _ due
+    delivered_acted sight asks_for (record old { lines = told.lines }) new ends server told.by _ due
     delivery told.reaches
 
 -- the next that waited on a connection that was shut was told

@@ -1,6 +1,7 @@
 pub mod ActedLemmas
 mod AheadLemmas
 mod CountLemmas
+mod KeptLemmas
 mod NotedLemmas
 mod ReachLemmas
 mod RestLemmas

@@ -1,28 +1,40 @@
 -- An event that is noted at a client's port.
-use Rattle.std.proofs.Common.{◌≡◌, ℕ, refl, sym, ap, subst, ◌∙◌, Option, Some, None}
-use Rattle.std.specs.Prelude.{IfNone, IfSome}
+use Rattle.std.proofs.Common.{arith, ◌≡◌, ◌≢◌, ℕ, List, [], inl, inr, refl, sym, ap, subst, ◌∙◌, Option, Some, None}
+use Rattle.std.specs.Prelude.{◌==◌, IfNone, IfSome}
+use Rattle.std.proofs.lemmas.Bool.{eq-eqb}
 use Rattle.tko_text.specs.declared.request.Request.{Request}
-use Rattle.tko_roster.specs.Rosters.{IsReleased, session_at}
+use Rattle.tko_roster.specs.Rosters.{IsActed, IsReleased, session_at}
 use Rattle.tko_mux.specs.declared.asking.Given.TheVariants.{Input}
 use Rattle.tko_mux.specs.declared.mux.delivery.Done.{Done}
-use Rattle.tko_mux.specs.Asks.{IsAsking}
+use Rattle.tko_mux.specs.Asks.{IsCall}
+use Rattle.tko_mux.specs.Awaits.{IsAsking, one_if, times_due}
+use Rattle.tko_mux.specs.Linking.{IsKept, awaited_at, awaited_by}
 use Rattle.tko_mux.specs.Muxes.{IsMade, MuxState, SendEnds}
 use Rattle.tko_port.specs.declared.settling.End.{End}
 use Rattle.tko_port.specs.declared.guest.Event.{Event}
 use Rattle.tko_port.specs.declared.guest.Event.TheVariants.{Ended, Leave, Readable, Serve, Writable}
 use Rattle.tko_port.specs.declared.guest.Guest.{Guest}
+use Rattle.tko_port.specs.declared.guest.Presence.{Presence}
+use Rattle.tko_port.specs.declared.guest.Presence.TheVariants.{Leaving}
 use Rattle.tko_port.specs.declared.guest.Shared.{Shared}
 use Rattle.tko_port.specs.declared.guest.Turned.{Turned}
-use Rattle.tko_port.specs.Guests.{EventKeeps, GuestDoes, IsGuestCall, IsNotice, Seen, noting, presence_after}
-use Rattle.tko_worker.specs.Workers.{DropEnds, HasReached, IsNotedAt, Sight, left, nobody, noted}
+use Rattle.tko_port.specs.declared.guest.Turned.TheVariants as turned
+use Rattle.tko_port.specs.Ports.{PortState}
+use Rattle.tko_port.specs.Guests.{EventKeeps, GuestDoes, IsGuestCall, IsNotice, Seen, noting, presence_after, seen}
+use Rattle.tko_worker.specs.Workers.{DropEnds, HasReached, IsNotedAt, OthersStay, RestAt, Sight, left, nobody, noted}
+use Rattle.tko_worker.proofs.KeptLemmas.{leaver_rests, nobody_rests}
 use Rattle.tko_worker.specs.declared.ends.EndCounts.{EndCounts}
 use Rattle.tko_worker.specs.Counts.{counted}
 
-asks_nobody : (asked old new : Option ℕ) → new ≡ old → IsAsking asked old new → asked ≡ None
+asks_nobody : (asked : Option ℕ) (old new : List ℕ) → new ≡ old → IsAsking asked old new
+    → asked ≡ None
 asks_nobody None old new same asking = refl
 asks_nobody (Some server) old new same asking =
-    let both : Some server ≡ None = sym asking.1 ∙ same ∙ asking.0 in
-    absurd (let f : ⊥ = cc both in f)
+    let here = asking server in
+    let as_before : times_due new server ≡ times_due old server =
+    ap (λ a. times_due a server) same in
+    let one : one_if (server == server) ≡ 1 = ap one_if (eq-eqb server server refl) in
+    absurd (omega (arith, here, as_before, one))
 
 -- what a notice does: one flag of the port, and no more
 does_note : (event : Event) (asked : Option ℕ) (did : Turned) (old new : Seen) → IsNotice event
@@ -90,18 +102,89 @@ event_reached sight asks_for old new number event (Some done) is made none same 
     noted (noted_at sight asks_for old new number event done is made)
 
 -- a client that was taken from its number left
-pub client_left : {L T P : Type 0} (awaited : T → Option ℕ) (why : End)
+pub client_left : {L T P : Type 0} (sight : Sight L T) (why : End)
     (old new : MuxState (Guest L T) (Shared P)) (ends now : EndCounts) (number : ℕ)
     (result : Option (Guest L T)) (guest : Guest L T)
-    → IfSome result (λ it. IsReleased (λ client. awaited client.session.talk) old.roster number
+    → IfSome result (λ it. IsReleased (λ client. sight.0 client.session.talk) old.roster number
     (record { session = it }) new.roster)
     → result ≡ Some guest → new.lines ≡ old.lines → new.limit ≡ old.limit
-    → now ≡ counted why ends → DropEnds awaited why (old, ends) number (new, now)
-client_left awaited why old new ends now number result guest released is lines limit counts =
+    → now ≡ counted why ends → DropEnds sight why (old, ends) number (new, now)
+client_left sight why old new ends now number result guest released is lines limit counts =
     left (record {
       client = record { session = guest };
-      released = subst (λ r. IfSome r (λ it. IsReleased (λ client. awaited client.session.talk)
+      released = subst (λ r. IfSome r (λ it. IsReleased (λ client. sight.0 client.session.talk)
           old.roster number (record { session = it }) new.roster)) is released;
       lines = lines;
       limit = limit;
     }) counts
+
+-- a client of which a request is under way, and that is to leave, rests
+pub leaving_rests : {L T P : Type 0} (sight : Sight L T) (why : End)
+    (old new : MuxState (Guest L T) (Shared P)) (number : ℕ)
+    → IsKept (λ guest. sight.0 guest.talk) old.roster.slots number
+    → HasReached sight.2 (Leave why) old number new → RestAt sight new.roster.slots number
+leaving_rests {L} {T} {P} sight why old new number kept (nobody none same) =
+    nobody_rests sight new.roster.slots number
+    (ap (λ (m : MuxState (Guest L T) (Shared P)). session_at m.roster.slots number) same ∙ none)
+leaving_rests sight why old new number (inl none) (noted is) =
+    absurd (let both = sym is.moved.before ∙ none in let f : ⊥ = cc both in f)
+leaving_rests sight why old new number (inr some) (noted is) =
+    let before : awaited_at (λ guest. sight.0 guest.talk) old.roster.slots number
+    ≡ sight.0 is.was.session.talk =
+    ap (awaited_by (λ guest. sight.0 guest.talk)) is.moved.before in
+    leaver_rests sight new.roster.slots number is.now why is.moved.after is.presence
+    (λ none. some (before ∙ sym (ap sight.0 is.talk) ∙ none))
+
+pub reached_lines : {L T P : Type 0} (sight : Sight L T) (event : Event)
+    (old new : MuxState (Guest L T) (Shared P)) (number : ℕ)
+    → HasReached sight.2 event old number new → new.lines ≡ old.lines
+reached_lines {L} {T} {P} sight event old new number (nobody none same) =
+    ap (λ (m : MuxState (Guest L T) (Shared P)). m.lines) same
+reached_lines sight event old new number (noted is) = is.lines
+
+pub reached_others : {L T P : Type 0} (sight : Sight L T) (event : Event)
+    (old new : MuxState (Guest L T) (Shared P)) (number : ℕ)
+    → HasReached sight.2 event old number new
+    → OthersStay number old.roster.slots new.roster.slots
+reached_others {L} {T} {P} sight event old new number (nobody none same) = λ other apart.
+    ap (λ (m : MuxState (Guest L T) (Shared P)). session_at m.roster.slots other) same
+reached_others sight event old new number (noted is) = is.moved.others
+
+-- a client that is to leave was told so
+pub leave_acts : {L T P : Type 0} (sight : Sight L T) (why : End)
+    (old new : MuxState (Guest L T) (Shared P)) (number : ℕ)
+    → IsNotedAt sight.2 (Leave why) old number new
+    → IsActed (IsCall (IsGuestCall sight.0 sight.1 sight.2) (λ guest. sight.0 guest.talk))
+    old.roster number (Input (Leave why), (None, turned.Noted)) new.roster
+leave_acts {L} {T} {P} sight why old new number is =
+    let was : Guest L T = is.was.session in
+    let now : Guest L T = is.now.session in
+    let told : Seen = record (seen sight.0 sight.1 sight.2 was) { presence = Leaving why } in
+    let same : seen sight.0 sight.1 sight.2 now ≡ told =
+    ap (λ (t : T). record {
+      awaited = sight.0 t;
+      talk = sight.1 t;
+      port = sight.2 now.port;
+      presence = now.presence;
+    }) is.talk
+    ∙ ap (λ (p : PortState). record {
+      awaited = sight.0 was.talk;
+      talk = sight.1 was.talk;
+      port = p;
+      presence = now.presence;
+    }) is.flag
+    ∙ ap (λ (p : Presence). record {
+      awaited = sight.0 was.talk;
+      talk = sight.1 was.talk;
+      port = sight.2 was.port;
+      presence = p;
+    }) is.presence in
+    record {
+      was = is.was;
+      now = is.now;
+      moved = is.moved;
+      made = record {
+        made = record { did = (refl, same); kept = (is.talk, is.parts) };
+        asks = λ at. ap (λ (t : T). times_due (sight.0 t) at) is.talk;
+      };
+    }

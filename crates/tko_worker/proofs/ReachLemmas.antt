@@ -10,7 +10,7 @@ use Rattle.tko_pipe.specs.declared.waiter.Asker.{Asker}
 use Rattle.tko_mux.specs.declared.asking.Came.{Came}
 use Rattle.tko_mux.specs.declared.mux.delivery.Delivery.{Delivery}
 use Rattle.tko_mux.specs.declared.mux.delivery.Delivery.TheVariants.{Probed, Reached}
-use Rattle.tko_mux.specs.Muxes.{IsDelivered, IsRead, LeaveEnds, MuxState, Reaches}
+use Rattle.tko_mux.specs.Muxes.{IsDelivered, IsRead, LeaveEnds, MuxState, Reaches, WaitsFor}
 use Rattle.tko_port.specs.declared.guest.Guest.{Guest}
 use Rattle.tko_port.specs.declared.guest.Shared.{Shared}
 use Rattle.tko_port.specs.declared.guest.Turned.{Turned}
@@ -20,15 +20,15 @@ use Rattle.tko_worker.proofs.RestLemmas.{made_others, one_listed}
 
 -- nobody else's session changes by what came
 pub delivered_others : {L T P : Type 0} (sight : Sight L T)
-    (asks_for : Guest L T → Option Request) (old new : MuxState (Guest L T) (Shared P)) (by : Asker)
-    (what : Came) (due : ℕ) (delivery : Delivery Turned)
+    (asks_for : Guest L T → Option Request) (old new : MuxState (Guest L T) (Shared P))
+    (server : ℕ) (by : Asker) (what : Came) (due : ℕ) (delivery : Delivery Turned)
     → IsDelivered (IsGuestCall sight.0 sight.1 sight.2) (λ guest. sight.0 guest.talk) asks_for old
-    by what due delivery new
+    server by what due delivery new
     → OthersStayFor delivery old.roster.slots new.roster.slots
-delivered_others sight asks_for old new by what due (Reached number done) is =
+delivered_others sight asks_for old new server by what due (Reached number done) is =
     made_others (IsGuestCall sight.0 sight.1 sight.2) (λ guest. sight.0 guest.talk) asks_for old new
     number due _ done is.1
-delivered_others {L} {T} {P} sight asks_for old new by what due (Probed it) is =
+delivered_others {L} {T} {P} sight asks_for old new server by what due (Probed it) is =
     λ other. ap (λ (m : MuxState (Guest L T) (Shared P)). session_at m.roster.slots other) is.2
 
 same_rest : {L T : Type 0} (sight : Sight L T) (old new : List (Option (Client (Guest L T))))
@@ -68,66 +68,69 @@ leave_others {L} {T} {P} sight asks_for old new server due delivery result ends 
     old server due (Some delivery) new =
     subst (λ r. LeaveEnds (IsGuestCall sight.0 sight.1 sight.2) (λ guest. sight.0 guest.talk)
     asks_for old server due r new) is ends in
-    delivered_others sight asks_for (record old { lines = told.lines }) new told.by _ due delivery
+    delivered_others sight asks_for (record old { lines = told.lines }) new server told.by _ due
+    delivery
     told.reaches
 
 -- a response that was read, or none: nobody else's session changes
 pub read_others : {L T P : Type 0} (sight : Sight L T) (asks_for : Guest L T → Option Request)
-    (mid new : MuxState (Guest L T) (Shared P)) (due : ℕ) (delivery : Delivery Turned)
+    (mid new : MuxState (Guest L T) (Shared P)) (server due : ℕ) (delivery : Delivery Turned)
     (taken : Result (Option (Asker × Response)) ShutCause)
-    → Reaches (IsGuestCall sight.0 sight.1 sight.2) (λ guest. sight.0 guest.talk) asks_for mid taken
-    due (Ok (Some delivery)) new
+    → Reaches (IsGuestCall sight.0 sight.1 sight.2) (λ guest. sight.0 guest.talk) asks_for mid server
+    taken due (Ok (Some delivery)) new
     → OthersStayFor delivery mid.roster.slots new.roster.slots
-read_others sight asks_for mid new due delivery (Ok None) reaches =
+read_others sight asks_for mid new server due delivery (Ok None) reaches =
     absurd (let e = reaches.0 in let f : ⊥ = cc e in f)
-read_others sight asks_for mid new due delivery (Err cause) reaches =
+read_others sight asks_for mid new server due delivery (Err cause) reaches =
     absurd (let e = reaches.0 in let f : ⊥ = cc e in f)
-read_others sight asks_for mid new due delivery (Ok (Some found)) reaches =
+read_others sight asks_for mid new server due delivery (Ok (Some found)) reaches =
     let same : reaches.0 ≡ delivery = let e = reaches.1 in cc (e) in
     subst (λ d. OthersStayFor d mid.roster.slots new.roster.slots) same
-    (delivered_others sight asks_for mid new found.0 _ due reaches.0 reaches.2)
+    (delivered_others sight asks_for mid new server found.0 _ due reaches.0 reaches.2)
 
 -- where no response came, the sessions stay
 pub unread_roster : {L T P : Type 0} (sight : Sight L T) (asks_for : Guest L T → Option Request)
-    (mid new : MuxState (Guest L T) (Shared P)) (due : ℕ)
+    (mid new : MuxState (Guest L T) (Shared P)) (server due : ℕ)
     (taken : Result (Option (Asker × Response)) ShutCause)
     (result : Result (Option (Delivery Turned)) ShutCause)
-    → Reaches (IsGuestCall sight.0 sight.1 sight.2) (λ guest. sight.0 guest.talk) asks_for mid taken
-    due result new
+    → Reaches (IsGuestCall sight.0 sight.1 sight.2) (λ guest. sight.0 guest.talk) asks_for mid server
+    taken due result new
     → ((delivery : Delivery Turned) → result ≡ Ok (Some delivery) → ⊥)
     → new.roster ≡ mid.roster
-unread_roster sight asks_for mid new due (Ok None) result reaches none =
+unread_roster sight asks_for mid new server due (Ok None) result reaches none =
     ap (λ (m : MuxState _ _). m.roster) reaches.1
-unread_roster sight asks_for mid new due (Err cause) result reaches none =
+unread_roster sight asks_for mid new server due (Err cause) result reaches none =
     ap (λ (m : MuxState _ _). m.roster) reaches.1
-unread_roster sight asks_for mid new due (Ok (Some found)) result reaches none =
+unread_roster sight asks_for mid new server due (Ok (Some found)) result reaches none =
     absurd (none reaches.0 reaches.1)
 
 pub take_others : {L T P : Type 0} (sight : Sight L T) (asks_for : Guest L T → Option Request)
-    (old new : MuxState (Guest L T) (Shared P)) (server due : ℕ) (delivery : Delivery Turned)
+    (waits_for : WaitsFor (Guest L T)) (old new : MuxState (Guest L T) (Shared P)) (server due : ℕ) (delivery : Delivery Turned)
     (result : Result (Option (Delivery Turned)) ShutCause)
-    → IsRead (IsGuestCall sight.0 sight.1 sight.2) (λ guest. sight.0 guest.talk) asks_for old server
-    due result new
+    → IsRead (IsGuestCall sight.0 sight.1 sight.2) (λ guest. sight.0 guest.talk) asks_for
+    waits_for old server due result new
     → result ≡ Ok (Some delivery)
     → OthersStayFor delivery old.roster.slots new.roster.slots
-take_others sight asks_for old new server due delivery result read is =
-    read_others sight asks_for (record old { lines = read.lines }) new due delivery read.taken
+take_others sight asks_for waits_for old new server due delivery result read is =
+    read_others sight asks_for (record old { lines = read.lines }) new server due delivery
+    read.taken
     (subst (λ r. Reaches (IsGuestCall sight.0 sight.1 sight.2) (λ guest. sight.0 guest.talk)
     asks_for
-    (record old { lines = read.lines }) read.taken due r new) is read.reaches)
+    (record old { lines = read.lines }) server read.taken due r new) is read.reaches)
 
 -- where no response came, nobody is forgotten
 pub unread_nobody : {L T P : Type 0} (sight : Sight L T) (asks_for : Guest L T → Option Request)
-    (old new : MuxState (Guest L T) (Shared P)) (server due : ℕ) (touched spent : List ℕ)
+    (waits_for : WaitsFor (Guest L T)) (old new : MuxState (Guest L T) (Shared P)) (server due : ℕ) (touched spent : List ℕ)
     (result : Result (Option (Delivery Turned)) ShutCause)
-    → IsRead (IsGuestCall sight.0 sight.1 sight.2) (λ guest. sight.0 guest.talk) asks_for old server
-    due result new
+    → IsRead (IsGuestCall sight.0 sight.1 sight.2) (λ guest. sight.0 guest.talk) asks_for
+    waits_for old server due result new
     → ((delivery : Delivery Turned) → result ≡ Ok (Some delivery) → ⊥)
     → NobodyForgotten sight old.roster.slots touched spent
     → NobodyForgotten sight new.roster.slots touched spent
-unread_nobody {L} {T} {P} sight asks_for old new server due touched spent result read none nobody =
+unread_nobody {L} {T} {P} sight asks_for waits_for old new server due touched spent result read
+    none nobody =
     let same : new.roster ≡ old.roster =
-    unread_roster sight asks_for (record old { lines = read.lines }) new due read.taken result
-    read.reaches none in
+    unread_roster sight asks_for (record old { lines = read.lines }) new server due read.taken
+    result read.reaches none in
     subst (λ (r : RosterState (Client (Guest L T)) (Shared P)).
     NobodyForgotten sight r.slots touched spent) (sym same) nobody

@@ -1,7 +1,6 @@
 -- Who rests once a client was served.
 use Rattle.std.proofs.Common.{◌≡◌, ◌≢◌, ◌⊎◌, ℕ, List, [], ◌∷◌, ◌++◌, refl, sym, ap, subst, ◌∙◌, inl, inr, Option, Some, None}
-use Rattle.std.specs.Prelude.{IfNone, IfSome, IsSome}
-use Rattle.std.specs.Option.{option_and_then}
+use Rattle.std.specs.Prelude.{IfNone, IfSome}
 use Rattle.std.proofs.lemmas.Bool.{cases_eq}
 use Rattle.tko_text.specs.declared.request.Request.{Request}
 use Rattle.tko_roster.specs.Rosters.{AreReady, IsAdmitted, RosterState, session_at}
@@ -9,8 +8,8 @@ use Rattle.tko_mux.specs.declared.asking.Given.{Given}
 use Rattle.tko_mux.specs.declared.asking.Given.TheVariants.{Input}
 use Rattle.tko_mux.specs.declared.client.Client.{Client}
 use Rattle.tko_mux.specs.declared.mux.delivery.Done.{Done}
-use Rattle.tko_mux.specs.Asks.{AskingActs, IsAsking}
-use Rattle.tko_mux.specs.Linking.{AreLinked, IsKept, awaited_at}
+use Rattle.tko_mux.specs.Asks.{AskingActs}
+use Rattle.tko_mux.specs.Linking.{AreLinked}
 use Rattle.tko_mux.specs.Muxes.{IsMade, MuxState, SendEnds}
 use Rattle.tko_port.specs.declared.guest.Event.TheVariants.{Serve}
 use Rattle.tko_port.specs.declared.guest.Guest.{Guest}
@@ -19,91 +18,73 @@ use Rattle.tko_port.specs.declared.guest.Presence.TheVariants.{Here, Leaving}
 use Rattle.tko_port.specs.declared.guest.Shared.{Shared}
 use Rattle.tko_port.specs.declared.guest.Turned.{Turned}
 use Rattle.tko_port.specs.declared.guest.Turned.TheVariants as turned
-use Rattle.tko_port.specs.Guests.{AsksIf, IsGuestCall, RestsBy, Seen, ServedAs, ServesAs, presence_of, seen}
+use Rattle.tko_port.specs.Guests.{IsGuestCall, RestsBy, Seen, ServedAs, ServesAs, presence_of, seen}
 use Rattle.tko_port.specs.Lives.{IsGuestReady}
 use Rattle.tko_port.specs.Ports.{PortState}
 use Rattle.tko_port.specs.Rests.{AtRest, RestsAt}
 use Rattle.tko_port.specs.Talks.{Readiness, Talk}
 use Rattle.tko_worker.specs.Workers.{IsIn, IsInOrder, IsListed, IsServed, NobodyForgotten, OthersStay, RestAt, Rests, Sight, WasServed, WorkerState}
 
-awaits_rest : (awaited : Option ℕ) (talk : Talk) (port : PortState) → IsSome awaited
-    → AtRest awaited talk port
-awaits_rest None talk port some = absurd (let f : ⊥ = cc some in f)
-awaits_rest (Some server) talk port some = tt
+-- one that was served, and found to rest or to wait for what it asked
+abbrev pub WasFoundResting : Turned → Type 0
+WasFoundResting did = (did ≡ turned.Rests) ⊎ (did ≡ turned.Asks)
 
-awaits_by : (presence : Presence) (it : Seen) → IsSome it.awaited → RestsBy presence it
-awaits_by Here it some = awaits_rest it.awaited it.talk it.port some
-awaits_by (Leaving why) it some = some
+found_rests : (did : Turned) (awaited : List ℕ) (talk : Talk) (port : PortState)
+    → WasFoundResting did → ServedAs did awaited talk port → AtRest awaited talk port
+found_rests did awaited talk port (inl rests) served =
+    subst (λ d. ServedAs d awaited talk port) rests served
+found_rests did awaited talk port (inr asks) served =
+    let waits : ServedAs turned.Asks awaited talk port =
+    subst (λ d. ServedAs d awaited talk port) asks served in
+    subst (λ stage. RestsAt stage awaited talk.output port) (sym waits.0) waits.1
 
-client_awaits : {L T : Type 0} (sight : Sight L T) (it : Option (Client (Guest L T)))
-    → IsSome (option_and_then (λ client. sight.0 client.session.talk) it) → Rests sight it
-client_awaits sight None some = tt
-client_awaits sight (Some client) some =
-    awaits_by client.session.presence (seen sight.0 sight.1 sight.2 client.session) some
-
--- a number without a client, or whose client awaits a server
-pub kept_rests : {L T : Type 0} (sight : Sight L T) (slots : List (Option (Client (Guest L T))))
-    (number : ℕ) → IsKept (λ guest. sight.0 guest.talk) slots number → RestAt sight slots number
-kept_rests sight slots number (inl none) = subst (Rests sight) (sym none) tt
-kept_rests sight slots number (inr some) = client_awaits sight (session_at slots number) some
-
-idle_rests : (awaited : Option ℕ) (talk : Talk) (port : PortState) → awaited ≡ None
-    → RestsAt talk.stage talk.output port → AtRest awaited talk port
-idle_rests None talk port none rests = rests
-idle_rests (Some server) talk port none rests = tt
-
--- only one that is still served was found to rest
-served_here : (presence : Presence) (asked : Option ℕ) (did : Turned) (old new : Seen)
-    → did ≡ turned.Rests → ServesAs presence asked did old new
-    → ServedAs did new.talk new.port × AsksIf did asked × (new.presence ≡ Here)
-served_here Here asked did old new rests serves =
-    (serves.0, serves.1, serves.2 ∙ ap presence_of rests)
-served_here (Leaving why) asked did old new rests serves =
+-- only one that is still served is
+found_here : (presence : Presence) (asked : Option ℕ) (did : Turned) (old new : Seen)
+    → WasFoundResting did → ServesAs presence asked did old new
+    → ServedAs did new.awaited new.talk new.port × (new.presence ≡ Here)
+found_here Here asked did old new (inl rests) serves =
+    (serves.0, serves.2 ∙ ap presence_of rests)
+found_here Here asked did old new (inr asks) serves = (serves.0, serves.2 ∙ ap presence_of asks)
+found_here (Leaving why) asked did old new (inl rests) serves =
     let both = sym rests ∙ serves.0 in absurd (let f : ⊥ = cc both in f)
+found_here (Leaving why) asked did old new (inr asks) serves =
+    let both = sym asks ∙ serves.0 in absurd (let f : ⊥ = cc both in f)
 
-rests_here : (presence : Presence) (it : Seen) → presence ≡ Here
-    → AtRest it.awaited it.talk it.port → RestsBy presence it
-rests_here presence it here rests = subst (λ p. RestsBy p it) (sym here) rests
+-- where memory did not run out for its request, a session stays as it was called
+send_kept : {S P I O : Type 0} (acts : AskingActs S P I O) (awaited : S → List ℕ)
+    (asks_for : S → Option Request) (mid new : MuxState S P) (number due : ℕ) (asked : Option ℕ)
+    (stopped : Option O) → stopped ≡ None
+    → SendEnds acts awaited asks_for mid number asked due stopped new → new.roster ≡ mid.roster
+send_kept {S} {P} acts awaited asks_for mid new number due None stopped none sends =
+    ap (λ (m : MuxState S P). m.roster) sends.1
+send_kept acts awaited asks_for mid new number due (Some server) None none sends = sends.kept
+send_kept acts awaited asks_for mid new number due (Some server) (Some did) none sends =
+    absurd (let f : ⊥ = cc none in f)
 
--- a client that rests, and asks nobody
+-- a client that was found to rest does
 pub served_rests : {L T P : Type 0} (sight : Sight L T)
     (asks_for : Guest L T → Option Request) (old new : MuxState (Guest L T) (Shared P))
     (number due : ℕ) (done : Done Turned)
     → IsMade (IsGuestCall sight.0 sight.1 sight.2) (λ guest. sight.0 guest.talk) asks_for old number
     (Input Serve) due done new
-    → awaited_at (λ guest. sight.0 guest.talk) old.roster.slots number ≡ None
-    → done.did ≡ turned.Rests
-    → RestAt sight new.roster.slots number
-served_rests {L} {T} {P} sight asks_for old new number due done made idle rests =
+    → done.stopped ≡ None → WasFoundResting done.did → RestAt sight new.roster.slots number
+served_rests {L} {T} {P} sight asks_for old new number due done made sent rests =
     let call = made.called in
-    let does = served_here call.was.session.presence made.asked done.did
+    let does = found_here call.was.session.presence made.asked done.did
     (seen sight.0 sight.1 sight.2 call.was.session)
     (seen sight.0 sight.1 sight.2 call.now.session) rests call.made.made.did in
-    let asks_none : made.asked ≡ None = subst (λ d. AsksIf d made.asked) rests does.1 in
-    let at_rest : ServedAs turned.Rests (sight.1 call.now.session.talk)
+    let at_rest : AtRest (sight.0 call.now.session.talk) (sight.1 call.now.session.talk)
     (sight.2 call.now.session.port) =
-    subst (λ d. ServedAs d (sight.1 call.now.session.talk) (sight.2 call.now.session.port)) rests
-    does.0 in
-    let before : sight.0 call.was.session.talk ≡ None =
-    sym (ap (option_and_then (λ client. sight.0 client.session.talk)) call.moved.before) ∙ idle in
-    let asking : IsAsking None (sight.0 call.was.session.talk) (sight.0 call.now.session.talk) =
-    subst (λ a. IsAsking a (sight.0 call.was.session.talk) (sight.0 call.now.session.talk))
-    asks_none call.made.asks in
-    let after : sight.0 call.now.session.talk ≡ None = asking ∙ before in
-    let sends : SendEnds (IsGuestCall sight.0 sight.1 sight.2) (λ guest. sight.0 guest.talk)
-    asks_for (record old { roster = made.mid }) number None due done.stopped new =
-    subst (λ a. SendEnds (IsGuestCall sight.0 sight.1 sight.2) (λ guest. sight.0 guest.talk)
-    asks_for (record old { roster = made.mid }) number a due done.stopped new) asks_none
-    made.sends in
+    found_rests done.did (sight.0 call.now.session.talk) (sight.1 call.now.session.talk)
+    (sight.2 call.now.session.port) rests does.0 in
     let roster : new.roster ≡ made.mid =
-    ap (λ (m : MuxState (Guest L T) (Shared P)). m.roster) sends.1 in
+    send_kept (IsGuestCall sight.0 sight.1 sight.2) (λ guest. sight.0 guest.talk) asks_for
+    (record old { roster = made.mid }) new number due made.asked done.stopped sent made.sends in
     let here : session_at new.roster.slots number ≡ Some call.now =
     ap (λ (r : RosterState (Client (Guest L T)) (Shared P)). session_at r.slots number) roster
     ∙ call.moved.after in
-    subst (Rests sight) (sym here)
-    (rests_here call.now.session.presence (seen sight.0 sight.1 sight.2 call.now.session) does.2
-    (idle_rests (sight.0 call.now.session.talk) (sight.1 call.now.session.talk)
-    (sight.2 call.now.session.port) after at_rest))
+    subst (Rests sight) (sym here) (subst (λ p. RestsBy p
+    (seen sight.0 sight.1 sight.2 call.now.session)) (sym does.1) at_rest)
 
 in_last : (number : ℕ) (list : List ℕ) → IsIn number (list ++ number ∷ [])
 in_last number [] = inl refl
@@ -221,7 +202,7 @@ served_after sight asks_for old mid new number due spent now_spent was (inr is) 
     inr ((mid, was), is)
 
 -- nobody else's session changes where one asks
-send_others : {S P I O : Type 0} (acts : AskingActs S P I O) (awaited : S → Option ℕ)
+send_others : {S P I O : Type 0} (acts : AskingActs S P I O) (awaited : S → List ℕ)
     (asks_for : S → Option Request) (mid new : MuxState S P) (number due : ℕ) (asked : Option ℕ)
     (stopped : Option O) → SendEnds acts awaited asks_for mid number asked due stopped new
     → (other : ℕ) → other ≢ number
@@ -233,7 +214,7 @@ send_others {S} {P} acts awaited asks_for mid new number due (Some server) None 
 send_others acts awaited asks_for mid new number due (Some server) (Some did) sends other apart =
     sends.told.moved.others other apart
 
-pub made_others : {S P I O : Type 0} (acts : AskingActs S P I O) (awaited : S → Option ℕ)
+pub made_others : {S P I O : Type 0} (acts : AskingActs S P I O) (awaited : S → List ℕ)
     (asks_for : S → Option Request) (old new : MuxState S P) (number due : ℕ) (given : Given I)
     (done : Done O) → IsMade acts awaited asks_for old number given due done new → (other : ℕ)
     → other ≢ number → session_at new.roster.slots other ≡ session_at old.roster.slots other
@@ -243,7 +224,7 @@ made_others acts awaited asks_for old new number due given done made other apart
     ∙ made.called.moved.others other apart
 
 -- nobody else's session changes by a call
-pub act_others : {S P I O : Type 0} (acts : AskingActs S P I O) (awaited : S → Option ℕ)
+pub act_others : {S P I O : Type 0} (acts : AskingActs S P I O) (awaited : S → List ℕ)
     (asks_for : S → Option Request) (old new : MuxState S P) (number due : ℕ) (given : Given I)
     (result : Option (Done O))
     → IfSome result (λ done. IsMade acts awaited asks_for old number given due done new)

@@ -15,7 +15,7 @@ use Rattle.tko_mux.specs.declared.client.Client.{Client}
 use Rattle.tko_mux.specs.declared.mux.delivery.Delivery.{Delivery}
 use Rattle.tko_mux.specs.Asks.{AskingActs}
 use Rattle.tko_mux.specs.Lines.{LineState, first_on, line_by}
-use Rattle.tko_mux.specs.Muxes.{IsOnLine, IsRead, LeaveEnds, MuxState, Reaches, ReadsFirst, ReadsOn}
+use Rattle.tko_mux.specs.Muxes.{IsOnLine, IsRead, LeaveEnds, MuxState, Reaches, ReadsFirst, ReadsOn, WaitsFor}
 use Rattle.tko_port.specs.Peers.{delivery_in}
 use Rattle.tko_port.specs.declared.guest.Guest.{Guest}
 use Rattle.tko_port.specs.declared.guest.Shared.{Shared}
@@ -34,82 +34,87 @@ live_of Connected it pipe is = cc is
 live_of (Shut left) it pipe is = absurd (let none : ⊥ = cc is in none)
 
 -- where no response was read on a line, none is there
-none_there : {S P : Type 0} (asks_for : S → Option Request) (roster : RosterState (Client S) P)
-    (first : Option Waiter) (was now : LineState) (pipe : PipeState) → first_on was.pipe ≡ first
-    → ReadsFirst asks_for roster first was (Ok None) now → now.pipe ≡ Some pipe
-    → AwaitsMore asks_for roster (slice_get pipe.waiting 0) pipe
-none_there asks_for roster None was now pipe is read here =
+none_there : {S P : Type 0} (waits_for : WaitsFor S) (roster : RosterState (Client S) P)
+    (server : ℕ) (first : Option Waiter) (was now : LineState) (pipe : PipeState) → first_on was.pipe ≡ first
+    → ReadsFirst waits_for roster server first was (Ok None) now → now.pipe ≡ Some pipe
+    → AwaitsMore waits_for roster server (slice_get pipe.waiting 0) pipe
+none_there waits_for roster server None was now pipe is read here =
     let before : was.pipe ≡ Some pipe = sym (ap (λ (l : LineState). l.pipe) read.1) ∙ here in
     let none : slice_get pipe.waiting 0 ≡ None = sym (ap first_on before) ∙ is in
-    subst (λ (f : Option Waiter). AwaitsMore asks_for roster f pipe) (sym none) tt
-none_there asks_for roster (Some waiter) was now pipe is read here =
+    subst (λ (f : Option Waiter). AwaitsMore waits_for roster server f pipe) (sym none) tt
+none_there waits_for roster server (Some waiter) was now pipe is read here =
     let on = read.on in
     let of : on.now ≡ pipe =
     live_of on.now.link on.now pipe (sym (ap (λ (l : LineState). l.pipe) on.to) ∙ here) in
     let same : on.was ≡ pipe = sym on.ends.0 ∙ of in
     let some : slice_get on.was.waiting 0 ≡ Some waiter = sym (ap first_on on.from) ∙ is in
-    subst (λ (p : PipeState). AwaitsMore asks_for roster (slice_get p.waiting 0) p) same
-    (subst (λ (f : Option Waiter). AwaitsMore asks_for roster f on.was) (sym some)
+    subst (λ (p : PipeState). AwaitsMore waits_for roster server (slice_get p.waiting 0) p) same
+    (subst (λ (f : Option Waiter). AwaitsMore waits_for roster server f on.was) (sym some)
     (record { request = read.lent; is_lent = read.is_lent; short = on.ends.1 }))
 
-none_on : {S P : Type 0} (asks_for : S → Option Request) (old : MuxState S P)
+none_on : {S P : Type 0} (waits_for : WaitsFor S) (old : MuxState S P)
     (lines : List LineState) (server : ℕ)
-    → IsOnLine (λ was now. ReadsOn asks_for old.roster was (Ok None) now) old.lines server lines
-    → HasNoResponse asks_for (record old { lines = lines }) server
-none_on asks_for old lines server on pipe here link =
+    → IsOnLine (λ was now. ReadsOn waits_for old.roster server was (Ok None) now) old.lines server lines
+    → HasNoResponse waits_for (record old { lines = lines }) server
+none_on waits_for old lines server on pipe here link =
     let at : on.now.pipe ≡ Some pipe =
     sym (ap pipe_at (this_line _ old.lines lines server on)) ∙ here in
-    none_there asks_for old.roster (first_on on.was.pipe) on.was on.now pipe refl on.ends at
+    none_there waits_for old.roster server (first_on on.was.pipe) on.was on.now pipe refl on.ends at
 
-none_by : {S P I O : Type 0} (acts : AskingActs S P I O) (awaited : S → Option ℕ)
-    (asks_for : S → Option Request) (old new : MuxState S P) (lines : List LineState)
-    (server due : ℕ) (taken : Result (Option (Asker × Response)) ShutCause)
-    → IsOnLine (λ was now. ReadsOn asks_for old.roster was taken now) old.lines server lines
-    → Reaches acts awaited asks_for (record old { lines = lines }) taken due (Ok None) new
-    → HasNoResponse asks_for new server
-none_by {S} {P} acts awaited asks_for old new lines server due (Ok None) on reaches =
-    subst (λ (m : MuxState S P). HasNoResponse asks_for m server) (sym reaches.1)
-    (none_on asks_for old lines server on)
-none_by acts awaited asks_for old new lines server due (Err why) on reaches =
+none_by : {S P I O : Type 0} (acts : AskingActs S P I O) (awaited : S → List ℕ)
+    (asks_for : S → Option Request) (waits_for : WaitsFor S) (old new : MuxState S P)
+    (lines : List LineState) (server due : ℕ) (taken : Result (Option (Asker × Response)) ShutCause)
+    → IsOnLine (λ was now. ReadsOn waits_for old.roster server was taken now) old.lines server lines
+    → Reaches acts awaited asks_for (record old { lines = lines }) server taken due
+    (Ok None) new
+    → HasNoResponse waits_for new server
+none_by {S} {P} acts awaited asks_for waits_for old new lines server due (Ok None) on reaches =
+    subst (λ (m : MuxState S P). HasNoResponse waits_for m server) (sym reaches.1)
+    (none_on waits_for old lines server on)
+none_by acts awaited asks_for waits_for old new lines server due (Err why) on reaches =
     absurd (let e = reaches.0 in let f : ⊥ = cc e in f)
-none_by acts awaited asks_for old new lines server due (Ok (Some taken)) on reaches =
+none_by acts awaited asks_for waits_for old new lines server due (Ok (Some taken)) on reaches =
     absurd (let e = reaches.1 in let f : ⊥ = cc e in f)
 
-none_read : {S P I O : Type 0} (acts : AskingActs S P I O) (awaited : S → Option ℕ)
-    (asks_for : S → Option Request) (old new : MuxState S P) (server due : ℕ)
-    → IsRead acts awaited asks_for old server due (Ok None) new → HasNoResponse asks_for new server
-none_read acts awaited asks_for old new server due read =
-    none_by acts awaited asks_for old new read.lines server due read.taken read.on read.reaches
+none_read : {S P I O : Type 0} (acts : AskingActs S P I O) (awaited : S → List ℕ)
+    (asks_for : S → Option Request) (waits_for : WaitsFor S) (old new : MuxState S P)
+    (server due : ℕ)
+    → IsRead acts awaited asks_for waits_for old server due (Ok None) new
+    → HasNoResponse waits_for new server
+none_read acts awaited asks_for waits_for old new server due read =
+    none_by acts awaited asks_for waits_for old new read.lines server due read.taken read.on read.reaches
 
 pub none_taken : {L T P : Type 0} (sight : Sight L T) (asks_for : Guest L T → Option Request)
+    (waits_for : WaitsFor (Guest L T))
     (old new : WorkerState L T P) (server due : ℕ)
-    → HasTaken sight asks_for old server due (Ok None) new
-    → HasNoResponse asks_for new.mux server
-none_taken {L} {T} {P} sight asks_for old new server due taken =
-    subst (λ (m : MuxState (Guest L T) (Shared P)). HasNoResponse asks_for m server)
+    → HasTaken sight asks_for waits_for old server due (Ok None) new
+    → HasNoResponse waits_for new.mux server
+none_taken {L} {T} {P} sight asks_for waits_for old new server due taken =
+    subst (λ (m : MuxState (Guest L T) (Shared P)). HasNoResponse waits_for m server)
     (sym (ap (λ (p : MuxAndEnds L T P). p.0) taken.listed.0))
-    (none_read (IsGuestCall sight.0 sight.1 sight.2) (λ guest. sight.0 guest.talk) asks_for old.mux
-    taken.mid server due taken.read)
+    (none_read (IsGuestCall sight.0 sight.1 sight.2) (λ guest. sight.0 guest.talk) asks_for
+    waits_for old.mux taken.mid server due taken.read)
 
 pub taken_by : {L T P : Type 0} (sight : Sight L T) (asks_for : Guest L T → Option Request)
+    (waits_for : WaitsFor (Guest L T))
     (inside old : WorkerState L T P) (mid mux : MuxState (Guest L T) (Shared P)) (touched : List ℕ)
     (ends : EndCounts) (server due : ℕ) (result told : Result (Option (Delivery Turned)) ShutCause)
     → inside ≡ old
     → result ≡ told
-    → IsRead (IsGuestCall sight.0 sight.1 sight.2) (λ guest. sight.0 guest.talk) asks_for inside.mux
-    server due result mid
-    → ListsReached sight.0 (mid, inside.ends) (delivery_in told) inside.touched (mux, ends) touched
-    → HasTaken sight asks_for old server due told
+    → IsRead (IsGuestCall sight.0 sight.1 sight.2) (λ guest. sight.0 guest.talk) asks_for
+    waits_for inside.mux server due result mid
+    → ListsReached sight (mid, inside.ends) (delivery_in told) inside.touched (mux, ends) touched
+    → HasTaken sight asks_for waits_for old server due told
     (record { mux = mux; touched = touched; spent = inside.spent; ends = ends })
-taken_by {L} {T} {P} sight asks_for inside old mid mux touched ends server due result told same is
+taken_by {L} {T} {P} sight asks_for waits_for inside old mid mux touched ends server due result told same is
     read
     listed =
-    subst (λ (w : WorkerState L T P). HasTaken sight asks_for w server due told
+    subst (λ (w : WorkerState L T P). HasTaken sight asks_for waits_for w server due told
     (record { mux = mux; touched = touched; spent = inside.spent; ends = ends })) same
     (record {
       mid = mid;
       read = subst (λ r. IsRead (IsGuestCall sight.0 sight.1 sight.2)
-          (λ guest. sight.0 guest.talk) asks_for inside.mux server due r mid) is read;
+          (λ guest. sight.0 guest.talk) asks_for waits_for inside.mux server due r mid) is read;
       listed = listed;
       spent = refl;
     })
@@ -120,7 +125,7 @@ pub left_by : {L T P : Type 0} (sight : Sight L T) (asks_for : Guest L T → Opt
     result ≡ told
     → LeaveEnds (IsGuestCall sight.0 sight.1 sight.2) (λ guest. sight.0 guest.talk) asks_for
     inside.mux server due result mid
-    → ListsReached sight.0 (mid, inside.ends) told inside.touched (mux, ends) touched
+    → ListsReached sight (mid, inside.ends) told inside.touched (mux, ends) touched
     → HasLeftNext sight asks_for old server due told
     (record { mux = mux; touched = touched; spent = inside.spent; ends = ends })
 left_by {L} {T} {P} sight asks_for inside old mid mux touched ends server due result told same is
@@ -138,19 +143,20 @@ left_by {L} {T} {P} sight asks_for inside old mid mux touched ends server due re
 
 -- the same, where a look for a response tells whether one came
 pub none_unless : {L T P : Type 0} (sight : Sight L T) (asks_for : Guest L T → Option Request)
+    (waits_for : WaitsFor (Guest L T))
     (old new : WorkerState L T P) (server due : ℕ)
     (result : Result (Option (Delivery Turned)) ShutCause) (more : Bool)
-    → OnFalse more (result ≡ Ok None) → HasTaken sight asks_for old server due result new
-    → OnFalse more (HasNoResponse asks_for new.mux server)
-none_unless sight asks_for old new server due result true none taken = tt
-none_unless sight asks_for old new server due result false none taken =
-    none_taken sight asks_for old new server due
-    (subst (λ r. HasTaken sight asks_for old server due r new) none taken)
+    → OnFalse more (result ≡ Ok None) → HasTaken sight asks_for waits_for old server due result new
+    → OnFalse more (HasNoResponse waits_for new.mux server)
+none_unless sight asks_for waits_for old new server due result true none taken = tt
+none_unless sight asks_for waits_for old new server due result false none taken =
+    none_taken sight asks_for waits_for old new server due
+    (subst (λ r. HasTaken sight asks_for waits_for old server due r new) none taken)
 
-pub none_kept : {L T P : Type 0} (asks_for : Guest L T → Option Request)
+pub none_kept : {L T P : Type 0} (waits_for : WaitsFor (Guest L T))
     (old new : WorkerState L T P) (server : ℕ) (late : Bool) → OnFalse late (new ≡ old)
-    → HasNoResponse asks_for old.mux server
-    → OnTrue (not late) (HasNoResponse asks_for new.mux server)
-none_kept asks_for old new server true kept none = tt
-none_kept {L} {T} {P} asks_for old new server false kept none =
-    subst (λ (w : WorkerState L T P). HasNoResponse asks_for w.mux server) (sym kept) none
+    → HasNoResponse waits_for old.mux server
+    → OnTrue (not late) (HasNoResponse waits_for new.mux server)
+none_kept waits_for old new server true kept none = tt
+none_kept {L} {T} {P} waits_for old new server false kept none =
+    subst (λ (w : WorkerState L T P). HasNoResponse waits_for w.mux server) (sym kept) none

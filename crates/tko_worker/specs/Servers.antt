@@ -14,7 +14,7 @@ use Rattle.tko_mux.specs.declared.client.Client.{Client}
 use Rattle.tko_mux.specs.declared.mux.delivery.Delivery.{Delivery}
 use Rattle.tko_mux.specs.declared.mux.delivery.Delivery.TheVariants.{Probed, Reached}
 use Rattle.tko_mux.specs.Lines.{LineState}
-use Rattle.tko_mux.specs.Muxes.{IsLent, IsRead, LeaveEnds, MuxState}
+use Rattle.tko_mux.specs.Muxes.{IsLent, IsRead, LeaveEnds, MuxState, WaitsFor}
 use Rattle.tko_port.specs.Peers.{delivery_in}
 use Rattle.tko_port.specs.declared.guest.Guest.{Guest}
 use Rattle.tko_port.specs.declared.guest.Shared.{Shared}
@@ -24,43 +24,45 @@ use Rattle.tko_worker.specs.Counts.{MuxAndEnds}
 use Rattle.tko_worker.specs.Workers.{ListEnds, Sight, WorkerState}
 
 -- no whole response of a connection is unread, where this request is the first that waits
-pub record IsUnanswered {S P : Type 0} (asks_for : S → Option Request)
-    (roster : RosterState (Client S) P) (first : Waiter) (pipe : PipeState) : Type 0 where
-  pub request : Request
-  pub is_lent : IsLent asks_for roster first.by request
-  pub short : (pipe.unread ≡ []) ⊎ ReadsResponse request pipe.unread (Err fault.Short)
+pub record IsUnanswered {S P : Type 0} (waits_for : WaitsFor S)
+    (roster : RosterState (Client S) P) (server : ℕ) (first : Waiter) (pipe : PipeState) : Type 0
+  where
+    pub request : Request
+    pub is_lent : IsLent waits_for roster server first.by request
+    pub short : (pipe.unread ≡ []) ⊎ ReadsResponse request pipe.unread (Err fault.Short)
 
-abbrev pub AwaitsMore : {S P : Type 0} → (S → Option Request) → RosterState (Client S) P
+abbrev pub AwaitsMore : {S P : Type 0} → WaitsFor S → RosterState (Client S) P → ℕ
     → Option Waiter → PipeState → Type 0
-AwaitsMore asks_for roster None pipe = Unit {0}
-AwaitsMore asks_for roster (Some first) pipe = IsUnanswered asks_for roster first pipe
+AwaitsMore waits_for roster server None pipe = Unit {0}
+AwaitsMore waits_for roster server (Some first) pipe =
+    IsUnanswered waits_for roster server first pipe
 
 -- the connection that requests to a server go out on
 abbrev pub pipe_at : Option LineState → Option PipeState
 pipe_at line = option_and_then (λ it. it.pipe) line
 
 -- no whole response of a server is unread
-abbrev pub HasNoResponse : {S P : Type 0} → (S → Option Request) → MuxState S P → ℕ → Type 0
-HasNoResponse asks_for mux server = (pipe : PipeState)
+abbrev pub HasNoResponse : {S P : Type 0} → WaitsFor S → MuxState S P → ℕ → Type 0
+HasNoResponse waits_for mux server = (pipe : PipeState)
     → pipe_at (slice_get mux.lines server) ≡ Some pipe → pipe.link ≡ Connected
-    → AwaitsMore asks_for mux.roster (slice_get pipe.waiting 0) pipe
+    → AwaitsMore waits_for mux.roster server (slice_get pipe.waiting 0) pipe
 
 -- the client that something reached, if it reached one, is to be served in this turn
-abbrev pub ListsReached : {L T P : Type 0} → (T → Option ℕ) → MuxAndEnds L T P
+abbrev pub ListsReached : {L T P : Type 0} → Sight L T → MuxAndEnds L T P
     → Option (Delivery Turned) → List ℕ → MuxAndEnds L T P → List ℕ → Type 0
-ListsReached awaited old None numbers new now = (new ≡ old) × (now ≡ numbers)
-ListsReached awaited old (Some (Reached number done)) numbers new now =
-    ListEnds awaited old number numbers new now
-ListsReached awaited old (Some (Probed it)) numbers new now = (new ≡ old) × (now ≡ numbers)
+ListsReached sight old None numbers new now = (new ≡ old) × (now ≡ numbers)
+ListsReached sight old (Some (Reached number done)) numbers new now =
+    ListEnds sight old number numbers new now
+ListsReached sight old (Some (Probed it)) numbers new now = (new ≡ old) × (now ≡ numbers)
 
 -- a response of a server was looked for; the client that it reached is to be served in this turn
 pub record HasTaken {L T P : Type 0} (sight : Sight L T) (asks_for : Guest L T → Option Request)
-    (old : WorkerState L T P) (server due : ℕ)
+    (waits_for : WaitsFor (Guest L T)) (old : WorkerState L T P) (server due : ℕ)
     (result : Result (Option (Delivery Turned)) ShutCause) (new : WorkerState L T P) : Type 0 where
   pub mid : MuxState (Guest L T) (Shared P)
   pub read : IsRead (IsGuestCall sight.0 sight.1 sight.2) (λ guest. sight.0 guest.talk) asks_for
-      old.mux server due result mid
-  pub listed : ListsReached sight.0 (mid, old.ends) (delivery_in result) old.touched
+      waits_for old.mux server due result mid
+  pub listed : ListsReached sight (mid, old.ends) (delivery_in result) old.touched
       (new.mux, new.ends) new.touched
   pub spent : new.spent ≡ old.spent
 
@@ -72,6 +74,6 @@ pub record HasLeftNext {L T P : Type 0} (sight : Sight L T) (asks_for : Guest L 
   pub mid : MuxState (Guest L T) (Shared P)
   pub left : LeaveEnds (IsGuestCall sight.0 sight.1 sight.2) (λ guest. sight.0 guest.talk) asks_for
       old.mux server due result mid
-  pub listed : ListsReached sight.0 (mid, old.ends) result old.touched (new.mux, new.ends)
+  pub listed : ListsReached sight (mid, old.ends) result old.touched (new.mux, new.ends)
       new.touched
   pub spent : new.spent ≡ old.spent

@@ -1,6 +1,7 @@
 -- A worker: who rests, and who is to be served.
 use Rattle.std.specs.Prelude.{◌≡◌, ◌≢◌, ◌⊎◌, ℕ, List, [], ◌∷◌, ◌++◌, Option, Some, None}
 use Rattle.std.specs.Option.{option_and_then}
+use Rattle.tko_model.specs.Records.{Gains}
 use Rattle.tko_roster.specs.Rosters.{AreReady, IsAdmitted, IsMoved, IsReleased, session_at}
 use Rattle.tko_mux.specs.declared.client.Client.{Client}
 use Rattle.tko_mux.specs.declared.asking.Given.TheVariants.{Input}
@@ -11,11 +12,12 @@ use Rattle.tko_mux.specs.Linking.{AreLinked, IsKept}
 use Rattle.tko_mux.specs.Muxes.{IsMade, MuxState}
 use Rattle.tko_text.specs.declared.request.Request.{Request}
 use Rattle.tko_port.specs.declared.guest.Event.{Event}
-use Rattle.tko_port.specs.declared.guest.Event.TheVariants.{Serve}
+use Rattle.tko_port.specs.declared.guest.Event.TheVariants.{Leave, Serve}
 use Rattle.tko_port.specs.declared.guest.Presence.{Presence}
 use Rattle.tko_port.specs.declared.guest.Presence.TheVariants.{Here, Leaving}
 use Rattle.tko_port.specs.declared.guest.Guest.{Guest}
 use Rattle.tko_port.specs.declared.guest.Turned.{Turned}
+use Rattle.tko_port.specs.declared.guest.Turned.TheVariants.{AsksMore}
 use Rattle.tko_port.specs.declared.guest.Shared.{Shared}
 use Rattle.tko_port.specs.Guests.{IsGuestCall, IsResting, noting, presence_after, seen}
 use Rattle.tko_port.specs.Lives.{IsGuestReady}
@@ -53,7 +55,7 @@ IsIn number (it ∷ others) = (it ≡ number) ⊎ IsIn number others
 
 -- what is seen of a guest
 abbrev pub Sight : Type 0 → Type 0 → Type 0
-Sight L T = (T → Option ℕ) × (T → Talk) × (L → PortState)
+Sight L T = (T → List ℕ) × (T → Talk) × (L → PortState)
 
 -- nothing can be done for a number before its next event: it has no client, or that rests
 abbrev pub Rests : {L T : Type 0} → Sight L T → Option (Client (Guest L T)) → Type 0
@@ -76,8 +78,8 @@ NobodyForgotten sight slots touched spent =
     (number : ℕ) → RestAt sight slots number ⊎ (IsIn number touched ⊎ IsIn number spent)
 
 -- a worker is in order: each session can be called over the parts, what was read from its client's
--- port is what came to it, and what was written there is what went from it; each client that awaits
--- a server waits at that server, once; and nobody is forgotten
+-- port is what came to it, and what was written there is what went from it; each client waits for
+-- each server as often as its session awaits it; and nobody is forgotten
 pub record IsInOrder {L T P : Type 0} (sight : Sight L T) (is_ready : Readiness P T)
     (worker : WorkerState L T P) : Type 0 where
   pub ready : AreReady (λ shared client. IsGuestReady is_ready sight.2 shared.parts client.session)
@@ -114,35 +116,45 @@ pub data HasReached {L T P : Type 0} (port : L → PortState) (event : Event)
   noted : IsNotedAt port event old number new → HasReached port event old number new
 
 -- the client of a number left, which has no request under way
-pub record HasLeft {L T P : Type 0} (awaited : T → Option ℕ) (old : MuxState (Guest L T) (Shared P))
+pub record HasLeft {L T P : Type 0} (awaited : T → List ℕ) (old : MuxState (Guest L T) (Shared P))
     (number : ℕ) (new : MuxState (Guest L T) (Shared P)) : Type 0 where
   pub client : Client (Guest L T)
   pub released : IsReleased (λ it. awaited it.session.talk) old.roster number client new.roster
   pub lines : new.lines ≡ old.lines
   pub limit : new.limit ≡ old.limit
 
--- where a client was to leave: it left, which is counted as this end; or it stays, since a request
--- of it is under way, or there is none
-pub data DropEnds {L T P : Type 0} (awaited : T → Option ℕ) (why : End) (old : MuxAndEnds L T P)
-    (number : ℕ) (new : MuxAndEnds L T P) : Type 0 where
-  kept : IsKept (λ guest. awaited guest.talk) old.0.roster.slots number → new ≡ old
-      → DropEnds awaited why old number new
-  left : HasLeft awaited old.0 number new.0 → new.1 ≡ counted why old.1
-      → DropEnds awaited why old number new
+-- the client of a number, if it has one, is not to leave yet
+abbrev pub IsHere : {L T : Type 0} → List (Option (Client (Guest L T))) → ℕ → Type 0
+IsHere {L} {T} slots number = (client : Client (Guest L T))
+    → session_at slots number ≡ Some client → client.session.presence ≡ Here
 
--- a number was noted as one that is to be served; or memory ran out for that, and its client leaves
-pub data ListEnds {L T P : Type 0} (awaited : T → Option ℕ) (old : MuxAndEnds L T P) (number : ℕ)
+-- where a client was to leave: it left, which is counted as this end; or a request of it is under
+-- way, or there is none: then it stays, if it rests, and else it is to leave so as soon as it can
+pub data DropEnds {L T P : Type 0} (sight : Sight L T) (why : End) (old : MuxAndEnds L T P)
+    (number : ℕ) (new : MuxAndEnds L T P) : Type 0 where
+  kept : IsKept (λ guest. sight.0 guest.talk) old.0.roster.slots number
+      → RestAt sight old.0.roster.slots number → new ≡ old → DropEnds sight why old number new
+  leaving : IsKept (λ guest. sight.0 guest.talk) old.0.roster.slots number
+      → IsHere old.0.roster.slots number
+      → HasReached sight.2 (Leave why) old.0 number new.0 → new.1 ≡ old.1
+      → DropEnds sight why old number new
+  left : HasLeft sight.0 old.0 number new.0 → new.1 ≡ counted why old.1
+      → DropEnds sight why old number new
+
+-- a number was noted as one that is to be served; or memory ran out for that, and its client was to
+-- leave
+pub data ListEnds {L T P : Type 0} (sight : Sight L T) (old : MuxAndEnds L T P) (number : ℕ)
     (numbers : List ℕ) (new : MuxAndEnds L T P) (now : List ℕ) : Type 0 where
-  listed : now ≡ numbers ++ number ∷ [] → new ≡ old → ListEnds awaited old number numbers new now
-  lost : now ≡ numbers → DropEnds awaited Memory old number new
-      → ListEnds awaited old number numbers new now
+  listed : now ≡ numbers ++ number ∷ [] → new ≡ old → ListEnds sight old number numbers new now
+  lost : now ≡ numbers → DropEnds sight Memory old number new
+      → ListEnds sight old number numbers new now
 
 -- an event came for a number, and its client is to be served in this turn
 pub record IsNoted {L T P : Type 0} (sight : Sight L T) (event : Event)
     (old : WorkerState L T P) (number : ℕ) (new : WorkerState L T P) : Type 0 where
   pub reached : MuxState (Guest L T) (Shared P)
   pub has_reached : HasReached sight.2 event old.mux number reached
-  pub listed : ListEnds sight.0 (reached, old.ends) number old.touched (new.mux, new.ends)
+  pub listed : ListEnds sight (reached, old.ends) number old.touched (new.mux, new.ends)
       new.touched
   pub spent : new.spent ≡ old.spent
 
@@ -154,16 +166,28 @@ pub record IsOpened {L T P : Type 0} (sight : Sight L T) (old : WorkerState L T 
       (record { session = record { port = port; talk = talk; presence = Here } }) mid.roster
   pub lines : mid.lines ≡ old.mux.lines
   pub limit : mid.limit ≡ old.mux.limit
-  pub listed : ListEnds sight.0 (mid, old.ends) number old.touched (new.mux, new.ends) new.touched
+  pub listed : ListEnds sight (mid, old.ends) number old.touched (new.mux, new.ends) new.touched
   pub spent : new.spent ≡ old.spent
 
--- the client of a number was served
+-- the client of a number was served, asked a server, and can go on
+pub record AsksOn {L T P : Type 0} (sight : Sight L T) (asks_for : Guest L T → Option Request)
+    (number due : ℕ) (old : MuxState (Guest L T) (Shared P)) (done : Done Turned)
+    (new : MuxState (Guest L T) (Shared P)) : Type 0 where
+  pub made : IsMade (IsGuestCall sight.0 sight.1 sight.2) (λ guest. sight.0 guest.talk) asks_for old
+      number (Input Serve) due done new
+  pub more : done.did ≡ AsksMore
+
+-- the client of a number was served, once or more often: each time but the last it asked a server,
+-- and could go on
 pub record WasServed {L T P : Type 0} (sight : Sight L T) (asks_for : Guest L T → Option Request)
     (old : MuxState (Guest L T) (Shared P)) (number due : ℕ) (new : MuxState (Guest L T) (Shared P))
     : Type 0 where
+  pub asks : List (Done Turned)
+  pub before : MuxState (Guest L T) (Shared P)
+  pub asked : Gains (AsksOn sight asks_for number due) old asks before
   pub done : Done Turned
-  pub made : IsMade (IsGuestCall sight.0 sight.1 sight.2) (λ guest. sight.0 guest.talk) asks_for old
-      number (Input Serve) due done new
+  pub made : IsMade (IsGuestCall sight.0 sight.1 sight.2) (λ guest. sight.0 guest.talk) asks_for
+      before number (Input Serve) due done new
 
 -- the client of a number was served, whatever it came to
 abbrev pub IsSpentAfter : {L T P : Type 0} → Sight L T → (Guest L T → Option Request)

@@ -2,17 +2,31 @@
 ghost use Rattle.std.specs.Prelude.{◌≡◌, Some};
 ghost use Rattle.std.specs.Bool.{OnFalse, OnTrue};
 ghost use Rattle.tko_roster.specs.Rosters.{AreReady};
-ghost use Rattle.tko_mux.specs.Linking.{AreLinked};
+ghost use Rattle.tko_mux.specs.Linking.{AreLinked, IsKept};
 ghost use Rattle.tko_worker.specs.Acts.{HaveActed};
 ghost use Rattle.tko_worker.specs.Servers.{ListsReached};
-ghost use Rattle.tko_worker.specs.Serving.{ServeCounts};
-ghost use Rattle.tko_worker.specs.Workers.{DropEnds, IsListed, IsListedFor, IsServed, ListEnds, OthersStay, OthersStayFor, RestAt, WasServed};
+ghost use Rattle.tko_worker.specs.Serving.{OnceEnds, ServeCounts};
+ghost use Rattle.tko_worker.specs.Workers.{DropEnds, IsHere, IsListed, IsListedFor, IsServed, ListEnds, OthersStay, OthersStayFor, RestAt, WasServed};
 
 use crate::EndCounts;
 use std::alloc::Global;
 use tko_mux::{Asking, Client, Delivery, Mux};
-use tko_port::{End, Event, Guest, Port, Shared, Talking, Turned};
+use tko_port::{End, Event, Guest, Port, Presence, Shared, Stage, Talking, Turned};
 use tko_roster::Driven;
+
+/// How often a client that asks a server each time and can go on is served at once. What is left
+/// then is done in the next turn, after the other clients.
+const ASKS: u32 = 64;
+
+/// What serving a client once came to.
+pub(crate) enum Next {
+    /// Nothing can be done for it, or it left.
+    Rests,
+    /// It asked a server, and can go on.
+    AsksMore,
+    /// It is to be served again later.
+    Later,
+}
 
 /// Serves a client, and notes its number if it is to be served again.
 pub(crate) fn serve<P, L: Port + Drop, T: Talking<P> + Drop>(
@@ -40,7 +54,7 @@ pub(crate) fn serve<P, L: Port + Drop, T: Talking<P> + Drop>(
         mux.new.roster.slots mux.new.lines }
 {
     if is_spent(mux, ends, alloc, number, due) {
-        list(mux, spent, ends, number);
+        list(mux, spent, ends, alloc, number);
     }
 }
 
@@ -49,13 +63,14 @@ pub(crate) fn list_reached<P, L: Port + Drop, T: Talking<P> + Drop>(
     mux: &mut Mux<Guest<L, T>, Shared<P>>,
     numbers: &mut Vec<usize>,
     ends: &mut EndCounts,
+    alloc: Global,
     delivery: &Delivery<Turned>,
 )
     requires ready { AreReady ⟦<Client<Guest<L, T>> as Driven<Shared<P>>>⟧.ready mux.old.roster }
     requires linked { AreLinked ⟦<Guest<L, T> as Asking<Shared<P>>>⟧.awaited
         mux.old.roster.slots mux.old.lines }
-    ensures ends { ListsReached T.awaited (mux.old, ends.old) (Some delivery.now)
-        numbers.old.items (mux.new, ends.new) numbers.new.items }
+    ensures ends { ListsReached (T.awaited, T.talk, L.port) (mux.old, ends.old)
+        (Some delivery.now) numbers.old.items (mux.new, ends.new) numbers.new.items }
     ensures listed { IsListedFor (T.awaited, T.talk, L.port) mux.new.roster.slots delivery.now
         numbers.old.items numbers.new.items }
     ensures others { OthersStayFor delivery.now mux.old.roster.slots mux.new.roster.slots }
@@ -65,24 +80,26 @@ pub(crate) fn list_reached<P, L: Port + Drop, T: Talking<P> + Drop>(
         mux.new.roster.slots mux.new.lines }
 {
     match delivery {
-        Delivery::Reached(number, _) => list(mux, numbers, ends, *number),
+        Delivery::Reached(number, _) => list(mux, numbers, ends, alloc, *number),
         Delivery::Probed(_) => {}
     }
 }
 
 /// Notes a number, so that its client is served. Without memory for that its client leaves, which
-/// counts as an end for want of memory, unless a request of it is under way.
+/// counts as an end for want of memory; if a request of it is under way it stays where it rests, and
+/// else leaves as soon as none is.
 pub(crate) fn list<P, L: Port + Drop, T: Talking<P> + Drop>(
     mux: &mut Mux<Guest<L, T>, Shared<P>>,
     numbers: &mut Vec<usize>,
     ends: &mut EndCounts,
+    alloc: Global,
     number: usize,
 )
     requires ready { AreReady ⟦<Client<Guest<L, T>> as Driven<Shared<P>>>⟧.ready mux.old.roster }
     requires linked { AreLinked ⟦<Guest<L, T> as Asking<Shared<P>>>⟧.awaited
         mux.old.roster.slots mux.old.lines }
-    ensures ends { ListEnds T.awaited (mux.old, ends.old) number numbers.old.items
-        (mux.new, ends.new) numbers.new.items }
+    ensures ends { ListEnds (T.awaited, T.talk, L.port) (mux.old, ends.old) number
+        numbers.old.items (mux.new, ends.new) numbers.new.items }
     ensures listed { IsListed (T.awaited, T.talk, L.port) mux.new.roster.slots number
         numbers.old.items numbers.new.items }
     ensures lines { mux.new.lines ≡ mux.old.lines }
@@ -92,22 +109,24 @@ pub(crate) fn list<P, L: Port + Drop, T: Talking<P> + Drop>(
         mux.new.roster.slots mux.new.lines }
 {
     if numbers.push(number).is_err() {
-        drop_client(mux, ends, number, End::Memory);
+        drop_client(mux, ends, alloc, number, End::Memory);
     }
 }
 
-/// The client of a number leaves, which is counted as this end, unless a request of it is under
-/// way.
+/// The client of a number leaves, which is counted as this end. If a request of it is under way, it
+/// stays where it rests, and else it is to leave so.
 fn drop_client<P, L: Port + Drop, T: Talking<P> + Drop>(
     mux: &mut Mux<Guest<L, T>, Shared<P>>,
     ends: &mut EndCounts,
+    alloc: Global,
     number: usize,
     why: End,
 )
     requires ready { AreReady ⟦<Client<Guest<L, T>> as Driven<Shared<P>>>⟧.ready mux.old.roster }
     requires linked { AreLinked ⟦<Guest<L, T> as Asking<Shared<P>>>⟧.awaited
         mux.old.roster.slots mux.old.lines }
-    ensures ends { DropEnds T.awaited why (mux.old, ends.old) number (mux.new, ends.new) }
+    ensures ends { DropEnds (T.awaited, T.talk, L.port) why (mux.old, ends.old) number
+        (mux.new, ends.new) }
     ensures rests { RestAt (T.awaited, T.talk, L.port) mux.new.roster.slots number }
     ensures lines { mux.new.lines ≡ mux.old.lines }
     ensures others { OthersStay number mux.old.roster.slots mux.new.roster.slots }
@@ -116,13 +135,44 @@ fn drop_client<P, L: Port + Drop, T: Talking<P> + Drop>(
         mux.new.roster.slots mux.new.lines }
 {
     let Some(guest) = mux.close(number) else {
+        if !is_resting(mux, number) {
+            let _ = mux.act(alloc, number, Event::Leave(why), 0);
+        }
         return;
     };
     drop(guest);
     ends.count(why);
 }
 
-/// Serves a client, and returns whether it is to be served again. If it ended, it leaves.
+/// Whether the client of a number, of which a request is under way, waits for what comes of that,
+/// or is to leave then.
+fn is_resting<P, L: Port + Drop, T: Talking<P> + Drop>(
+    mux: &Mux<Guest<L, T>, Shared<P>>,
+    number: usize,
+) -> bool
+    requires { IsKept ⟦<Guest<L, T> as Asking<Shared<P>>>⟧.awaited mux.now.roster.slots number }
+    ensures rests { OnTrue result
+        (RestAt (T.awaited, T.talk, L.port) mux.now.roster.slots number) }
+    ensures here { OnFalse result (IsHere mux.now.roster.slots number) }
+{
+    let Some(guest) = mux.get(number) else {
+        return true;
+    };
+    match guest.presence {
+        Presence::Leaving(_) => true,
+        Presence::Here => waits::<P, _>(&guest.talk),
+    }
+}
+
+/// Whether a session can do nothing before something comes for one of its requests.
+fn waits<P, T: Talking<P>>(talk: &T) -> bool
+    ensures { OnTrue result ((T.talk talk.now).stage ≡ Stage.Waits) }
+{
+    talk.stage() == Stage::Waits
+}
+
+/// Serves a client, as long as it asks a server each time and can go on, and returns whether it is
+/// to be served again later. If it ended, it leaves.
 fn is_spent<P, L: Port + Drop, T: Talking<P> + Drop>(
     mux: &mut Mux<Guest<L, T>, Shared<P>>,
     ends: &mut EndCounts,
@@ -148,22 +198,55 @@ fn is_spent<P, L: Port + Drop, T: Talking<P> + Drop>(
     ensures linked { AreLinked ⟦<Guest<L, T> as Asking<Shared<P>>>⟧.awaited
         mux.new.roster.slots mux.new.lines }
 {
-    if !mux.is_idle(number) {
-        return false;
+    for _ in 1..ASKS {
+        match serve_once(mux, ends, alloc, number, due) {
+            Next::Rests => return false,
+            Next::AsksMore => {}
+            Next::Later => return true,
+        }
     }
+    match serve_once(mux, ends, alloc, number, due) {
+        Next::Rests => false,
+        Next::AsksMore => true,
+        Next::Later => true,
+    }
+}
+
+/// Serves a client once. If it ended, it leaves.
+fn serve_once<P, L: Port + Drop, T: Talking<P> + Drop>(
+    mux: &mut Mux<Guest<L, T>, Shared<P>>,
+    ends: &mut EndCounts,
+    alloc: Global,
+    number: usize,
+    due: u64,
+) -> Next
+    requires ready { AreReady ⟦<Client<Guest<L, T>> as Driven<Shared<P>>>⟧.ready mux.old.roster }
+    requires linked { AreLinked ⟦<Guest<L, T> as Asking<Shared<P>>>⟧.awaited
+        mux.old.roster.slots mux.old.lines }
+    ensures ends { OnceEnds (T.awaited, T.talk, L.port)
+        ⟦<Guest<L, T> as Asking<Shared<P>>>⟧.asks_for (mux.old, ends.old) number due result
+        (mux.new, ends.new) }
+    ensures others { OthersStay number mux.old.roster.slots mux.new.roster.slots }
+    ensures acted { HaveActed (T.awaited, T.talk, L.port) (mux.old.roster, ends.old)
+        (mux.new.roster, ends.new) }
+    ensures ready { AreReady ⟦<Client<Guest<L, T>> as Driven<Shared<P>>>⟧.ready mux.new.roster }
+    ensures linked { AreLinked ⟦<Guest<L, T> as Asking<Shared<P>>>⟧.awaited
+        mux.new.roster.slots mux.new.lines }
+{
     let Some(done) = mux.act(alloc, number, Event::Serve, due) else {
-        return false;
+        return Next::Rests;
     };
     if done.stopped.is_some() {
-        return true;
+        return Next::Later;
     }
     match done.did {
-        Turned::Rests => false,
-        Turned::Asks => false,
+        Turned::Rests => Next::Rests,
+        Turned::Asks => Next::Rests,
+        Turned::AsksMore => Next::AsksMore,
         Turned::Ends(why) => {
-            drop_client(mux, ends, number, why);
-            false
+            drop_client(mux, ends, alloc, number, why);
+            Next::Rests
         }
-        Turned::Spent | Turned::Noted | Turned::Took => true,
+        Turned::Spent | Turned::Noted | Turned::Took => Next::Later,
     }
 }

@@ -29,6 +29,7 @@ struct EchoTalk {
 
 impl Talking<()> for EchoTalk {
     ghost use Rattle.std.specs.Prelude.{Some, length};
+    ghost use Rattle.tko_mux.specs.Awaits.{awaited_one};
 
     ghost talk = { λ echo. record {
       stage = echo.stage;
@@ -38,9 +39,11 @@ impl Talking<()> for EchoTalk {
       held = length echo.output.items;
     } };
 
-    ghost awaited = { λ echo. echo.awaits };
+    ghost awaited = { λ echo. awaited_one echo.awaits };
 
     ghost asks_for = { λ echo. Some echo.request };
+
+    ghost waits_for = { λ echo _. Some echo.request };
 
     ghost does = { λ _ _ _. Unit {0} };
 
@@ -56,6 +59,9 @@ impl Talking<()> for EchoTalk {
 
     fn go_on(&mut self, _parts: &mut ()) -> Result<Option<Clear>, NoMemory> {
         self.stage = Stage::Going;
+        if self.awaits.is_some() {
+            return Ok(None);
+        }
         if self.output.len() < self.most {
             self.output.extend_from_slice(self.unread.as_slice())?;
             self.unread.clear();
@@ -102,16 +108,20 @@ impl Talking<()> for EchoTalk {
         self.is_ended = true;
     }
 
-    fn take(&mut self, _parts: &mut (), _came: Came) -> Option<Clear> {
+    fn take(&mut self, _parts: &mut (), _server: usize, _came: Came) -> Option<Clear> {
         self.awaits = None;
         None
     }
 
-    fn awaited(&self) -> Option<usize> {
-        self.awaits
+    fn is_waiting(&self) -> bool {
+        self.awaits.is_some()
     }
 
     fn request(&self) -> &Request {
+        &self.request
+    }
+
+    fn request_to(&self, _server: usize) -> &Request {
         &self.request
     }
 }
@@ -168,11 +178,11 @@ fn a_client_is_served_at_the_end_of_the_turn(rt: HostRuntime) -> Result<(), Fail
         return Err("no memory".into());
     };
     let port = MemoryPort::new(alloc, b"one two".to_vec(alloc)?, 100);
-    let number = worker.open(port, new_echo(alloc, 100)?)?;
+    let number = worker.open(alloc, port, new_echo(alloc, 100)?)?;
     worker.end_turn(alloc, 100);
     assert!(rt; worker.spent().is_empty());
     let next = MemoryPort::new(alloc, Vec::new(alloc), 100);
-    assert_eq!(rt; worker.open(next, new_echo(alloc, 100)?)?, number);
+    assert_eq!(rt; worker.open(alloc, next, new_echo(alloc, 100)?)?, number);
     Ok(())
 }
 
@@ -243,6 +253,7 @@ fn clear_of(server: usize) -> Option<Clear>
 
 impl Talking<()> for AskTalk {
     ghost use Rattle.std.specs.Prelude.{None, Some, length};
+    ghost use Rattle.tko_mux.specs.Awaits.{awaited_one};
 
     ghost talk = { λ it. record {
       stage = it.stage;
@@ -252,9 +263,11 @@ impl Talking<()> for AskTalk {
       held = length it.output.items;
     } };
 
-    ghost awaited = { λ it. it.awaits };
+    ghost awaited = { λ it. awaited_one it.awaits };
 
     ghost asks_for = { λ it. Some it.request };
+
+    ghost waits_for = { λ it _. Some it.request };
 
     ghost does = { λ _ _ _. Unit {0} };
 
@@ -269,12 +282,16 @@ impl Talking<()> for AskTalk {
     ghost same_stays = { λ _. tt };
 
     fn go_on(&mut self, _parts: &mut ()) -> Result<Option<Clear>, NoMemory> {
+        self.stage = Stage::Waits;
+        if self.awaits.is_some() {
+            return Ok(None);
+        }
         if self.has_come {
             self.stage = Stage::Over;
             return Ok(None);
         }
-        self.stage = Stage::NeedsInput;
         if self.has_asked {
+            self.stage = Stage::NeedsInput;
             return Ok(None);
         }
         self.has_asked = true;
@@ -310,7 +327,7 @@ impl Talking<()> for AskTalk {
 
     fn end(&mut self, _parts: &mut ()) {}
 
-    fn take(&mut self, _parts: &mut (), came: Came) -> Option<Clear> {
+    fn take(&mut self, _parts: &mut (), _server: usize, came: Came) -> Option<Clear> {
         self.awaits = None;
         if let Came::Response(_) = came {
             let _ = self.output.extend_from_slice(b"came".as_slice());
@@ -319,11 +336,15 @@ impl Talking<()> for AskTalk {
         None
     }
 
-    fn awaited(&self) -> Option<usize> {
-        self.awaits
+    fn is_waiting(&self) -> bool {
+        self.awaits.is_some()
     }
 
     fn request(&self) -> &Request {
+        &self.request
+    }
+
+    fn request_to(&self, _server: usize) -> &Request {
         &self.request
     }
 }
@@ -377,7 +398,7 @@ fn a_request_is_written_and_the_response_reaches_its_client(rt: HostRuntime) -> 
     };
     let number = worker
         .clients
-        .open(new_port(alloc, b"".as_slice())?, new_asker(alloc)?)?;
+        .open(alloc, new_port(alloc, b"".as_slice())?, new_asker(alloc)?)?;
     assert!(rt; end_turn(alloc, &mut worker, 1));
     assert!(rt; worker.wants(0));
     assert_eq!(rt; worker.finish(1).due, Some(101));
@@ -389,7 +410,10 @@ fn a_request_is_written_and_the_response_reaches_its_client(rt: HostRuntime) -> 
     assert!(rt; end_turn(alloc, &mut worker, 3));
     assert!(rt; !worker.wants(0) && !worker.is_awake(0));
     let next = new_port(alloc, b"".as_slice())?;
-    assert_eq!(rt; worker.clients.open(next, new_asker(alloc)?)?, number);
+    assert_eq!(rt;
+        worker.clients.open(alloc, next, new_asker(alloc)?)?,
+        number
+    );
     worker.note_server(0, Event::Readable);
     assert!(rt; worker.is_awake(0));
     Ok(())
@@ -407,7 +431,7 @@ fn a_client_whose_server_is_late_is_told_so(rt: HostRuntime) -> Result<(), Fail>
     };
     worker
         .clients
-        .open(new_port(alloc, b"".as_slice())?, new_asker(alloc)?)?;
+        .open(alloc, new_port(alloc, b"".as_slice())?, new_asker(alloc)?)?;
     assert!(rt; end_turn(alloc, &mut worker, 1));
     assert!(rt; end_turn(alloc, &mut worker, 100));
     assert!(rt; worker.wants(0));
@@ -430,13 +454,13 @@ fn a_client_that_leaves_keeps_its_number_until_its_request_is_done(
         return Err("no memory".into());
     };
     let port = new_port(alloc, b"".as_slice())?;
-    let number = worker.clients.open(port, new_asker(alloc)?)?;
+    let number = worker.clients.open(alloc, port, new_asker(alloc)?)?;
     assert!(rt; end_turn(alloc, &mut worker, 1));
     worker.clients.gone(alloc, number, End::WriteFailed);
     assert_eq!(rt; worker.clients.tally(number), None);
     assert!(rt; end_turn(alloc, &mut worker, 2));
     let next = new_port(alloc, b"".as_slice())?;
-    assert!(rt; worker.clients.open(next, new_asker(alloc)?)? != number);
+    assert!(rt; worker.clients.open(alloc, next, new_asker(alloc)?)? != number);
     worker.failed(0);
     assert_eq!(rt; worker.clients.take_ends(), EndCounts::none());
     end_turn(alloc, &mut worker, 3);
@@ -444,6 +468,9 @@ fn a_client_that_leaves_keeps_its_number_until_its_request_is_done(
     assert_eq!(rt; ends.write, 1);
     assert_eq!(rt; worker.clients.take_ends(), EndCounts::none());
     let last = new_port(alloc, b"".as_slice())?;
-    assert_eq!(rt; worker.clients.open(last, new_asker(alloc)?)?, number);
+    assert_eq!(rt;
+        worker.clients.open(alloc, last, new_asker(alloc)?)?,
+        number
+    );
     Ok(())
 }

@@ -70,7 +70,13 @@ impl<P, L: Port + Drop, T: Talking<P> + Drop> Worker<L, T, P> {
         ensures order { IsInOrder (T.awaited, T.talk, L.port) T.ready self.new }
     {
         let _ = self.mux.act(alloc, number, event, 0);
-        list(&mut self.mux, &mut self.touched, &mut self.ends, number);
+        list(
+            &mut self.mux,
+            &mut self.touched,
+            &mut self.ends,
+            alloc,
+            number,
+        );
     }
 
     /// Reads the next response of a server, as soon as all of it came. The client that awaits it
@@ -86,13 +92,20 @@ impl<P, L: Port + Drop, T: Talking<P> + Drop> Worker<L, T, P> {
         requires left { HasNoneLeaving (line_at self.old.mux server) }
         requires order { IsInOrder (T.awaited, T.talk, L.port) T.ready self.old }
         ensures taken { HasTaken (T.awaited, T.talk, L.port)
-            ⟦<Guest<L, T> as Asking<Shared<P>>>⟧.asks_for self.old server due result self.new }
+            ⟦<Guest<L, T> as Asking<Shared<P>>>⟧.asks_for
+            ⟦<Guest<L, T> as Asking<Shared<P>>>⟧.waits_for self.old server due result self.new }
         ensures acted { HasActed (T.awaited, T.talk, L.port) self.old self.new }
         ensures order { IsInOrder (T.awaited, T.talk, L.port) T.ready self.new }
     {
         match self.mux.take(alloc, server, due) {
             Ok(Some(delivery)) => {
-                list_reached(&mut self.mux, &mut self.touched, &mut self.ends, &delivery);
+                list_reached(
+                    &mut self.mux,
+                    &mut self.touched,
+                    &mut self.ends,
+                    alloc,
+                    &delivery,
+                );
                 Ok(Some(delivery))
             }
             Ok(None) => Ok(None),
@@ -113,7 +126,13 @@ impl<P, L: Port + Drop, T: Talking<P> + Drop> Worker<L, T, P> {
     {
         match self.mux.leave(alloc, server, due) {
             Some(delivery) => {
-                list_reached(&mut self.mux, &mut self.touched, &mut self.ends, &delivery);
+                list_reached(
+                    &mut self.mux,
+                    &mut self.touched,
+                    &mut self.ends,
+                    alloc,
+                    &delivery,
+                );
                 Some(delivery)
             }
             None => None,

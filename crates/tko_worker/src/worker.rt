@@ -1,5 +1,5 @@
 //! The clients of a worker.
-ghost use Rattle.std.specs.Prelude.{◌≡◌, ◌<◌, ℕ, None, IfErr, IfOk, IsSome, OnErr, is_some, length};
+ghost use Rattle.std.specs.Prelude.{◌≡◌, ◌<◌, ℕ, [], None, IfErr, IfOk, IsSome, OnErr, is_some, length};
 ghost use Rattle.std.specs.Bool.{OnFalse, OnTrue};
 ghost use Rattle.tko_roster.specs.Rosters.{session_at};
 ghost use Rattle.tko_mux.specs.Linking.{IsKept, awaited_at};
@@ -72,8 +72,8 @@ impl<P: Drop, L: Port + Drop, T: Talking<P> + Drop> Worker<L, T, P> {
 impl<P, L: Port + Drop, T: Talking<P> + Drop> Worker<L, T, P> {
     /// A client came, whose session is ready for what was read from its port and written to it,
     /// nothing as a rule. It is served in this turn. Without memory for it, it is dropped.
-    pub fn open(&mut self, port: L, talk: T) -> Result<usize, NoMemory>
-        requires idle { T.awaited talk ≡ None }
+    pub fn open(&mut self, alloc: Global, port: L, talk: T) -> Result<usize, NoMemory>
+        requires idle { T.awaited talk ≡ [] }
         requires session { ReadyAt T.ready self.old.mux.roster.parts.parts (L.port port) talk }
         requires order { IsInOrder (T.awaited, T.talk, L.port) T.ready self.old }
         ensures ok { IfOk result (λ number. IsOpened (T.awaited, T.talk, L.port) self.old port talk
@@ -88,7 +88,13 @@ impl<P, L: Port + Drop, T: Talking<P> + Drop> Worker<L, T, P> {
             presence: Presence::Here,
         };
         let number = self.mux.open(guest)?;
-        list(&mut self.mux, &mut self.touched, &mut self.ends, number);
+        list(
+            &mut self.mux,
+            &mut self.touched,
+            &mut self.ends,
+            alloc,
+            number,
+        );
         Ok(number)
     }
 
@@ -147,7 +153,7 @@ impl<P, L: Port + Drop, T: Talking<P> + Drop> Worker<L, T, P> {
     /// Whether a client has the number, and no request of it is under way.
     pub fn is_idle(&self, number: usize) -> bool
         ensures idle { OnTrue result (awaited_at ⟦<Guest<L, T> as Asking<Shared<P>>>⟧.awaited
-            self.now.mux.roster.slots number ≡ None) }
+            self.now.mux.roster.slots number ≡ []) }
         ensures not { OnFalse result (IsKept ⟦<Guest<L, T> as Asking<Shared<P>>>⟧.awaited
             self.now.mux.roster.slots number) }
     {

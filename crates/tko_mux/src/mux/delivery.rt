@@ -1,6 +1,7 @@
 //! Who gets what a server answered, or what became of a request without an answer.
 ghost use Rattle.std.specs.Prelude.{◌≡◌, ◌<◌, None, Some, IfNone, IsSome, length};
 ghost use Rattle.tko_roster.specs.Rosters.{AreReady};
+ghost use Rattle.tko_mux.specs.Awaits.{times_due};
 ghost use Rattle.tko_mux.specs.Lines.{first_on};
 ghost use Rattle.tko_mux.specs.Linking.{AreLinked, AwaitsFirst, IsFree, IsLoose, awaited_at, waiters_at};
 ghost use Rattle.tko_mux.specs.Muxes.{HasNoneLeaving, IsDelivered, IsMade, IsRead, IsReadFor, LeaveEnds, ReadsOn, line_at};
@@ -30,8 +31,8 @@ pub enum Delivery<O> {
 
 impl<P, S: Asking<P> + Drop> Mux<S, P> {
     /// Reads the next response of a server, as soon as all of it came, and gives it to the session
-    /// that awaits it. If that asks a server, the response is due at this moment. An `Err` says why
-    /// this shut the connection.
+    /// of the first that waits for one. If that asks a server, the response is due at this moment.
+    /// An `Err` says why this shut the connection.
     pub fn take(
         &mut self,
         alloc: Global,
@@ -42,13 +43,14 @@ impl<P, S: Asking<P> + Drop> Mux<S, P> {
         requires left { HasNoneLeaving (line_at self.old server) }
         requires ready { AreReady ⟦<Client<S> as Driven<P>>⟧.ready self.old.roster }
         requires linked { AreLinked S.awaited self.old.roster.slots self.old.lines }
-        ensures read { IsRead S.acts S.awaited S.asks_for self.old server due result self.new }
+        ensures read { IsRead S.acts S.awaited S.asks_for S.waits_for self.old server due result
+            self.new }
         ensures ready { AreReady ⟦<Client<S> as Driven<P>>⟧.ready self.new.roster }
         ensures linked { AreLinked S.awaited self.new.roster.slots self.new.lines }
     {
-        match read_first(&self.roster, &mut self.lines[server], alloc) {
+        match read_first(&self.roster, &mut self.lines[server], alloc, server) {
             Ok(Some((by, response))) => {
-                Ok(Some(self.deliver(alloc, by, Came::Response(response), due)))
+                Ok(Some(self.deliver(alloc, server, by, Came::Response(response), due)))
             }
             Ok(None) => Ok(None),
             Err(cause) => Err(cause),
@@ -67,41 +69,56 @@ impl<P, S: Asking<P> + Drop> Mux<S, P> {
         ensures linked { AreLinked S.awaited self.new.roster.slots self.new.lines }
     {
         match self.lines[server].leave() {
-            Some((by, fate)) => Some(self.deliver(alloc, by, Came::Fate(fate), due)),
+            Some((by, fate)) => Some(self.deliver(alloc, server, by, Came::Fate(fate), due)),
             None => None,
         }
     }
 
-    /// What came for the first that waited, who waits for none now, reaches it.
-    fn deliver(&mut self, alloc: Global, by: Asker, came: Came, due: u64) -> Delivery<S::Output>
+    /// What came from a server for the first that waited, whose request is in no queue now, reaches
+    /// it.
+    fn deliver(
+        &mut self,
+        alloc: Global,
+        server: usize,
+        by: Asker,
+        came: Came,
+        due: u64,
+    ) -> Delivery<S::Output>
         requires free { IsFree (awaited_at S.awaited self.old.roster.slots)
-            (waiters_at self.old.lines) by }
+            (waiters_at self.old.lines) server by }
         requires ready { AreReady ⟦<Client<S> as Driven<P>>⟧.ready self.old.roster }
-        ensures delivered { IsDelivered S.acts S.awaited S.asks_for self.old by came due result
-            self.new }
+        ensures delivered { IsDelivered S.acts S.awaited S.asks_for self.old server by came due
+            result self.new }
         ensures ready { AreReady ⟦<Client<S> as Driven<P>>⟧.ready self.new.roster }
         ensures linked { AreLinked S.awaited self.new.roster.slots self.new.lines }
     {
         match by {
             Asker::Client(number) => {
-                Delivery::Reached(number, self.give(alloc, number, came, due))
+                Delivery::Reached(number, self.give(alloc, number, server, came, due))
             }
             Asker::Probe => Delivery::Probed(came),
         }
     }
 
-    /// The session of a client that waits for none takes what came of its request.
-    fn give(&mut self, alloc: Global, number: usize, came: Came, due: u64) -> Done<S::Output>
-        requires awaits { IsSome (awaited_at S.awaited self.old.roster.slots number) }
+    /// The session of a client takes what came of its request to this server, which is in no queue
+    /// now.
+    fn give(
+        &mut self,
+        alloc: Global,
+        number: usize,
+        server: usize,
+        came: Came,
+        due: u64,
+    ) -> Done<S::Output>
         requires loose { IsLoose (awaited_at S.awaited self.old.roster.slots)
-            (waiters_at self.old.lines) number }
+            (waiters_at self.old.lines) number server }
         requires ready { AreReady ⟦<Client<S> as Driven<P>>⟧.ready self.old.roster }
-        ensures made { IsMade S.acts S.awaited S.asks_for self.old number (Given.Outcome came) due
-            result self.new }
+        ensures made { IsMade S.acts S.awaited S.asks_for self.old number (Given.Outcome server came)
+            due result self.new }
         ensures ready { AreReady ⟦<Client<S> as Driven<P>>⟧.ready self.new.roster }
         ensures linked { AreLinked S.awaited self.new.roster.slots self.new.lines }
     {
-        let Some((asked, did)) = self.roster.act(number, Given::Outcome(came)) else {
+        let Some((asked, did)) = self.roster.act(number, Given::Outcome(server, came)) else {
             unreachable!();
         };
         let stopped = self.send(alloc, number, asked, due);
@@ -109,22 +126,23 @@ impl<P, S: Asking<P> + Drop> Mux<S, P> {
     }
 }
 
-/// Takes the next response on a line, if somebody waits for one there.
+/// Takes the next response of a server on its line, if somebody waits for one there.
 fn read_first<P, S: Asking<P> + Drop>(
     roster: &Roster<Client<S>, P>,
     line: &mut Line,
     alloc: Global,
+    server: usize,
 ) -> Result<Option<(Asker, Response)>, ShutCause>
-    requires awaits { AwaitsFirst (awaited_at S.awaited roster.now.slots)
+    requires awaits { AwaitsFirst (awaited_at S.awaited roster.now.slots) server
         (first_on line.old.pipe) }
     requires left { line.old.ended ≡ None }
-    ensures { ReadsOn S.asks_for roster.now line.old result line.new }
+    ensures { ReadsOn S.waits_for roster.now server line.old result line.new }
 {
     let Some(waiter) = line.first() else {
         return Ok(None);
     };
     match waiter.by {
-        Asker::Client(number) => read_for(roster, line, alloc, number),
+        Asker::Client(number) => read_for(roster, line, alloc, number, server),
         Asker::Probe => line.take(alloc, &Request::Version),
     }
 }
@@ -135,14 +153,16 @@ fn read_for<P, S: Asking<P> + Drop>(
     line: &mut Line,
     alloc: Global,
     number: usize,
+    server: usize,
 ) -> Result<Option<(Asker, Response)>, ShutCause>
-    requires awaits { IsSome (awaited_at S.awaited roster.now.slots number) }
+    requires awaits { 0 < times_due (awaited_at S.awaited roster.now.slots number) server }
     requires pipe { IsSome line.old.pipe }
     requires left { line.old.ended ≡ None }
-    ensures { IsReadFor S.asks_for roster.now (Asker.Client number) line.old result line.new }
+    ensures { IsReadFor S.waits_for roster.now server (Asker.Client number) line.old result
+        line.new }
 {
     let Some(client) = roster.get(number) else {
         unreachable!();
     };
-    line.take(alloc, client.session.request())
+    line.take(alloc, client.session.request_to(server))
 }

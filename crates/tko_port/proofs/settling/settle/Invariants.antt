@@ -1,11 +1,12 @@
-use Rattle.std.proofs.Common.{◌≡◌, ◌<◌, None, length}
+use Rattle.std.proofs.Common.{◌<◌, None, length}
+use Rattle.tko_mux.specs.Awaits.{IsAsking}
 use Rattle.tko_port.specs.Lives.{ReadyAt}
 use Rattle.tko_port.proofs.settling.settle.Given as goal
 
 abbrev pub invariant-loop : goal.invariant-loop
 invariant-loop g l = record {
   ready : ReadyAt g.T.Talking.ready l.parts (g.L.Port.port l.port) l.talk;
-  here : g.T.Talking.awaited l.talk ≡ None;
+  asks : IsAsking None (g.T.Talking.awaited l.initial.talk) (g.T.Talking.awaited l.talk);
   room : 0 < length l.buffer;
   stays : g.T.Talking.stays l.initial.parts l.parts;
 }

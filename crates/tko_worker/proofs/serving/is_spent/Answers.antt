@@ -1,61 +1,109 @@
-use Rattle.std.proofs.Common.{rules}
-use Rattle.tko_worker.proofs.CountLemmas.{served_ends}
-use Rattle.tko_worker.proofs.RestLemmas.{kept_rests, served_rests}
-use Rattle.tko_worker.proofs.ActedLemmas.{acted_on, dropped_acted, made_acted}
-use Rattle.tko_mux.specs.declared.asking.Given.TheVariants.{Input}
-use Rattle.tko_port.specs.declared.guest.Event.TheVariants.{Serve}
+use Rattle.std.proofs.Common.{◌∙◌}
+use Rattle.tko_model.proofs.RecordLemmas.{gains_push}
+use Rattle.tko_worker.proofs.CountLemmas.{counts_on, once_served, served_counts, served_on}
+use Rattle.tko_worker.proofs.ActedLemmas.{acted_on}
 use Rattle.tko_worker.proofs.serving.is_spent.Goals as goal
 
-pub returns-then-not-is_idle-clause-rests : goal.returns-then-not-is_idle-clause-rests
-returns-then-not-is_idle-clause-rests g c =
-    kept_rests (g.T.Talking.awaited, g.T.Talking.talk, g.L.Port.port) c.args.mux.now.roster.slots
-    c.args.number (search rules)
-
-pub returns-in-Rests-clause-rests : goal.returns-in-Rests-clause-rests
-returns-in-Rests-clause-rests g c =
-    served_rests (g.T.Talking.awaited, g.T.Talking.talk, g.L.Port.port)
-    (λ guest. g.T.Talking.asks_for guest.talk) c.args.mux.now c.act.new.self c.args.number
-    c.args.due c.in-Some.done (search rules) (search rules) c.in-Rests.is
-
-pub returns-in-Ends-clause-counted : goal.returns-in-Ends-clause-counted
-returns-in-Ends-clause-counted g c =
-    served_ends (g.T.Talking.awaited, g.T.Talking.talk, g.L.Port.port)
-    (λ guest. g.T.Talking.asks_for guest.talk) c.args.mux.now c.act.new.self
-    c.drop_client.new.mux c.args.ends.now c.drop_client.new.ends c.args.number c.args.due
-    c.in-Some.done c.in-Ends.why (search rules) c.in-Ends.is c.drop_client.ensures.ends
-
-pub returns-then-is_some-clause-acted : goal.returns-then-is_some-clause-acted
-returns-then-is_some-clause-acted g c =
-    made_acted (g.T.Talking.awaited, g.T.Talking.talk, g.L.Port.port)
-    (λ guest. g.T.Talking.asks_for guest.talk) c.args.mux.now c.act.new.self c.args.ends.now
-    c.args.number c.args.due (Input Serve) c.in-Some.done (search rules)
+pub returns-in-Rests-clause-counted : goal.returns-in-Rests-clause-counted
+returns-in-Rests-clause-counted g c =
+    counts_on (g.T.Talking.awaited, g.T.Talking.talk, g.L.Port.port) (λ guest. g.T.Talking.asks_for guest.talk)
+    c.args.number c.args.due c.args.mux.now c.loop.mux c.serve_once.new.mux c.loop.ends
+    c.args.ends.now c.serve_once.new.ends c.loop.invariant.asked.0 c.loop.invariant.asked.1
+    c.loop.invariant.ends c.in-Rests.ensures.ends.1
 
 pub returns-in-Rests-clause-acted : goal.returns-in-Rests-clause-acted
 returns-in-Rests-clause-acted g c =
-    made_acted (g.T.Talking.awaited, g.T.Talking.talk, g.L.Port.port)
-    (λ guest. g.T.Talking.asks_for guest.talk) c.args.mux.now c.act.new.self c.args.ends.now
-    c.args.number c.args.due (Input Serve) c.in-Some.done (search rules)
-
-pub returns-in-Asks-clause-acted : goal.returns-in-Asks-clause-acted
-returns-in-Asks-clause-acted g c =
-    made_acted (g.T.Talking.awaited, g.T.Talking.talk, g.L.Port.port)
-    (λ guest. g.T.Talking.asks_for guest.talk) c.args.mux.now c.act.new.self c.args.ends.now
-    c.args.number c.args.due (Input Serve) c.in-Some.done (search rules)
-
-pub returns-in-Ends-clause-acted : goal.returns-in-Ends-clause-acted
-returns-in-Ends-clause-acted g c =
     acted_on (g.T.Talking.awaited, g.T.Talking.talk, g.L.Port.port)
-    (c.args.mux.now.roster, c.args.ends.now) (c.act.new.self.roster, c.args.ends.now)
-    (c.drop_client.new.mux.roster, c.drop_client.new.ends)
-    (made_acted (g.T.Talking.awaited, g.T.Talking.talk, g.L.Port.port)
-    (λ guest. g.T.Talking.asks_for guest.talk) c.args.mux.now c.act.new.self c.args.ends.now
-    c.args.number c.args.due (Input Serve) c.in-Some.done (search rules))
-    (dropped_acted (g.T.Talking.awaited, g.T.Talking.talk, g.L.Port.port) c.in-Ends.why
-    (c.act.new.self, c.args.ends.now) (c.drop_client.new.mux, c.drop_client.new.ends)
-    c.args.number c.drop_client.ensures.ends)
+    (c.args.mux.now.roster, c.args.ends.now) (c.loop.mux.roster, c.loop.ends)
+    (c.serve_once.new.mux.roster, c.serve_once.new.ends) c.loop.invariant.acted c.serve_once.ensures.acted
 
-pub returns-in-Spent-clause-acted : goal.returns-in-Spent-clause-acted
-returns-in-Spent-clause-acted g c =
-    made_acted (g.T.Talking.awaited, g.T.Talking.talk, g.L.Port.port)
-    (λ guest. g.T.Talking.asks_for guest.talk) c.args.mux.now c.act.new.self c.args.ends.now
-    c.args.number c.args.due (Input Serve) c.in-Some.done (search rules)
+pub returns-in-Later-clause-served : goal.returns-in-Later-clause-served
+returns-in-Later-clause-served g c =
+    served_on (g.T.Talking.awaited, g.T.Talking.talk, g.L.Port.port) (λ guest. g.T.Talking.asks_for guest.talk)
+    c.args.number c.args.due c.args.mux.now c.loop.mux c.serve_once.new.mux
+    c.loop.invariant.asked.0 c.loop.invariant.asked.1
+    c.in-Later.ensures.ends.0
+
+pub returns-in-Later-clause-counted : goal.returns-in-Later-clause-counted
+returns-in-Later-clause-counted g c =
+    served_counts (g.T.Talking.awaited, g.T.Talking.talk, g.L.Port.port) (λ guest. g.T.Talking.asks_for guest.talk)
+    c.args.number c.args.due c.args.mux.now c.serve_once.new.mux c.args.ends.now c.serve_once.new.ends
+    (served_on (g.T.Talking.awaited, g.T.Talking.talk, g.L.Port.port) (λ guest. g.T.Talking.asks_for guest.talk)
+    c.args.number c.args.due c.args.mux.now c.loop.mux c.serve_once.new.mux
+    c.loop.invariant.asked.0 c.loop.invariant.asked.1
+    c.in-Later.ensures.ends.0)
+    (c.in-Later.ensures.ends.1 ∙ c.loop.invariant.ends)
+
+pub returns-in-Later-clause-acted : goal.returns-in-Later-clause-acted
+returns-in-Later-clause-acted g c =
+    acted_on (g.T.Talking.awaited, g.T.Talking.talk, g.L.Port.port)
+    (c.args.mux.now.roster, c.args.ends.now) (c.loop.mux.roster, c.loop.ends)
+    (c.serve_once.new.mux.roster, c.serve_once.new.ends) c.loop.invariant.acted c.serve_once.ensures.acted
+
+pub returns-in-Rests-serve_once-clause-counted : goal.returns-in-Rests-serve_once-clause-counted
+returns-in-Rests-serve_once-clause-counted g c =
+    counts_on (g.T.Talking.awaited, g.T.Talking.talk, g.L.Port.port) (λ guest. g.T.Talking.asks_for guest.talk)
+    c.args.number c.args.due c.args.mux.now c.loop.mux c.serve_once-2.new.mux c.loop.ends
+    c.args.ends.now c.serve_once-2.new.ends c.loop.invariant.asked.0 c.loop.invariant.asked.1
+    c.loop.invariant.ends c.in-Rests-serve_once.ensures.ends.1
+
+pub returns-in-Rests-serve_once-clause-acted : goal.returns-in-Rests-serve_once-clause-acted
+returns-in-Rests-serve_once-clause-acted g c =
+    acted_on (g.T.Talking.awaited, g.T.Talking.talk, g.L.Port.port)
+    (c.args.mux.now.roster, c.args.ends.now) (c.loop.mux.roster, c.loop.ends)
+    (c.serve_once-2.new.mux.roster, c.serve_once-2.new.ends) c.loop.invariant.acted c.serve_once-2.ensures.acted
+
+pub returns-in-AsksMore-serve_once-clause-counted : goal.returns-in-AsksMore-serve_once-clause-counted
+returns-in-AsksMore-serve_once-clause-counted g c =
+    served_counts (g.T.Talking.awaited, g.T.Talking.talk, g.L.Port.port) (λ guest. g.T.Talking.asks_for guest.talk)
+    c.args.number c.args.due c.args.mux.now c.serve_once-2.new.mux c.args.ends.now c.serve_once-2.new.ends
+    (served_on (g.T.Talking.awaited, g.T.Talking.talk, g.L.Port.port) (λ guest. g.T.Talking.asks_for guest.talk)
+    c.args.number c.args.due c.args.mux.now c.loop.mux c.serve_once-2.new.mux
+    c.loop.invariant.asked.0 c.loop.invariant.asked.1
+    (once_served (g.T.Talking.awaited, g.T.Talking.talk, g.L.Port.port) (λ guest. g.T.Talking.asks_for guest.talk)
+    c.args.number c.args.due c.loop.mux c.serve_once-2.new.mux c.in-AsksMore-serve_once.ensures.ends.0.0
+    c.in-AsksMore-serve_once.ensures.ends.0.1.made))
+    (c.in-AsksMore-serve_once.ensures.ends.1 ∙ c.loop.invariant.ends)
+
+pub returns-in-AsksMore-serve_once-clause-acted : goal.returns-in-AsksMore-serve_once-clause-acted
+returns-in-AsksMore-serve_once-clause-acted g c =
+    acted_on (g.T.Talking.awaited, g.T.Talking.talk, g.L.Port.port)
+    (c.args.mux.now.roster, c.args.ends.now) (c.loop.mux.roster, c.loop.ends)
+    (c.serve_once-2.new.mux.roster, c.serve_once-2.new.ends) c.loop.invariant.acted c.serve_once-2.ensures.acted
+
+pub returns-in-Later-serve_once-clause-served : goal.returns-in-Later-serve_once-clause-served
+returns-in-Later-serve_once-clause-served g c =
+    served_on (g.T.Talking.awaited, g.T.Talking.talk, g.L.Port.port) (λ guest. g.T.Talking.asks_for guest.talk)
+    c.args.number c.args.due c.args.mux.now c.loop.mux c.serve_once-2.new.mux
+    c.loop.invariant.asked.0 c.loop.invariant.asked.1
+    c.in-Later-serve_once.ensures.ends.0
+
+pub returns-in-Later-serve_once-clause-counted : goal.returns-in-Later-serve_once-clause-counted
+returns-in-Later-serve_once-clause-counted g c =
+    served_counts (g.T.Talking.awaited, g.T.Talking.talk, g.L.Port.port) (λ guest. g.T.Talking.asks_for guest.talk)
+    c.args.number c.args.due c.args.mux.now c.serve_once-2.new.mux c.args.ends.now c.serve_once-2.new.ends
+    (served_on (g.T.Talking.awaited, g.T.Talking.talk, g.L.Port.port) (λ guest. g.T.Talking.asks_for guest.talk)
+    c.args.number c.args.due c.args.mux.now c.loop.mux c.serve_once-2.new.mux
+    c.loop.invariant.asked.0 c.loop.invariant.asked.1
+    c.in-Later-serve_once.ensures.ends.0)
+    (c.in-Later-serve_once.ensures.ends.1 ∙ c.loop.invariant.ends)
+
+pub returns-in-Later-serve_once-clause-acted : goal.returns-in-Later-serve_once-clause-acted
+returns-in-Later-serve_once-clause-acted g c =
+    acted_on (g.T.Talking.awaited, g.T.Talking.talk, g.L.Port.port)
+    (c.args.mux.now.roster, c.args.ends.now) (c.loop.mux.roster, c.loop.ends)
+    (c.serve_once-2.new.mux.roster, c.serve_once-2.new.ends) c.loop.invariant.acted c.serve_once-2.ensures.acted
+
+pub loop-preserved : goal.loop-preserved
+loop-preserved g c = record {
+  asked = (_, gains_push c.loop.invariant.asked.1 c.in-AsksMore.ensures.ends.0.1);
+  ends = c.in-AsksMore.ensures.ends.1 ∙ c.loop.invariant.ends;
+  others = λ other apart.
+      c.serve_once.ensures.others other apart ∙ c.loop.invariant.others other apart;
+  acted = acted_on (g.T.Talking.awaited, g.T.Talking.talk, g.L.Port.port)
+      (c.args.mux.now.roster, c.args.ends.now) (c.loop.mux.roster, c.loop.ends)
+      (c.serve_once.new.mux.roster, c.serve_once.new.ends) c.loop.invariant.acted
+      c.serve_once.ensures.acted;
+  ready = c.serve_once.ensures.ready;
+  linked = c.serve_once.ensures.linked;
+}

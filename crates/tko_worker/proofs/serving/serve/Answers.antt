@@ -18,7 +18,7 @@ returns-then-is_spent-clause-counted g c =
     (λ guest. g.T.Talking.asks_for guest.talk) c.args.mux.now c.is_spent.new.mux c.list.new.mux
     c.args.ends.now c.list.new.ends c.args.number c.args.due c.args.spent.now.items
     c.list.new.numbers.items (search rules)
-    (subst (λ e. ListEnds g.T.Talking.awaited (c.is_spent.new.mux, e) c.args.number
+    (subst (λ e. ListEnds (g.T.Talking.awaited, g.T.Talking.talk, g.L.Port.port) (c.is_spent.new.mux, e) c.args.number
     c.args.spent.now.items (c.list.new.mux, c.list.new.ends) c.list.new.numbers.items)
     (search rules) c.list.ensures.ends)
 

@@ -7,7 +7,7 @@ use Rattle.tko_worker.proofs.worker.Worker.pull.Goals as goal
 
 pub returns-then-not-read-clause-taken : goal.returns-then-not-read-clause-taken
 returns-then-not-read-clause-taken g c =
-    subst (λ (w : WorkerState _ _ _). HasNoResponse (λ guest. g.T.Talking.asks_for guest.talk) w.mux
+    subst (λ (w : WorkerState _ _ _). HasNoResponse (λ guest. g.T.Talking.waits_for guest.talk) w.mux
     c.args.server) (sym c.if-not-read.ensures.kept) c.if-not-take_all.ensures.taken
 
 pub returns-then-not-take_all-clause-acted : goal.returns-then-not-take_all-clause-acted

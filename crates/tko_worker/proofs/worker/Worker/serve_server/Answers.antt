@@ -4,7 +4,7 @@ use Rattle.tko_worker.proofs.worker.Worker.serve_server.Goals as goal
 
 pub returns-clause-taken : goal.returns-clause-taken
 returns-clause-taken g c =
-    none_kept (λ guest. g.T.Talking.asks_for guest.talk) c.pull.new.self c.expire.new.self
+    none_kept (λ guest. g.T.Talking.waits_for guest.talk) c.pull.new.self c.expire.new.self
     c.args.server c.expire.result c.expire.ensures.kept c.if-not-pull.ensures.taken
 
 pub returns-then-not-pull-clause-acted : goal.returns-then-not-pull-clause-acted

@@ -17,7 +17,8 @@ returns-in-Ok-Some-clause-order g c = record {
       (g.T.Talking.awaited, g.T.Talking.talk, g.L.Port.port) w.mux.roster.slots w.touched w.spent)
       (sym c.self.view_is) c.requires.order.nobody)
       (take_others (g.T.Talking.awaited, g.T.Talking.talk, g.L.Port.port)
-      (λ guest. g.T.Talking.asks_for guest.talk) c.self.inside.mux c.take.new.self c.args.server
+      (λ guest. g.T.Talking.asks_for guest.talk) (λ guest. g.T.Talking.waits_for guest.talk)
+      c.self.inside.mux c.take.new.self c.args.server
       c.args.due c.in-Ok-Some.delivery c.take.result c.take.ensures.read (search rules))
       c.list_reached.ensures.others c.list_reached.ensures.listed;
 }
@@ -27,7 +28,8 @@ returns-in-Ok-None-clause-order g c = record {
   ready = c.take.ensures.ready;
   linked = c.take.ensures.linked;
   nobody = unread_nobody (g.T.Talking.awaited, g.T.Talking.talk, g.L.Port.port)
-      (λ guest. g.T.Talking.asks_for guest.talk) c.self.inside.mux c.take.new.self c.args.server
+      (λ guest. g.T.Talking.asks_for guest.talk)
+      (λ guest. g.T.Talking.waits_for guest.talk) c.self.inside.mux c.take.new.self c.args.server
       c.args.due c.self.inside.touched.items c.self.inside.spent.items c.take.result
       c.take.ensures.read
       (λ delivery is. let none : c.take.result ≡ Ok None = search rules in
@@ -42,7 +44,8 @@ returns-in-Err-clause-order g c = record {
   ready = c.take.ensures.ready;
   linked = c.take.ensures.linked;
   nobody = unread_nobody (g.T.Talking.awaited, g.T.Talking.talk, g.L.Port.port)
-      (λ guest. g.T.Talking.asks_for guest.talk) c.self.inside.mux c.take.new.self c.args.server
+      (λ guest. g.T.Talking.asks_for guest.talk)
+      (λ guest. g.T.Talking.waits_for guest.talk) c.self.inside.mux c.take.new.self c.args.server
       c.args.due c.self.inside.touched.items c.self.inside.spent.items c.take.result
       c.take.ensures.read
       (λ delivery is. let both = sym c.in-Err.is ∙ is in let f : ⊥ = cc both in f)
@@ -54,7 +57,8 @@ returns-in-Err-clause-order g c = record {
 pub returns-in-Ok-Some-clause-taken : goal.returns-in-Ok-Some-clause-taken
 returns-in-Ok-Some-clause-taken g c =
     taken_by (g.T.Talking.awaited, g.T.Talking.talk, g.L.Port.port)
-    (λ guest. g.T.Talking.asks_for guest.talk) _ c.args.self.now c.take.new.self
+    (λ guest. g.T.Talking.asks_for guest.talk)
+    (λ guest. g.T.Talking.waits_for guest.talk) _ c.args.self.now c.take.new.self
     c.list_reached.new.mux c.list_reached.new.numbers.items c.list_reached.new.ends c.args.server
     c.args.due c.take.result
     (Ok (Some c.in-Ok-Some.delivery)) c.self.view_is (search rules) c.take.ensures.read
@@ -63,7 +67,8 @@ returns-in-Ok-Some-clause-taken g c =
 pub returns-in-Ok-None-clause-taken : goal.returns-in-Ok-None-clause-taken
 returns-in-Ok-None-clause-taken g c =
     taken_by (g.T.Talking.awaited, g.T.Talking.talk, g.L.Port.port)
-    (λ guest. g.T.Talking.asks_for guest.talk) _ c.args.self.now c.take.new.self c.take.new.self
+    (λ guest. g.T.Talking.asks_for guest.talk)
+    (λ guest. g.T.Talking.waits_for guest.talk) _ c.args.self.now c.take.new.self c.take.new.self
     c.self.inside.touched.items c.self.inside.ends c.args.server c.args.due c.take.result (Ok None)
     c.self.view_is
     (search rules) c.take.ensures.read (refl, refl)
@@ -71,7 +76,8 @@ returns-in-Ok-None-clause-taken g c =
 pub returns-in-Err-clause-taken : goal.returns-in-Err-clause-taken
 returns-in-Err-clause-taken g c =
     taken_by (g.T.Talking.awaited, g.T.Talking.talk, g.L.Port.port)
-    (λ guest. g.T.Talking.asks_for guest.talk) _ c.args.self.now c.take.new.self c.take.new.self
+    (λ guest. g.T.Talking.asks_for guest.talk)
+    (λ guest. g.T.Talking.waits_for guest.talk) _ c.args.self.now c.take.new.self c.take.new.self
     c.self.inside.touched.items c.self.inside.ends c.args.server c.args.due c.take.result _
     c.self.view_is
     c.in-Err.is c.take.ensures.read (refl, refl)
@@ -79,17 +85,20 @@ returns-in-Err-clause-taken g c =
 pub returns-in-Ok-Some-clause-acted : goal.returns-in-Ok-Some-clause-acted
 returns-in-Ok-Some-clause-acted g c =
     taken_acted (g.T.Talking.awaited, g.T.Talking.talk, g.L.Port.port)
-    (λ guest. g.T.Talking.asks_for guest.talk) c.args.self.now _ c.args.server c.args.due _
+    (λ guest. g.T.Talking.asks_for guest.talk)
+    (λ guest. g.T.Talking.waits_for guest.talk) c.args.self.now _ c.args.server c.args.due _
     (returns-in-Ok-Some-clause-taken g c)
 
 pub returns-in-Ok-None-clause-acted : goal.returns-in-Ok-None-clause-acted
 returns-in-Ok-None-clause-acted g c =
     taken_acted (g.T.Talking.awaited, g.T.Talking.talk, g.L.Port.port)
-    (λ guest. g.T.Talking.asks_for guest.talk) c.args.self.now _ c.args.server c.args.due _
+    (λ guest. g.T.Talking.asks_for guest.talk)
+    (λ guest. g.T.Talking.waits_for guest.talk) c.args.self.now _ c.args.server c.args.due _
     (returns-in-Ok-None-clause-taken g c)
 
 pub returns-in-Err-clause-acted : goal.returns-in-Err-clause-acted
 returns-in-Err-clause-acted g c =
     taken_acted (g.T.Talking.awaited, g.T.Talking.talk, g.L.Port.port)
-    (λ guest. g.T.Talking.asks_for guest.talk) c.args.self.now _ c.args.server c.args.due _
+    (λ guest. g.T.Talking.asks_for guest.talk)
+    (λ guest. g.T.Talking.waits_for guest.talk) c.args.self.now _ c.args.server c.args.due _
     (returns-in-Err-clause-taken g c)
