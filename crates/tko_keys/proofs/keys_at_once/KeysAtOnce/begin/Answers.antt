@@ -1,0 +1,71 @@
+use Rattle.std.proofs.Common.{◌≡◌, ◌+◌, ◌-◌, ◌^◌, ◌∷◌, ◌++◌, [], List, length, min, ap, subst, sym, rules, refl, ◌∙◌}
+use Rattle.tko_text.specs.declared.request.Request.{Request}
+use Rattle.tko_route.specs.Routing.{GoesOn}
+use Rattle.tko_reply.specs.Cuts.{KeyLost}
+use Rattle.tko_keys.specs.KeysDriven.{AreUnderWay, failed_with}
+use Rattle.tko_keys.specs.KeysState.{KeySlot, KeysState, MayBegin, values_ahead}
+use Rattle.tko_keys.proofs.EndLemmas.{ahead_push, begin_lost_ends, begun_ready}
+use Rattle.tko_keys.proofs.KeptLemmas.{held_push, places_of}
+use Rattle.tko_keys.proofs.keys_at_once.KeysAtOnce.begin.Goals as goal
+
+pub values_ahead-self-inside-requires : goal.values_ahead-self-inside-requires
+values_ahead-self-inside-requires g c =
+    let slots : c.deref.result.now ≡ c.self.inside.slots.items ++ c.begin-came.new.self ∷ [] =
+    c.deref.ensures.value ∙ c.push_reserved.ensures.items ∙ ap (λ (xs : List KeySlot). xs ++ c.begin-came.new.self ∷ []) c.make_room.ensures.slots in
+    ahead_push c.self.inside.slots.items _ _ c.begin-came.new.self c.self.invariant.1 slots
+
+pub values_ahead-self-inside-requires-in-Err : goal.values_ahead-self-inside-requires-in-Err
+values_ahead-self-inside-requires-in-Err g c =
+    let slots : c.deref-in-Err.result.now ≡ c.self.inside.slots.items ++ c.begin-came.new.self ∷ [] =
+    c.deref-in-Err.ensures.value ∙ c.push_reserved-in-Err.ensures.items ∙ ap (λ (xs : List KeySlot). xs ++ c.begin-came.new.self ∷ []) c.make_room.ensures.slots in
+    ahead_push c.self.inside.slots.items _ _ c.begin-came.new.self c.self.invariant.1 slots
+
+pub returns-in-Ok-came-clause-ready : goal.returns-in-Ok-came-clause-ready
+returns-in-Ok-came-clause-ready g c =
+    let ready = subst (AreUnderWay c.args.config.now) (sym c.self.view_is) c.requires.ready in
+    let may = subst MayBegin (sym c.self.view_is) c.requires.may in
+    begun_ready c.begin-came.new.self ready may c.in-Ok-came.ensures.ok
+    (c.push_reserved.ensures.items ∙ ap (λ (xs : List KeySlot). xs ++ c.begin-came.new.self ∷ []) c.make_room.ensures.slots)
+    (search rules) refl (search rules)
+
+pub returns-in-Err-clause-lost : goal.returns-in-Err-clause-lost
+returns-in-Err-clause-lost g c =
+    let ready = subst (AreUnderWay c.args.config.now) (sym c.self.view_is) c.requires.ready in
+    let may = subst MayBegin (sym c.self.view_is) c.requires.may in
+    let on = subst (λ (r : Request). GoesOn g.H.Health.steps c.args.health.now (λ calls. KeyLost c.args.config.now r calls c.in-Err.dropped) c.begin-came.new.health)
+    (ap (λ (k : KeySlot). k.key.request) c.of-slot.ensures) c.in-Err.ensures.lost in
+    (begin_lost_ends c.begin-came.new.self c.self.view_is ready may c.in-Ok-next_request.ensures.ok on c.in-Err.ensures.err
+    (c.push_reserved-in-Err.ensures.items ∙ ap (λ (xs : List KeySlot). xs ++ c.begin-came.new.self ∷ []) c.make_room.ensures.slots) c.make_room.ensures.asks).0
+
+pub returns-in-Err-clause-ready : goal.returns-in-Err-clause-ready
+returns-in-Err-clause-ready g c =
+    let ready = subst (AreUnderWay c.args.config.now) (sym c.self.view_is) c.requires.ready in
+    let may = subst MayBegin (sym c.self.view_is) c.requires.may in
+    let on = subst (λ (r : Request). GoesOn g.H.Health.steps c.args.health.now (λ calls. KeyLost c.args.config.now r calls c.in-Err.dropped) c.begin-came.new.health)
+    (ap (λ (k : KeySlot). k.key.request) c.of-slot.ensures) c.in-Err.ensures.lost in
+    (begin_lost_ends c.begin-came.new.self c.self.view_is ready may c.in-Ok-next_request.ensures.ok on c.in-Err.ensures.err
+    (c.push_reserved-in-Err.ensures.items ∙ ap (λ (xs : List KeySlot). xs ++ c.begin-came.new.self ∷ []) c.make_room.ensures.slots) c.make_room.ensures.asks).1
+
+pub invariant_of-self-in-Ok-came : goal.invariant_of-self-in-Ok-came
+invariant_of-self-in-Ok-came g c =
+    let ready = subst (AreUnderWay c.args.config.now) (sym c.self.view_is) c.requires.ready in
+    let may = subst MayBegin (sym c.self.view_is) c.requires.may in
+    let slots : c.push_reserved.new.self.items ≡ c.self.inside.slots.items ++ c.begin-came.new.self ∷ [] =
+    c.push_reserved.ensures.items ∙ ap (λ (xs : List KeySlot). xs ++ c.begin-came.new.self ∷ []) c.make_room.ensures.slots in
+    let New : KeysState = record {
+      unique = c.self.inside.unique;
+      left = [];
+      slots = c.push_reserved.new.self.items;
+      asks = c.note_ask.new.asks.items;
+      most = c.self.inside.most;
+      failed = failed_with c.begin-came.new.self c.self.inside.failed;
+      lost = c.self.inside.lost;
+    } in
+    let after : AreUnderWay c.args.config.now New = begun_ready {new = New} c.begin-came.new.self ready may c.in-Ok-came.ensures.ok slots (search rules) refl refl in
+    let count : c.len.result ≡ length c.begin-came.new.self.outbox = search rules in
+    let sum : c.saturating_add-self-inside.result ≡ min (c.self.inside.held + c.len.result) (2 ^ 64 - 1) = search rules in (
+      c.in-Ok-next_request.ensures.alone,
+      c.values_ahead-self-inside.ensures ∙ ap values_ahead c.deref.ensures.value,
+      places_of New after,
+      held_push c.self.inside.slots.items c.push_reserved.new.self.items c.begin-came.new.self c.len.result c.self.inside.held c.saturating_add-self-inside.result slots c.self.invariant.3 count sum,
+    )

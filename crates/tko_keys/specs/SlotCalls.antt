@@ -1,0 +1,80 @@
+-- What the calls of one key among several make of it.
+use Rattle.std.specs.Prelude.{◌≡◌, List, [], Option, Some, None}
+use Rattle.tko_text.specs.declared.request.Request.{Request}
+use Rattle.tko_text.specs.SentRequests.{without_noreply}
+use Rattle.tko_links.specs.declared.links.Outcome.{Outcome}
+use Rattle.tko_pools.specs.Configs.{AreServers, Configuration}
+use Rattle.tko_route.specs.Calls.{Call}
+use Rattle.tko_route.specs.Trail.{form_at}
+use Rattle.tko_route.specs.Underway.{Awaited}
+use Rattle.tko_route.specs.declared.attempt.Attempt.{Attempt}
+use Rattle.tko_route.specs.declared.routing.Stage.{Stage}
+use Rattle.tko_route.specs.declared.routing.Stage.TheVariants as stage
+use Rattle.tko_reply.specs.Asking.{Goes, GoesTo, course_of}
+use Rattle.tko_reply.specs.Cuts.{EndsBy}
+use Rattle.tko_reply.specs.Sends.{AfterSend, IsSent}
+use Rattle.tko_reply.specs.Standing.{asking, one_of}
+use Rattle.tko_reply.specs.declared.asking.Share.TheVariants as share
+use Rattle.tko_keys.specs.declared.step.KeyStep.{KeyStep}
+use Rattle.tko_keys.specs.declared.step.KeyStep.TheVariants as step
+use Rattle.tko_keys.specs.KeysState.{KeySlot}
+
+-- what a call says where a key came so far
+abbrev pub key_step : Stage → KeyStep
+key_step (stage.Away clear waiting) = step.Asks clear
+key_step (stage.Done trail) = step.Tried trail
+
+-- what the key waits for there
+abbrev pub wait_at : Stage → Option Awaited
+wait_at (stage.Away clear waiting) = Some waiting
+wait_at (stage.Done trail) = None
+
+-- a key that is asked for by this request, before anything is done for it
+abbrev pub fresh_slot : Request → KeySlot
+fresh_slot request =
+    record { key = one_of request; targets = []; outbox = []; waiting = None }
+
+module _ (config : Configuration) where
+  -- its request is under way to one of its targets, which are servers, and it has no response yet
+  pub record IsSlotOut (slot : KeySlot) (waiting : Awaited) : Type 0 where
+    pub out : slot.waiting ≡ Some waiting
+    pub sent : IsSent config slot.targets (asking waiting slot.key)
+    pub apart : slot.key.share ≡ share.Joined 0 []
+    pub empty : slot.outbox ≡ []
+
+  pub record IsAnyOut (slot : KeySlot) : Type 0 where
+    pub waiting : Awaited
+    pub is : IsSlotOut slot waiting
+
+  -- it was asked for over its targets, which are servers
+  pub record SlotBegun (request : Request) (calls : List Call) (said : KeyStep) (slot : KeySlot)
+      : Type 0 where
+    pub at : Stage
+    pub goes : Goes (course_of config slot.targets (one_of request) (without_noreply request))
+        calls [] at slot.key slot.outbox
+    pub aims : GoesTo config request slot.targets
+    pub within : AreServers config slot.targets
+    pub waits : slot.waiting ≡ wait_at at
+    pub says : said ≡ key_step at
+
+  -- what came of its send was recorded
+  pub record SlotTaken (outcome : Outcome) (old : KeySlot) (calls : List Call) (said : KeyStep)
+      (new : KeySlot) : Type 0 where
+    pub waiting : Awaited
+    pub out : old.waiting ≡ Some waiting
+    pub at : Stage
+    pub goes : AfterSend config (asking waiting old.key) outcome (λ original before. Goes
+        (course_of config old.targets old.key original) (before calls)
+        old.outbox at new.key new.outbox)
+    pub same : new.targets ≡ old.targets
+    pub waits : new.waiting ≡ wait_at at
+    pub says : said ≡ key_step at
+
+  -- memory ran out there, after these attempts
+  pub record SlotDropped (outcome : Outcome) (old : KeySlot) (calls : List Call)
+      (attempts : List Attempt) (new : KeySlot) : Type 0 where
+    pub waiting : Awaited
+    pub out : old.waiting ≡ Some waiting
+    pub ended : new.waiting ≡ None
+    pub lost : AfterSend config (asking waiting old.key) outcome (λ original before. EndsBy
+        old.targets (form_at config.failover_exptime original) (before calls) attempts)

@@ -1,0 +1,149 @@
+//! The keys of one request for several, of which some are under way at once.
+ghost use Rattle.std.specs.Prelude.{◌≡◌, ◌≢◌, ◌<◌, ◌↔◌, ◌-◌, ◌^◌, min, [], IfOk, IsTrue, length};
+ghost use Rattle.tko_reply.specs.Answers.{request_keys};
+ghost use Rattle.tko_keys.specs.KeysDriven.{with_loss};
+ghost use Rattle.tko_keys.specs.KeysState.{IsComplete, IsNew, MayBegin, awaited, held_in};
+
+use crate::ask::Ask;
+use crate::slot::Slot;
+use std::alloc::Global;
+use std::marker::Model;
+use tko_bytes::NoMemory;
+use tko_reply::{KeysLeft, split_keys};
+use tko_text::Request;
+
+mod beginning;
+mod finishing;
+mod outcomes;
+mod places;
+mod reading;
+
+/// The keys of one request for several. It sends nothing itself and borrows nothing between two
+/// calls.
+#[derive(Drop)]
+pub struct KeysAtOnce {
+    /// Whether their cas numbers are asked for too.
+    unique: bool,
+    /// The request for the first key, until that is begun, and the later keys that were not.
+    first: Option<Request>,
+    left: KeysLeft,
+    /// The keys that were begun, in the order of the request.
+    slots: Vec<Slot>,
+    /// The requests that are under way, in the order in which they were asked.
+    asks: Vec<Ask>,
+    /// So many keys from the first one on got lists of values.
+    ahead: usize,
+    most: usize,
+    /// A key got no list of values, or memory ran out for one.
+    failed: bool,
+    lost: bool,
+    /// So many attempts at the key of the last call were told before it.
+    told: usize,
+    /// So many bytes of responses are kept.
+    held: usize,
+}
+
+impl Model for KeysAtOnce {
+    ghost use Rattle.std.specs.Prelude.{◌≡◌, ◌-◌, ◌^◌, min};
+    ghost use Rattle.tko_keys.specs.FirstKey.{IsAlone, keys_with};
+    ghost use Rattle.tko_keys.specs.KeysState.{HavePlaces, KeysState, held_in, values_ahead};
+
+    ghost Value = { KeysState };
+
+    ghost view = { λ k. record {
+      unique = k.unique;
+      left = keys_with k.first k.left;
+      slots = k.slots.items;
+      asks = k.asks.items;
+      most = k.most;
+      failed = k.failed;
+      lost = k.lost;
+    } };
+
+    ghost invariant = { λ k. IsAlone k.unique k.first × (k.ahead ≡ values_ahead k.slots.items)
+        × HavePlaces k.slots.items k.asks.items
+        × (k.held ≡ min (held_in k.slots.items) (2 ^ 64 - 1)) };
+}
+
+impl KeysAtOnce {
+    /// The keys of a request for several, of which at most `most` are to be under way at once.
+    pub fn new(alloc: Global, mut request: Request, most: usize) -> Result<KeysAtOnce, NoMemory>
+        requires several { 1 < length (request_keys request) }
+        requires some { 0 < most }
+        ensures { IfOk result (λ keys. IsNew request most keys) }
+    {
+        let left = split_keys(&mut request, alloc)?;
+        let unique = matches!(request, Request::Gets { .. });
+        Ok(KeysAtOnce {
+            unique,
+            first: Some(request),
+            left,
+            slots: Vec::new(alloc),
+            asks: Vec::new(alloc),
+            ahead: 0,
+            most,
+            failed: false,
+            lost: false,
+            told: 0,
+            held: 0,
+        })
+    }
+
+    /// Whether one more key may be begun now.
+    pub fn may_begin(&self) -> bool
+        ensures { IsTrue result ↔ MayBegin self.now }
+    {
+        self.has_left()
+            && !self.failed
+            && !self.lost
+            && self.asks.len() < self.most
+            && self.slots.len().saturating_sub(self.ahead) < self.most
+    }
+
+    /// Whether there are keys that were not begun.
+    fn has_left(&self) -> bool
+        ensures { IsTrue result ↔ (self.now.left ≢ []) }
+    {
+        self.first.is_some() || !self.left.is_empty()
+    }
+
+    /// Whether requests of it are under way.
+    pub fn is_waiting(&self) -> bool
+        ensures { IsTrue result ↔ (awaited self.now ≢ []) }
+    {
+        !self.asks.is_empty()
+    }
+
+    /// Whether nothing is under way, and no key may be begun.
+    pub fn is_complete(&self) -> bool
+        ensures { IsTrue result ↔ IsComplete self.now }
+    {
+        self.asks.is_empty() && !self.may_begin()
+    }
+
+    /// Whether memory ran out for a key, so that the request is to be dropped once it is complete.
+    pub fn is_lost(&self) -> bool
+        ensures { result ≡ self.now.lost }
+    {
+        self.lost
+    }
+
+    /// The trail of the key that ended last could not be recorded, since memory ran out.
+    pub fn lose(&mut self)
+        ensures { self.new ≡ with_loss self.old }
+    {
+        self.lost = true;
+    }
+
+    /// How many bytes of responses are kept.
+    pub fn held(&self) -> usize
+        ensures { result ≡ min (held_in self.now.slots) (2 ^ 64 - 1) }
+    {
+        self.held
+    }
+
+    /// How many attempts at the key of the last call there were before that call.
+    pub fn told(&self) -> usize {
+        self.told
+    }
+}

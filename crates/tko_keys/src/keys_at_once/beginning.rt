@@ -1,0 +1,119 @@
+//! How a key is begun.
+ghost use Rattle.std.specs.Prelude.{◌≡◌, ◌≢◌, ◌<◌, ◌++◌, IfErr, IfOk, OnErr, OnOk, [], length, vec_capacity, vec_len};
+ghost use Rattle.tko_route.specs.Routing.{GoesOn};
+ghost use Rattle.tko_reply.specs.Answering.{retrieval};
+ghost use Rattle.tko_keys.specs.FirstKey.{IsAlone, TakesNext, keys_with};
+ghost use Rattle.tko_keys.specs.KeysDriven.{AreUnderWay, NextBegun, NextLost};
+ghost use Rattle.tko_keys.specs.KeysState.{MayBegin};
+
+use super::KeysAtOnce;
+use super::places::{failed_with, note_ask, values_ahead};
+use crate::ask::Ask;
+use crate::slot::Slot;
+use crate::step::KeyStep;
+use std::alloc::Global;
+use std::mem::replace;
+use std::sync::Wait;
+use tko_bytes::NoMemory;
+use tko_pools::Config;
+use tko_reply::{Dropped, KeysLeft};
+use tko_route::Health;
+use tko_text::{Keys, Request};
+
+impl KeysAtOnce {
+    /// Begins to route the next key. Where memory runs out, no other key is begun.
+    pub fn begin<R: Wait, H: Health>(
+        &mut self,
+        rt: &R,
+        alloc: Global,
+        health: &mut H,
+        config: &Config,
+    ) -> Result<KeyStep, Dropped>
+        requires servers { H.servers health.old ≡ length config.now.addresses }
+        requires ready { AreUnderWay config.now self.old }
+        requires may { MayBegin self.old }
+        ensures ok { IfOk result (λ said. GoesOn H.steps health.old
+            (λ calls. NextBegun config.now self.old calls said self.new) health.new) }
+        ensures lost { IfErr result (λ attempts. GoesOn H.steps health.old
+            (λ calls. NextLost config.now self.old calls attempts self.new) health.new) }
+        ensures ready { AreUnderWay config.now self.new }
+        ensures servers { H.servers health.new ≡ H.servers health.old }
+    {
+        self.told = 0;
+        let Ok(()) = make_room(&mut self.slots, &mut self.asks) else {
+            self.lost = true;
+            return Err(Dropped::from(NoMemory));
+        };
+        let unique = self.unique;
+        let Ok(request) = next_request(alloc, unique, &mut self.first, &mut self.left) else {
+            self.lost = true;
+            return Err(Dropped::from(NoMemory));
+        };
+        let mut slot = Slot::of(alloc, request);
+        let came = slot.begin(rt, alloc, health, config);
+        self.held = self.held.saturating_add(slot.outbox.len());
+        match came {
+            Ok(step) => {
+                note_ask(&mut self.asks, self.slots.len(), &slot.waiting);
+                self.failed = failed_with(&slot, self.failed);
+                self.slots.push_reserved(slot);
+                self.ahead = values_ahead(&self.slots, self.ahead);
+                Ok(step)
+            }
+            Err(dropped) => {
+                self.slots.push_reserved(slot);
+                self.ahead = values_ahead(&self.slots, self.ahead);
+                self.lost = true;
+                Err(dropped)
+            }
+        }
+    }
+}
+
+/// Makes room for one more key, and for its request.
+fn make_room(slots: &mut Vec<Slot>, asks: &mut Vec<Ask>) -> Result<(), NoMemory>
+    ensures slots { slots.new.items ≡ slots.old.items }
+    ensures asks { asks.new.items ≡ asks.old.items }
+    ensures room { OnOk result (vec_len slots.new < vec_capacity slots.new) }
+    ensures ask_room { OnOk result (vec_len asks.new < vec_capacity asks.new) }
+{
+    slots.reserve(1)?;
+    asks.reserve(1)?;
+    Ok(())
+}
+
+/// Takes the next key, as a request for it alone.
+fn next_request(
+    alloc: Global,
+    unique: bool,
+    first: &mut Option<Request>,
+    left: &mut KeysLeft,
+) -> Result<Request, NoMemory>
+    requires alone { IsAlone unique first.old }
+    requires some { keys_with first.old left.old ≢ [] }
+    ensures ok { IfOk result (λ request. TakesNext unique (keys_with first.old left.old)
+        request (keys_with first.new left.new)) }
+    ensures err { OnErr result (keys_with first.new left.new ≡ keys_with first.old left.old) }
+    ensures alone { IsAlone unique first.new }
+{
+    if let Some(request) = replace(first, None) {
+        return Ok(request);
+    }
+    let mut keys = Vec::with_capacity(alloc, 1)?;
+    let Some(key) = left.next() else {
+        unreachable!();
+    };
+    keys.push_reserved(key);
+    Ok(request_of(unique, Keys::new(keys)))
+}
+
+/// A request for the values of these keys, with their cas numbers or without.
+fn request_of(unique: bool, keys: Keys) -> Request
+    ensures { result ≡ retrieval keys unique }
+{
+    if unique {
+        Request::Gets { keys }
+    } else {
+        Request::Get { keys }
+    }
+}
