@@ -1,28 +1,23 @@
 -- What each act adds to a client's life.
-use Rattle.std.proofs.Common.{◌≡◌, ◌≤◌, ℕ, false, List, [], ◌++◌, Option, Some, None, length, take, drop, refl, sym, ap, subst, ◌∙◌, append_assoc, append-nil}
-use Rattle.std.specs.Prelude.{◌-◌}
-use Rattle.std.proofs.lemmas.List.{drop-append-le, length-drop, take-append-drop, take-append-le}
-use Rattle.tko_text.specs.Reading.{Gives, Reading, fed, start}
-use Rattle.tko_text.specs.declared.request.Request.{Request}
+use Rattle.std.proofs.Common.{◌≡◌, ℕ, false, List, [], ◌++◌, Option, Some, None, take, refl, sym, ap, subst, ◌∙◌, append-nil}
+use Rattle.tko_text.specs.Reading.{Gives, fed, start}
 use Rattle.tko_text.proofs.GivesLemmas.{Gives-fed}
 use Rattle.tko_text.proofs.CuttingLemmas.{fed-fed}
 use Rattle.tko_pools.specs.Configs.{Configuration}
-use Rattle.tko_reply.specs.Answering.{Extends}
 use Rattle.tko_reply.specs.Interactions.{Interaction}
-use Rattle.tko_reply.specs.Replies.{joined}
-use Rattle.tko_reply.specs.Standing.{Asking, shifted_key, shifted_share}
-use Rattle.tko_reply.specs.declared.asking.OneKey.{OneKey}
+use Rattle.tko_keys.specs.KeysState.{KeysState, reply_in}
 use Rattle.tko_session.specs.Acts.{IsAct, IsSessionCall, phase_after}
 use Rattle.tko_session.specs.Acts as act
-use Rattle.tko_session.specs.Clients.{Client, Short, Over, IsClientShort, IsClient, IsClientIn, IsClientOver, IsClientOpen, HasPending, Life, ClientPhase, Open, items_under, life, lived, no_life}
-use Rattle.tko_session.specs.Outgoing.{AreOutgoing, AreOutgoingIn, sent_from, shifted_begin, shifted_work}
+use Rattle.tko_session.specs.Driven.{dropped}
+use Rattle.tko_session.specs.Handing.{replied_by}
+use Rattle.tko_session.specs.Clients.{Client, Short, Over, IsClient, IsClientIn, IsClientOpen, HasPending, Life, ClientPhase, Open, items_under, life, lived, no_life}
+use Rattle.tko_session.specs.Outgoing.{sent_from}
 use Rattle.tko_session.specs.SessionState.{SessionState, fed_state, items_of}
-use Rattle.tko_session.specs.SoFar.{AsksForKey, HasJoined, IsKeyPast, IsOneKeyOf, IsPendingAt, IsSentFor, Pending}
-use Rattle.tko_session.specs.SoFar as so_far
-use Rattle.tko_session.specs.Working.{Between, Work}
-use Rattle.tko_session.specs.Working as work
+use Rattle.tko_session.specs.SoFar.{Pending}
 use Rattle.tko_session.proofs.ClientLemmas.{loses, took_open, went_open}
-use Rattle.tko_session.proofs.LifeLemmas.{HasTurned, IsOnWith, between_or_awaits, between_or_ended, between_or_read, did, idle_open, lived_did, on_open, open_idle, open_on}
+use Rattle.tko_session.proofs.HandedLemmas.{hand_open, keyed_open, keys_short, replied_open}
+use Rattle.tko_session.proofs.LifeLemmas.{did, lived_did}
+use Rattle.tko_session.proofs.WroteLemmas.{wrote_in}
 
 pub same_life : {bytes bytes' sent sent' : List ℕ} {done done' : List Interaction} → bytes ≡ bytes' → sent ≡ sent' → done ≡ done' → life bytes sent done ≡ life bytes' sent' done'
 same_life e f g = rw (e, f, g) refl
@@ -36,208 +31,32 @@ lived_wrote it text = same_life (append-nil it.bytes) refl (append-nil it.done)
 lived_none : (it : Life) → lived it no_life ≡ it
 lived_none it = same_life (append-nil it.bytes) (append-nil it.sent) (append-nil it.done)
 
--- the first bytes of what waits were written
-wrote_text : (count : ℕ) (sent waiting text : List ℕ) → sent ++ waiting ≡ text → (sent ++ take count waiting) ++ drop count waiting ≡ text
-wrote_text count sent waiting text is =
-    append_assoc sent (take count waiting) (drop count waiting) ∙ ap (λ xs. sent ++ xs) (take-append-drop count waiting) ∙ is
+under_unowed : (most : ℕ) (keys : Option KeysState) (config : Configuration) (state : SessionState) (under : Option Pending) → HasPending most keys config under state → HasPending most keys config under (record state { owes = false })
+under_unowed most keys config state None at = at
+under_unowed most keys config state (Some it) at = at
 
--- a key that is asked for, where the reply begins earlier
-one_earlier : {request : Request} {begin begin' : ℕ} {key : List ℕ} {left : List (List ℕ)} {one : OneKey} (count : ℕ) → begin - count ≡ begin'
-    → IsOneKeyOf request begin key left one → IsOneKeyOf request begin' key left (shifted_key count one)
-one_earlier {left = left} count same is = record {
-  all = is.all;
-  unique = is.unique;
-  whole = is.whole;
-  some = is.some;
-  alone = ap (shifted_key count) is.alone ∙ rw same refl;
-}
-
-asks_earlier : {request : Request} {begin begin' : ℕ} {key : List ℕ} {left : List (List ℕ)} {one : OneKey} (count : ℕ) → begin - count ≡ begin'
-    → AsksForKey request begin key left one → AsksForKey request begin' key left (shifted_key count one)
-asks_earlier count same (so_far.only keys none is) = so_far.only keys none (ap (shifted_key count) is)
-asks_earlier count same (so_far.one_of is) = so_far.one_of (one_earlier count same is)
-
--- the same request, before which less waits
-abbrev behind : ℕ → Pending → Pending
-behind count it = record it { front = drop count it.front }
-
-dropped_front : (count : ℕ) (front more outbox : List ℕ) → count ≤ length front → outbox ≡ front ++ more → drop count outbox ≡ drop count front ++ more
-dropped_front count front more outbox within is = ap (drop count) is ∙ drop-append-le count front more within
-
-module _ {config : Configuration} where
-  joined_earlier : {it : Pending} {left : List (List ℕ)} {outbox : List ℕ} (count : ℕ) → count ≤ length it.front
-      → HasJoined config it left outbox → HasJoined config (behind count it) left (drop count outbox)
-  joined_earlier {it} {outbox = outbox} count within on = record {
-    routed = on.routed;
-    keys = on.keys;
-    each = on.each;
-    values = on.values;
-    appended = dropped_front count it.front (joined on.routed) outbox within on.appended;
-  }
-
-  past_earlier : {it : Pending} {one : OneKey} {outbox : List ℕ} (count : ℕ) → count ≤ length it.front → length it.front - count ≡ length (drop count it.front)
-      → IsKeyPast config it one outbox → IsKeyPast config (behind count it) (shifted_key count one) (drop count outbox)
-  past_earlier {it} {outbox = outbox} count within same (so_far.complete silent is by_key done) =
-      so_far.complete silent (ap (shifted_share count) is) by_key
-      (record { routed = done.routed; text = done.text; answers = done.answers; appended = dropped_front count it.front done.text outbox within done.appended })
-  past_earlier count within same (so_far.values key left is on) =
-      so_far.values key left (one_earlier count same is) (joined_earlier count within on)
-
-  sent_earlier : {it : Pending} {asking : Asking} {targets outbox : List ℕ} (count : ℕ) → count ≤ length it.front → length it.front - count ≡ length (drop count it.front)
-      → IsSentFor config it asking targets outbox
-      → IsSentFor config (behind count it) (record asking { key = shifted_key count asking.key }) targets (drop count outbox)
-  sent_earlier count within same sent = record {
-    key = sent.key;
-    left = sent.left;
-    first = shifted_key count sent.first;
-    before = sent.before;
-    calls = sent.calls;
-    asks = asks_earlier count same sent.asks;
-    so_far = joined_earlier count within sent.so_far;
-    aims = sent.aims;
-    awaits = sent.awaits;
-    found = sent.found;
-    keeps = ap (shifted_key count) sent.keeps;
-    are = sent.are;
-  }
-
-module _ (config : Configuration) where
-  -- the replies before a request are there while it is under way
-  front_of : (it : Pending) (targets outbox : List ℕ) (at : Work) → IsPendingAt config it at targets outbox → Extends it.front outbox
-  front_of it targets outbox work.Between never = absurd never
-  front_of it targets outbox (work.Read one) (is, none, same) = record { more = []; is = same ∙ sym (append-nil it.front) }
-  front_of it targets outbox (work.Awaits asking) sent = record { more = joined sent.so_far.routed; is = sent.so_far.appended }
-  front_of it targets outbox (work.Ended one) (so_far.complete silent is by_key done) = record { more = done.text; is = done.appended }
-  front_of it targets outbox (work.Ended one) (so_far.values key left is on) = record { more = joined on.routed; is = on.appended }
-
-  far_earlier : (it : Pending) (targets outbox : List ℕ) (count : ℕ) (at : Work) → count ≤ length it.front → length it.front - count ≡ length (drop count it.front)
-      → IsPendingAt config it at targets outbox → IsPendingAt config (behind count it) (shifted_work count at) targets (drop count outbox)
-  far_earlier it targets outbox count work.Between within same never = absurd never
-  far_earlier it targets outbox count (work.Read one) within same (is, none, front) = (ap (shifted_key count) is, none, ap (drop count) front)
-  far_earlier it targets outbox count (work.Awaits asking) within same sent = sent_earlier count within same sent
-  far_earlier it targets outbox count (work.Ended one) within same past = past_earlier count within same past
-
-module _ {config : Configuration} where
-  wrote_turned : {it : Life} {front : List ℕ} {left : Reading} {requests : ℕ} {last : List Interaction} (count : ℕ) → HasTurned config it front left requests last
-      → HasTurned config (life it.bytes (it.sent ++ take count front) it.done) (drop count front) left requests last
-  wrote_turned {it} {front} count base = record {
-    turns = base.turns;
-    turned = base.turned;
-    each = base.each;
-    goes_on = base.goes_on;
-    gives = base.gives;
-    text = wrote_text count it.sent front _ base.text;
-    are = base.are;
-    counted = base.counted;
-  }
-
-  -- replies went to a client, while no request is under way
-  wrote_idle : {it : Life} {state : SessionState} (count begin : ℕ) → IsClientOpen config it state → state.work ≡ Between
-      → IsClientOpen config (life it.bytes (it.sent ++ take count state.outbox) it.done) (record state { outbox = drop count state.outbox; begin = begin })
-  wrote_idle count begin s is = idle_open (wrote_turned count (open_idle s is)) is
-
-  wrote_on : {it : Life} {state : SessionState} (count : ℕ) (at : Work) → count ≤ state.begin → IsClientOpen config it state → state.work ≡ at → IsOnWith config it state at
-      → IsClientOpen config (life it.bytes (it.sent ++ take count state.outbox) it.done)
-      (record state { outbox = drop count state.outbox; begin = state.begin - count; work = shifted_work count at })
-  wrote_on {it} {state} count at within s is on =
-      let front = on.under.front in
-      let inside : count ≤ length front = subst (λ n. count ≤ n) on.on.begin within in
-      let less : length front - count ≡ length (drop count front) = sym (length-drop count front) in
-      let all = front_of config on.under state.targets state.outbox at on.far in
-      let first : take count state.outbox ≡ take count front = ap (take count) all.is ∙ take-append-le count front all.more inside in
-      let after : SessionState = record state { outbox = drop count state.outbox; begin = state.begin - count; work = shifted_work count at } in
-      subst (λ xs. IsClientOpen config (life it.bytes (it.sent ++ xs) it.done) after) (sym first)
-      (on_open {state = after} (behind count on.under)
-      (record { left = on.on.left; base = wrote_turned count on.on.base; emits = on.on.emits; begin = ap (λ n. n - count) on.on.begin ∙ less })
-      (far_earlier config on.under state.targets state.outbox count at inside less on.far))
-
-  wrote_by : {it : Life} {state : SessionState} (count : ℕ) (at : Work) → AreOutgoingIn at state.begin count → IsClientOpen config it state → state.work ≡ at
-      → IsClientOpen config (life it.bytes (it.sent ++ take count state.outbox) it.done)
-      (record state { outbox = drop count state.outbox; begin = shifted_begin count at state.begin; work = shifted_work count at })
-  wrote_by {it} {state} count work.Between within s is =
-      subst (λ w. IsClientOpen config (life it.bytes (it.sent ++ take count state.outbox) it.done) (record state { outbox = drop count state.outbox; work = w }))
-      is (wrote_idle count state.begin s is)
-  wrote_by count (work.Read one) within s is = wrote_on count (work.Read one) within s is (open_on (work.Read one) s is (between_or_read one))
-  wrote_by count (work.Awaits asking) within s is = wrote_on count (work.Awaits asking) within s is (open_on (work.Awaits asking) s is (between_or_awaits asking))
-  wrote_by count (work.Ended one) within s is = wrote_on count (work.Ended one) within s is (open_on (work.Ended one) s is (between_or_ended one))
-
--- what stays of a session whose first bytes were written, and which has no request under way
-record IsLess (count : ℕ) (old new : SessionState) : Type 0 where
-  waits : new.outbox ≡ drop count old.outbox
-  reading : new.reading ≡ old.reading
-  requests : new.requests ≡ old.requests
-  between : new.work ≡ Between
-
-less : (count : ℕ) (old : SessionState) → old.work ≡ Between → IsLess count old (sent_from old count)
-less count old at = record {
-  waits = refl;
-  reading = refl;
-  requests = refl;
-  between = ap (shifted_work count) at;
-}
-
-wrote_over : (config : Configuration) (it : Life) (count : ℕ) (old new : SessionState) → IsClientOver config it old → IsLess count old new
-    → IsClientOver config (life it.bytes (it.sent ++ take count old.outbox) it.done) new
-wrote_over config it count old new f by = record {
-  turns = f.turns;
-  each = f.each;
-  at = by.between;
-  ends = f.ends;
-  gives = subst (λ r. Gives (fed start it.bytes) (items_of f.turns) r) (sym by.reading) f.gives;
-  text = ap (λ xs. (it.sent ++ take count old.outbox) ++ xs) by.waits ∙ wrote_text count it.sent old.outbox _ f.text;
-  requests = rw by.requests f.requests;
-}
-
-wrote_short : (config : Configuration) (it : Life) (count : ℕ) (old new : SessionState) → IsClientShort config it old → IsLess count old new
-    → IsClientShort config (life it.bytes (it.sent ++ take count old.outbox) it.done) new
-wrote_short config it count old new f by = record {
-  turns = f.turns;
-  turned = f.turned;
-  left = f.left;
-  last = f.last;
-  each = f.each;
-  at = by.between;
-  goes_on = f.goes_on;
-  gives = f.gives;
-  cut = f.cut;
-  text = ap (λ xs. (it.sent ++ take count old.outbox) ++ xs) by.waits ∙ wrote_text count it.sent old.outbox _ f.text;
-  are = f.are;
-  requests = rw by.requests f.requests;
-}
-
--- replies went to a client
-wrote_in : (config : Configuration) (it : Life) (count : ℕ) (old : SessionState) (phase : ClientPhase) → IsClientIn phase config it old → AreOutgoing old count
-    → IsClientIn phase config (life it.bytes (it.sent ++ take count old.outbox) it.done) (sent_from old count)
-wrote_in config it count old Open is within = wrote_by count old.work within is refl
-wrote_in config it count old Over is within = wrote_over config it count old (sent_from old count) is (less count old is.at)
-wrote_in config it count old Short is within = wrote_short config it count old (sent_from old count) is (less count old is.at)
-
-under_unowed : (config : Configuration) (state : SessionState) (under : Option Pending) → HasPending config under state → HasPending config under (record state { owes = false })
-under_unowed config state None at = at
-under_unowed config state (Some it) at = at
-
-under_fed : (config : Configuration) (state : SessionState) (piece : List ℕ) (under : Option Pending) → HasPending config under state → HasPending config under (fed_state state piece)
-under_fed config state piece None at = at
-under_fed config state piece (Some it) at = at
+under_fed : (most : ℕ) (keys : Option KeysState) (config : Configuration) (state : SessionState) (piece : List ℕ) (under : Option Pending) → HasPending most keys config under state → HasPending most keys config under (fed_state state piece)
+under_fed most keys config state piece None at = at
+under_fed most keys config state piece (Some it) at = at
 
 -- the round that a session owed was run
-round_in : (config : Configuration) (it : Life) (old : SessionState) (phase : ClientPhase) → IsClientIn phase config it old
-    → IsClientIn phase config it (record old { owes = false })
-round_in config it old Open s = record {
+round_in : (most : ℕ) (keys : Option KeysState) (config : Configuration) (it : Life) (old : SessionState) (phase : ClientPhase) → IsClientIn phase most keys config it old
+    → IsClientIn phase most keys config it (record old { owes = false })
+round_in most keys config it old Open s = record {
   turns = s.turns;
   turned = s.turned;
   under = s.under;
   each = s.each;
-  at = under_unowed config old s.under s.at;
+  at = under_unowed most keys config old s.under s.at;
   goes_on = s.goes_on;
   gives = s.gives;
   text = s.text;
   are = s.are;
   requests = s.requests;
 }
-round_in config it old Over f =
+round_in most keys config it old Over f =
     record { turns = f.turns; each = f.each; at = f.at; ends = f.ends; gives = f.gives; text = f.text; requests = f.requests }
-round_in config it old Short f = record {
+round_in most keys config it old Short f = record {
   turns = f.turns;
   turned = f.turned;
   left = f.left;
@@ -253,15 +72,15 @@ round_in config it old Short f = record {
 }
 
 -- bytes came from a client
-fed_in : (config : Configuration) (it : Life) (state : SessionState) (piece : List ℕ) → IsClientOpen config it state
-    → IsClientOpen config (life (it.bytes ++ piece) it.sent it.done) (fed_state state piece)
-fed_in config it state piece s =
+fed_in : (most : ℕ) (keys : Option KeysState) (config : Configuration) (it : Life) (state : SessionState) (piece : List ℕ) → IsClientOpen most keys config it state
+    → IsClientOpen most keys config (life (it.bytes ++ piece) it.sent it.done) (fed_state state piece)
+fed_in most keys config it state piece s =
     let items = items_of s.turns ++ items_under s.under in record {
       turns = s.turns;
       turned = s.turned;
       under = s.under;
       each = s.each;
-      at = under_fed config state piece s.under s.at;
+      at = under_fed most keys config state piece s.under s.at;
       goes_on = s.goes_on;
       gives =
           subst (λ r. Gives r items (fed state.reading piece)) (fed-fed start it.bytes piece)
@@ -272,34 +91,62 @@ fed_in config it state piece s =
     }
 
 -- a client's session made a call
-steps : (config : Configuration) (it : Life) (old : SessionState) (done : List Interaction) (phase : ClientPhase) (new : SessionState) → IsClientOpen config it old
-    → IsSessionCall config old done phase new → IsClientIn phase config (did it done) new
-steps config it old done phase new s (act.went calls said went are is) =
-    subst (λ p. IsClientIn p config (did it done) new) (sym is)
-    (subst (λ ds. IsClientIn (phase_after said) config (did it ds) new) (sym are) (went_open calls said new s went))
-steps config it old done phase new s (act.took asking got calls said at took are is) =
-    subst (λ p. IsClientIn p config (did it done) new) (sym is)
-    (subst (λ ds. IsClientIn (phase_after said) config (did it ds) new) (sym are) (took_open asking got s at took))
+steps : (most : ℕ) (keys : Option KeysState) (config : Configuration) (it : Life) (old : SessionState) (done : List Interaction) (phase : ClientPhase) (new : SessionState) → IsClientOpen most keys config it old
+    → IsSessionCall config old done phase new → IsClientIn phase most keys config (did it done) new
+steps most keys config it old done phase new s (act.went calls said went are is) =
+    subst (λ p. IsClientIn p most keys config (did it done) new) (sym is)
+    (subst (λ ds. IsClientIn (phase_after said) most keys config (did it ds) new) (sym are) (went_open calls said new s went))
+steps most keys config it old done phase new s (act.took asking got calls said at took are is) =
+    subst (λ p. IsClientIn p most keys config (did it done) new) (sym is)
+    (subst (λ ds. IsClientIn (phase_after said) most keys config (did it ds) new) (sym are) (took_open asking got s at took))
+
+-- a client whose session is open
+open_at : (config : Configuration) (it : Life) (old : Client) → old.phase ≡ Open → IsClient config it old → IsClientOpen old.most old.keys config it old.session
+open_at config it old at is = subst (λ p. IsClientIn p old.most old.keys config it old.session) at is
 
 -- each act takes a client's life on
 pub acted : (config : Configuration) (it : Life) (old : Client) (adds : Life) (new : Client) → IsClient config it old → IsAct config old adds new
     → IsClient config (lived it adds) new
 acted config it old adds new is (act.fed piece at are same) =
-    let serving : IsClientOpen config it old.session = subst (λ p. IsClientIn p config it old.session) at is in
+    let after : Client = record old { session = fed_state old.session piece } in
     subst (λ c. IsClient config (lived it adds) c) (sym same)
-    (subst (λ l. IsClientOpen config l (fed_state old.session piece)) (sym (ap (lived it) are ∙ lived_fed it piece)) (fed_in config it old.session piece serving))
+    (subst (λ l. IsClient config l after) (sym (ap (lived it) are ∙ lived_fed it piece))
+    (subst (λ p. IsClientIn p old.most old.keys config (life (it.bytes ++ piece) it.sent it.done) after.session) (sym at)
+    (fed_in old.most old.keys config it old.session piece (open_at config it old at is))))
 acted config it old adds new is (act.wrote count within are same) =
+    let after : Client = record old { session = sent_from old.session count } in
     subst (λ c. IsClient config (lived it adds) c) (sym same)
-    (subst (λ l. IsClientIn old.phase config l (sent_from old.session count)) (sym (ap (lived it) are ∙ lived_wrote it (take count old.session.outbox)))
-    (wrote_in config it count old.session old.phase is within))
+    (subst (λ l. IsClient config l after) (sym (ap (lived it) are ∙ lived_wrote it (take count old.session.outbox)))
+    (wrote_in old.most old.keys config it count old.session old.phase is within))
 acted config it old adds new is (act.round_run are same) =
+    let after : Client = record old { session = record old.session { owes = false } } in
     subst (λ c. IsClient config (lived it adds) c) (sym same)
-    (subst (λ l. IsClientIn old.phase config l (record old.session { owes = false })) (sym (ap (lived it) are ∙ lived_none it)) (round_in config it old.session old.phase is))
-acted config it old adds new is (act.stepped done at are step) =
-    let serving : IsClientOpen config it old.session = subst (λ p. IsClientIn p config it old.session) at is in
-    subst (λ l. IsClientIn new.phase config l new.session) (sym (ap (lived it) are ∙ lived_did it done))
-    (steps config it old.session done new.phase new.session serving step)
+    (subst (λ l. IsClient config l after) (sym (ap (lived it) are ∙ lived_none it)) (round_in old.most old.keys config it old.session old.phase is))
+acted config it old adds new is (act.stepped done at are step same) =
+    let after : Client = record old { phase = new.phase; session = new.session } in
+    subst (λ c. IsClient config (lived it adds) c) (sym same)
+    (subst (λ l. IsClient config l after) (sym (ap (lived it) are ∙ lived_did it done))
+    (steps old.most old.keys config it old.session done new.phase new.session (open_at config it old at is) step))
 acted config it old adds new is (act.lost done at are loss same) =
-    let serving : IsClientOpen config it old.session = subst (λ p. IsClientIn p config it old.session) at is in
-    subst (λ p. IsClientIn p config (lived it adds) new.session) (sym same)
-    (subst (λ l. IsClientShort config l new.session) (sym (ap (lived it) are ∙ lived_did it done)) (loses serving loss))
+    let after : Client = record old { phase = Short; session = new.session } in
+    subst (λ c. IsClient config (lived it adds) c) (sym same)
+    (subst (λ l. IsClient config l after) (sym (ap (lived it) are ∙ lived_did it done)) (loses (open_at config it old at is) loss))
+acted config it old adds new is (act.handed request keys at several hands begins are same) =
+    let after : Client = record old { session = new.session; keys = Some keys } in
+    subst (λ c. IsClient config (lived it adds) c) (sym same)
+    (subst (λ l. IsClient config l after) (sym (ap (lived it) are ∙ lived_none it))
+    (subst (λ p. IsClientIn p old.most (Some keys) config it new.session) (sym at) (hand_open (open_at config it old at is) several hands begins)))
+acted config it old adds new is (act.keyed done keys now has acts are same) =
+    let after : Client = record old { keys = Some now } in
+    subst (λ c. IsClient config (lived it adds) c) (sym same)
+    (subst (λ l. IsClient config l after) (sym (ap (lived it) are ∙ lived_did it done))
+    (subst (λ p. IsClientIn p old.most (Some now) config (did it done) old.session) (sym has.going) (keyed_open (open_at config it old has.going is) has.at has.are acts)))
+acted config it old adds new is (act.replied keys has complete none are same) =
+    let after : Client = record old { session = replied_by (reply_in keys.slots) old.session; keys = None } in
+    subst (λ c. IsClient config (lived it adds) c) (sym same)
+    (subst (λ l. IsClient config l after) (sym (ap (lived it) are ∙ lived_none it))
+    (subst (λ p. IsClientIn p old.most None config it after.session) (sym has.going) (replied_open (open_at config it old has.going is) has.at has.are complete none)))
+acted config it old adds new is (act.keys_lost keys has complete are same) =
+    let after : Client = record old { phase = Short; session = dropped old.session; keys = None } in
+    subst (λ c. IsClient config (lived it adds) c) (sym same)
+    (subst (λ l. IsClient config l after) (sym (ap (lived it) are ∙ lived_none it)) (keys_short (open_at config it old has.going is) has.at has.are complete))

@@ -10,12 +10,12 @@ use Rattle.tko_io.specs.declared.clock.Clock.{Ghosts as ClockGhosts}
 use Rattle.tko_route.specs.Calls.{Call, IsExchange, upstream}
 use Rattle.tko_route.specs.declared.attempt.Attempt.{Attempt}
 use Rattle.tko_reply.specs.Ghosts.{PartsGhosts, parts_ghosts}
-use Rattle.tko_reply.specs.Interactions.{Interacts, Made, Noted, with_health, with_links, with_noted}
+use Rattle.tko_reply.specs.Interactions.{Interacts, Made, Noted, marks_of, with_health, with_links, with_noted}
 use Rattle.tko_reply.specs.TrailEvents.{Asked}
 use Rattle.tko_reply.specs.declared.parts.Parts.{Parts}
 use Rattle.tko_reply.specs.declared.trails.Trails.{Ghosts as TrailsGhosts}
 use Rattle.tko_reply.proofs.InteractionLemmas.{config_kept}
-use Rattle.tko_session.specs.Acts.{came_to, marks_of}
+use Rattle.tko_session.specs.Acts.{came_to}
 use Rattle.tko_session.specs.Driven.{OutcomeDropped, WasDropped, dropped}
 use Rattle.tko_session.specs.Effects.{effects}
 use Rattle.tko_session.specs.AnswerEnds.{DriveEnds, IsSettled}

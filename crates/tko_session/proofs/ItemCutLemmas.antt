@@ -14,14 +14,14 @@ use Rattle.tko_reply.specs.Answering.{Extends}
 use Rattle.tko_reply.specs.Answers.{form_in}
 use Rattle.tko_reply.specs.Cuts.{IsAnswerCut, KeyLost}
 use Rattle.tko_reply.specs.Cuts as cut
-use Rattle.tko_reply.specs.Interactions.{Interaction, Made, Noted, Recorded}
+use Rattle.tko_reply.specs.Interactions.{Interaction, Made, Noted, Recorded, marks_of}
 use Rattle.tko_reply.specs.Standing.{Asking}
 use Rattle.tko_reply.specs.TrailEvents.{Asked}
 use Rattle.tko_reply.specs.declared.asking.OneKey.{OneKey}
 use Rattle.tko_reply.proofs.CutLemmas.{CutAfter, NotedAs, begin_cut, gone_cut, key_cut, marks, no_marks, past_cut, sent_cut, tried_cut}
 use Rattle.tko_reply.proofs.JoiningLemmas.{past_next}
 use Rattle.tko_reply.proofs.StandsLemmas.{IsAt, at_extends, is_first, keyed, past_extends}
-use Rattle.tko_session.specs.Acts.{came_to, marks_of}
+use Rattle.tko_session.specs.Acts.{came_to}
 use Rattle.tko_session.specs.Driven.{KeyDropped, OutcomeDropped, PassDropped, RequestDropped, WasDropped, WasDroppedFrom, dropped}
 use Rattle.tko_session.specs.Driven as driven
 use Rattle.tko_session.specs.SessionState.{SessionState}

@@ -5,6 +5,7 @@ mod DrivenLemmas
 mod DroppedLemmas
 pub mod EventLemmas
 mod FollowingLemmas
+mod HandedLemmas
 pub mod ItemCutLemmas
 pub mod ItemLemmas
 pub mod LifeLemmas
@@ -16,3 +17,4 @@ mod ServedLemmas
 mod SoFarLemmas
 mod TextFacts
 pub mod TurnLemmas
+mod WroteLemmas

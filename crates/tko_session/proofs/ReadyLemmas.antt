@@ -107,6 +107,7 @@ module _ (config : Configuration) where
       subst (IsReadyFor config new) (sym (ap (λ (s : SessionState). s.work) state)) tt
   went_ready_from old new calls said (work.Ended one) is ready (driven.next other on key) =
       key_ready (next_held old.begin one other old.outbox old.outbox ready on) key
+  went_ready_from old new calls said work.HandedOver is ready went = absurd went
 
   -- the session is ready for the next call
   pub went_ready : (old new : SessionState) (calls : List Call) (said : Step) → IsReady config old → WentOn config old calls said new → IsReady config new

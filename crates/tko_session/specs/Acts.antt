@@ -1,18 +1,22 @@
 -- What one act of a worker for a client adds to the client's life.
-use Rattle.std.specs.Prelude.{◌≡◌, ℕ, Bool, false, List, [], ◌∷◌, ◌++◌, Result, Ok, Err, map, take}
+use Rattle.std.specs.Prelude.{◌≡◌, ◌<◌, ℕ, Bool, false, List, [], ◌∷◌, ◌++◌, Some, None, Result, Ok, Err, map, take}
+use Rattle.tko_text.specs.declared.request.Request.{Request}
 use Rattle.tko_links.specs.declared.links.NoMemory.{NoMemory}
 use Rattle.tko_links.specs.declared.links.Outcome.{Outcome}
 use Rattle.tko_pools.specs.Configs.{Configuration}
 use Rattle.tko_route.specs.Calls.{Call, came}
 use Rattle.tko_route.specs.declared.attempt.Attempt.{Attempt}
-use Rattle.tko_reply.specs.Interactions.{Interaction, Made, Noted, Recorded}
+use Rattle.tko_reply.specs.Interactions.{Interaction, Made, Noted, Recorded, marks_of}
 use Rattle.tko_reply.specs.Standing.{Asking}
 use Rattle.tko_reply.specs.TrailEvents.{Asked, Tried}
+use Rattle.tko_keys.specs.KeysActs.{KeysAct}
+use Rattle.tko_keys.specs.KeysState.{IsComplete, IsNew, KeysState, reply_in}
 use Rattle.tko_session.specs.declared.step.Progress.TheVariants as progress
 use Rattle.tko_session.specs.declared.step.Step.{Step}
 use Rattle.tko_session.specs.declared.step.Step.TheVariants as step
-use Rattle.tko_session.specs.Clients.{Client, ClientPhase, Life, Open, Over, Short, client, life, no_life}
+use Rattle.tko_session.specs.Clients.{Client, ClientPhase, Life, Open, Over, Short, life, no_life}
 use Rattle.tko_session.specs.Driven.{AwaitedDropped, AwaitedTaken, WasDropped, WentOn, dropped}
+use Rattle.tko_session.specs.Handing.{HandsOver, replied_by}
 use Rattle.tko_session.specs.Outgoing.{AreOutgoing, sent_from}
 use Rattle.tko_session.specs.SessionState.{SessionState, fed_state}
 use Rattle.tko_session.specs.Working.{Work}
@@ -24,6 +28,7 @@ asked_at work.Between = []
 asked_at (work.Read one) = Recorded (Asked one.request) ∷ []
 asked_at (work.Awaits it) = []
 asked_at (work.Ended one) = []
+asked_at work.HandedOver = []
 
 -- what is recorded after a call that said this, before the next call
 abbrev pub recorded_after : Step → Work → List Interaction
@@ -45,11 +50,6 @@ IsToRecord step.Began = Unit {0}
 IsToRecord (step.Tried trail) = Unit {0}
 IsToRecord (step.Asks clear) = ⊥
 IsToRecord (step.At progress) = ⊥
-
--- the marks of these attempts are noted, if there are any
-abbrev pub marks_of : List Attempt → List Interaction
-marks_of [] = []
-marks_of (one ∷ attempts) = Noted (one ∷ attempts) ∷ []
 
 -- the send that is out came to this
 abbrev pub came_to : Asking → Result Outcome NoMemory → Interaction
@@ -95,18 +95,44 @@ pub data IsLoss (config : Configuration) (old : SessionState) (done : List Inter
       → done ≡ came_to it (Ok outcome) ∷ (map Made calls ++ left_after said)
       → IsLoss config old done new
 
+-- the keys of a client's request that was handed over
+pub record HasKeys (old : Client) (keys : KeysState) : Type 0 where
+  pub going : old.phase ≡ Open
+  pub at : old.session.work ≡ work.HandedOver
+  pub are : old.keys ≡ Some keys
+
 -- One act for a client, and what it adds to its life: bytes came from it; replies went to it; the
--- round that it owed was run; its session made a call; or memory ran out for it.
+-- round that it owed was run; its session made a call; or memory ran out for it. Where more than
+-- one key of a request may be under way, a request that was recorded may be handed over; then calls
+-- are made for its keys; and once these are complete the reply is taken, or memory ran out for one
+-- of them, or as the reply was taken.
 pub data IsAct (config : Configuration) (old : Client) (adds : Life) (new : Client) : Type 0 where
   fed : (piece : List ℕ) → old.phase ≡ Open → adds ≡ life piece [] []
-      → new ≡ client Open (fed_state old.session piece) → IsAct config old adds new
+      → new ≡ record old { session = fed_state old.session piece } → IsAct config old adds new
   wrote : (count : ℕ) → AreOutgoing old.session count
       → adds ≡ life [] (take count old.session.outbox) []
-      → new ≡ client old.phase (sent_from old.session count) → IsAct config old adds new
+      → new ≡ record old { session = sent_from old.session count } → IsAct config old adds new
   round_run : adds ≡ no_life
-      → new ≡ client old.phase (record old.session { owes = false }) → IsAct config old adds new
+      → new ≡ record old { session = record old.session { owes = false } }
+      → IsAct config old adds new
   stepped : (done : List Interaction) → old.phase ≡ Open → adds ≡ life [] [] done
-      → IsSessionCall config old.session done new.phase new.session → IsAct config old adds new
+      → IsSessionCall config old.session done new.phase new.session
+      → new ≡ record old { phase = new.phase; session = new.session } → IsAct config old adds new
   lost : (done : List Interaction) → old.phase ≡ Open → adds ≡ life [] [] done
-      → IsLoss config old.session done new.session → new.phase ≡ Short
+      → IsLoss config old.session done new.session
+      → new ≡ record old { phase = Short; session = new.session } → IsAct config old adds new
+  handed : (request : Request) (keys : KeysState) → old.phase ≡ Open → 1 < old.most
+      → HandsOver old.session request new.session → IsNew request old.most keys → adds ≡ no_life
+      → new ≡ record old { session = new.session; keys = Some keys } → IsAct config old adds new
+  keyed : (done : List Interaction) (keys now : KeysState) → HasKeys old keys
+      → KeysAct config keys done now → adds ≡ life [] [] done
+      → new ≡ record old { keys = Some now } → IsAct config old adds new
+  replied : (keys : KeysState) → HasKeys old keys → IsComplete keys → keys.lost ≡ false
+      → adds ≡ no_life
+      → new ≡ record old {
+        session = replied_by (reply_in keys.slots) old.session;
+        keys = None;
+      } → IsAct config old adds new
+  keys_lost : (keys : KeysState) → HasKeys old keys → IsComplete keys → adds ≡ no_life
+      → new ≡ record old { phase = Short; session = dropped old.session; keys = None }
       → IsAct config old adds new

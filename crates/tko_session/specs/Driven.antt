@@ -62,9 +62,10 @@ abbrev pub IsAwaiting : Work → Type 0
 IsAwaiting (work.Awaits it) = Unit {0}
 IsAwaiting _ = ⊥
 
--- no send is out
+-- the session goes on by itself: no send is out, and no request was handed over
 abbrev pub MayGoOn : Work → Type 0
 MayGoOn (work.Awaits it) = ⊥
+MayGoOn work.HandedOver = ⊥
 MayGoOn _ = Unit {0}
 
 -- a request was read, and its reply begins at the end of the replies that wait
@@ -84,6 +85,7 @@ IsReadyFor config state work.Between = Unit {0}
 IsReadyFor config state (work.Read one) = IsRead state one
 IsReadyFor config state (work.Awaits it) = IsOut config state it
 IsReadyFor config state (work.Ended one) = BeginsAt state.begin one.share state.outbox
+IsReadyFor config state work.HandedOver = state.begin ≡ length state.outbox
 
 abbrev pub IsReady : Configuration → SessionState → Type 0
 IsReady config state = IsReadyFor config state state.work
@@ -167,6 +169,7 @@ module _ (config : Configuration) where
   WentOnFrom (work.Read one) old calls said new = RequestBegun one.request old calls said new
   WentOnFrom (work.Awaits it) old calls said new = ⊥
   WentOnFrom (work.Ended one) old calls said new = KeyPassed one old calls said new
+  WentOnFrom work.HandedOver old calls said new = ⊥
 
   abbrev pub WentOn : SessionState → List Call → Step → SessionState → Type 0
   WentOn old calls said new = WentOnFrom old.work old calls said new
@@ -180,6 +183,7 @@ module _ (config : Configuration) where
       RequestDropped one.request old calls attempts new
   WasDroppedFrom (work.Awaits it) old calls attempts new = ⊥
   WasDroppedFrom (work.Ended one) old calls attempts new = PassDropped one old calls attempts new
+  WasDroppedFrom work.HandedOver old calls attempts new = ⊥
 
   abbrev pub WasDropped : SessionState → List Call → List Attempt → SessionState → Type 0
   WasDropped old calls attempts new = WasDroppedFrom old.work old calls attempts new

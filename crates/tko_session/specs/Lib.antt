@@ -8,6 +8,7 @@ pub mod Effects
 pub mod Ends
 pub mod Events
 pub mod Faults
+pub mod Handing
 pub mod ManyClients
 pub mod Outgoing
 pub mod Served

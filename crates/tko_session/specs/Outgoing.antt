@@ -11,6 +11,7 @@ outgoing_in work.Between begin outbox = outbox
 outgoing_in (work.Read one) begin outbox = take begin outbox
 outgoing_in (work.Awaits it) begin outbox = take begin outbox
 outgoing_in (work.Ended one) begin outbox = take begin outbox
+outgoing_in work.HandedOver begin outbox = take begin outbox
 
 abbrev pub outgoing : SessionState → List ℕ
 outgoing state = outgoing_in state.work state.begin state.outbox
@@ -21,6 +22,7 @@ AreOutgoingIn work.Between begin count = Unit {0}
 AreOutgoingIn (work.Read one) begin count = count ≤ begin
 AreOutgoingIn (work.Awaits it) begin count = count ≤ begin
 AreOutgoingIn (work.Ended one) begin count = count ≤ begin
+AreOutgoingIn work.HandedOver begin count = count ≤ begin
 
 abbrev pub AreOutgoing : SessionState → ℕ → Type 0
 AreOutgoing state count = AreOutgoingIn state.work state.begin count
@@ -31,12 +33,14 @@ shifted_begin count work.Between begin = begin
 shifted_begin count (work.Read one) begin = begin - count
 shifted_begin count (work.Awaits it) begin = begin - count
 shifted_begin count (work.Ended one) begin = begin - count
+shifted_begin count work.HandedOver begin = begin - count
 
 abbrev pub shifted_work : ℕ → Work → Work
 shifted_work count work.Between = work.Between
 shifted_work count (work.Read one) = work.Read (shifted_key count one)
 shifted_work count (work.Awaits it) = work.Awaits (asking it.waiting (shifted_key count it.key))
 shifted_work count (work.Ended one) = work.Ended (shifted_key count one)
+shifted_work count work.HandedOver = work.HandedOver
 
 -- the session once so many bytes of its replies were written
 abbrev pub sent_from : SessionState → ℕ → SessionState

@@ -1,5 +1,5 @@
 -- How far a request was answered that is under way, over what was done since it was recorded.
-use Rattle.std.specs.Prelude.{◌≡◌, ◌<◌, ℕ, Bool, List, [], ◌∷◌, ◌++◌, All, length, map}
+use Rattle.std.specs.Prelude.{◌≡◌, ◌<◌, ℕ, Bool, List, [], ◌∷◌, ◌++◌, All, Option, Some, length, map}
 use Rattle.tko_text.specs.declared.request.Request.{Request}
 use Rattle.tko_pools.specs.Configs.{Configuration, targets_of}
 use Rattle.tko_route.specs.Calls.{Call}
@@ -11,6 +11,8 @@ use Rattle.tko_reply.specs.Replies.{HasValues, RoutedKey, joined, keys_in}
 use Rattle.tko_reply.specs.Standing.{Asking, whole_of}
 use Rattle.tko_reply.specs.declared.asking.OneKey.{OneKey}
 use Rattle.tko_reply.specs.declared.asking.Share.TheVariants as share
+use Rattle.tko_keys.specs.KeysSoFar.{KeysSoFar}
+use Rattle.tko_keys.specs.KeysState.{KeysState}
 use Rattle.tko_session.specs.Working.{Work}
 use Rattle.tko_session.specs.Working as work
 
@@ -89,12 +91,26 @@ pub data IsKeyPast (config : Configuration) (it : Pending) (one : OneKey) (outbo
         → IsOneKeyOf it.request (length it.front) key left one
         → HasJoined config it left outbox → IsKeyPast config it one outbox
 
--- how far it came, where the session is at this: it was read, and nothing was done yet; or a send
--- is out for one of its keys; or the attempts at one of them ended
-abbrev pub IsPendingAt : Configuration → Pending → Work → List ℕ → List ℕ → Type 0
-IsPendingAt config it work.Between targets outbox = ⊥
-IsPendingAt config it (work.Read one) targets outbox =
+-- it was handed over, its keys came so far, and nothing of its reply is there yet
+pub record AreKeysPending (most : ℕ) (keys : Option KeysState) (config : Configuration)
+    (it : Pending) (outbox : List ℕ) : Type 0 where
+  pub state : KeysState
+  pub at : keys ≡ Some state
+  pub several : 1 < most
+  pub within : state.most ≡ most
+  pub so_far : KeysSoFar config it.request state it.done
+  pub waits : outbox ≡ it.front
+
+-- How far it came, where the session is at this: it was read, and nothing was done yet; or a send
+-- is out for one of its keys; or the attempts at one of them ended; or it was handed over, with
+-- these keys, of which at most so many are under way at once.
+abbrev pub IsPendingAt : ℕ → Option KeysState → Configuration → Pending → Work → List ℕ → List ℕ
+    → Type 0
+IsPendingAt most keys config it work.Between targets outbox = ⊥
+IsPendingAt most keys config it (work.Read one) targets outbox =
     (one ≡ whole_of it.request) × (it.done ≡ []) × (outbox ≡ it.front)
-IsPendingAt config it (work.Awaits asking) targets outbox =
+IsPendingAt most keys config it (work.Awaits asking) targets outbox =
     IsSentFor config it asking targets outbox
-IsPendingAt config it (work.Ended one) targets outbox = IsKeyPast config it one outbox
+IsPendingAt most keys config it (work.Ended one) targets outbox = IsKeyPast config it one outbox
+IsPendingAt most keys config it work.HandedOver targets outbox =
+    AreKeysPending most keys config it outbox

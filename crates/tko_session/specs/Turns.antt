@@ -1,5 +1,5 @@
 -- What becomes of one item: what is done for it, and the text that goes to the client.
-use Rattle.std.specs.Prelude.{◌≡◌, ℕ, Bool, true, false, List, [], ◌∷◌}
+use Rattle.std.specs.Prelude.{◌≡◌, ◌<◌, ℕ, Bool, true, false, List, [], ◌∷◌}
 use Rattle.tko_text.specs.declared.fault.TextFault.{TextFault}
 use Rattle.tko_text.specs.declared.item.Item.{Item}
 use Rattle.tko_text.specs.declared.item.Item.TheVariants as item
@@ -11,6 +11,7 @@ use Rattle.tko_reply.specs.Cuts.{IsAnswerCut}
 use Rattle.tko_reply.specs.Interactions.{Interaction, Recorded}
 use Rattle.tko_reply.specs.Replies.{RoutedKey}
 use Rattle.tko_reply.specs.TrailEvents.{Asked}
+use Rattle.tko_keys.specs.AtOnce.{AnswersAtOnce, IsCutAtOnce}
 
 -- an item, the keys that were routed for it, and the text of its reply
 pub record Turn : Type 0 where
@@ -37,3 +38,20 @@ pub data IsRequestCut (config : Configuration) (request : Request) (done : List 
   unrecorded : done ≡ [] → IsRequestCut config request done
   recorded : (then : List Interaction) → done ≡ Recorded (Asked request) ∷ then
       → IsAnswerCut config request then → IsRequestCut config request done
+
+-- what becomes of an item where at most so many keys of a request may be under way at once: its
+-- keys are asked for one after another, as above; or more of them at a time
+pub data IsTurnWithin (most : ℕ) (config : Configuration) (turn : Turn) (done : List Interaction)
+    : Type 0 where
+  in_turn : IsTurn config turn done → IsTurnWithin most config turn done
+  at_once : (request : Request) (then : List Interaction) → 1 < most
+      → turn.item ≡ item.Request request → done ≡ Recorded (Asked request) ∷ then
+      → AnswersAtOnce most config request turn.routed turn.text then
+      → IsTurnWithin most config turn done
+
+-- memory ran out for a request there
+pub data IsRequestCutWithin (most : ℕ) (config : Configuration) (request : Request)
+    (done : List Interaction) : Type 0 where
+  cut_in_turn : IsRequestCut config request done → IsRequestCutWithin most config request done
+  cut_at_once : (then : List Interaction) → 1 < most → done ≡ Recorded (Asked request) ∷ then
+      → IsCutAtOnce config request then → IsRequestCutWithin most config request done

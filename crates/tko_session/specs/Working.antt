@@ -3,17 +3,20 @@ use Rattle.std.specs.Prelude.{List, [], Option, Some, None}
 use Rattle.tko_route.specs.declared.attempt.Attempt.{Attempt}
 use Rattle.tko_reply.specs.Standing.{Asking, asking}
 use Rattle.tko_reply.specs.declared.asking.OneKey.{OneKey}
-use Rattle.tko_session.specs.declared.session.KeyAtWork.{KeyAtWork}
+use Rattle.tko_session.specs.declared.session.AtWork.{AtWork}
+use Rattle.tko_session.specs.declared.session.AtWork.TheVariants as at
 use Rattle.tko_session.specs.declared.session.KeyWait.{KeyWait}
 use Rattle.tko_session.specs.declared.session.KeyWait.TheVariants as wait
 
 -- no request is being answered; this one was read, and is to be begun; what comes of a send is
--- awaited; or the attempts at this key ended
+-- awaited; the attempts at this key ended; or the request was handed over, and the driver answers
+-- it
 pub data Work : Type 0 where
   Between : Work
   Read : OneKey → Work
   Awaits : Asking → Work
   Ended : OneKey → Work
+  HandedOver : Work
 
 -- with this key, where the session waits for this
 abbrev pub key_work : OneKey → KeyWait → Work
@@ -21,9 +24,10 @@ key_work one wait.Read = Read one
 key_work one (wait.Sent waiting) = Awaits (asking waiting one)
 key_work one wait.Tried = Ended one
 
-abbrev pub work_at : Option KeyAtWork → Work
-work_at None = Between
-work_at (Some at) = key_work at.key at.wait
+abbrev pub work_at : AtWork → Work
+work_at at.Between = Between
+work_at (at.Key one) = key_work one.key one.wait
+work_at at.HandedOver = HandedOver
 
 -- the key that is at work
 abbrev pub key_in : Work → Option OneKey
@@ -31,6 +35,7 @@ key_in Between = None
 key_in (Read one) = Some one
 key_in (Awaits it) = Some it.key
 key_in (Ended one) = Some one
+key_in HandedOver = None
 
 -- the request that was read
 abbrev pub read_in : Work → Option OneKey
@@ -38,6 +43,7 @@ read_in Between = None
 read_in (Read one) = Some one
 read_in (Awaits it) = None
 read_in (Ended one) = None
+read_in HandedOver = None
 
 -- the key whose attempts ended
 abbrev pub ended_in : Work → Option OneKey
@@ -45,6 +51,7 @@ ended_in Between = None
 ended_in (Read one) = None
 ended_in (Awaits it) = None
 ended_in (Ended one) = Some one
+ended_in HandedOver = None
 
 -- the attempts at the key for which a send is out
 abbrev pub attempts_in : Work → List Attempt

@@ -2,17 +2,19 @@
 //!
 //! - `Session`: a client's session as a value. `feed` takes the client's bytes; `next` and
 //!   `answered` are lent the servers' health and the configuration, and return a `Step`: what was
-//!   done, and what the driver does before the next call; `output` has the replies. It knows no
-//!   socket, link, clock or record of trails, and borrows nothing between calls. Where memory runs
-//!   out the calls return the `Dropped` attempts.
+//!   done, and what the driver does before the next call; `output` has the replies. `hand_over`
+//!   gives a request for several keys to the driver, and `take_reply` takes its reply back. It
+//!   knows no socket, link, clock or record of trails, and borrows nothing between calls. Where
+//!   memory runs out the calls return the `Dropped` attempts.
 //! - `serve`: drives a session over a worker's `Parts`: reads pieces from an `Inlet`, sends what
 //!   the session asks for over the links, records what it did, tells each attempt as it ends,
 //!   writes the replies to an `Outlet`, and runs the rounds.
 //! - `round`: sends the probes that are due, and tells each as it ends.
-//! - `observe_attempts`, `observe_request`, `observe_trail`, `observe_drop`: hand on what a session
-//!   did, for a driver that does not wait.
+//! - `observe_attempts`, `observe_request`, `observe_trail`, `record_trail`, `observe_drop`: hand
+//!   on what a session did, for a driver that does not wait.
 //! - `client_begins`, `client_acts`, `served`: laws. Each client has a life of its own, also where
-//!   one thread serves many over the same parts.
+//!   one thread serves many over the same parts. `keys_in_turn`: a law for where at most one key of
+//!   a request is under way at a time.
 #![tactic(auto)]
 
 mod answering;
@@ -24,9 +26,9 @@ mod serving;
 mod session;
 mod step;
 
-pub use clients::{client_acts, client_begins, served};
+pub use clients::{client_acts, client_begins, keys_in_turn, served};
 pub use fault::SessionFault;
-pub use observing::{observe_attempts, observe_drop, observe_request, observe_trail};
+pub use observing::{observe_attempts, observe_drop, observe_request, observe_trail, record_trail};
 pub use rounds::round;
 pub use serving::serve;
 pub use session::Session;

@@ -51,8 +51,8 @@ pub fn observe_request<R: IoRuntime, T: Trails>(
     }
 }
 
-/// Tells the last attempts at a key, notes the marks of all of them, and records its trail; of the
-/// next key none is told. Where memory runs out, the session drops the request.
+/// Hands on the attempts at a key, which ended. Where memory runs out, the session drops the
+/// request.
 pub fn observe_trail<R: IoRuntime, H, L, T: Trails, C>(
     rt: &R,
     session: &mut Session,
@@ -69,16 +69,33 @@ pub fn observe_trail<R: IoRuntime, H, L, T: Trails, C>(
     ensures attempts { IfErr result (λ attempts. attempts ≡ []) }
     ensures told { told.new ≡ 0 }
 {
-    observe_attempts(rt, &mut parts.trails, trail.attempts(), told);
-    *told = 0;
-    parts.backend.probers.note(trail.attempts());
-    match parts.trails.trail(rt, trail) {
+    match record_trail(rt, parts, told, trail) {
         Ok(()) => Ok(()),
         Err(fault) => {
             session.drop_request();
             Err(Dropped::from(fault))
         }
     }
+}
+
+/// Tells the last attempts at a key, notes the marks of all of them, and records its trail; of the
+/// next key none is told.
+pub fn record_trail<R: IoRuntime, H, L, T: Trails, C>(
+    rt: &R,
+    parts: &mut Parts<H, L, T, C>,
+    told: &mut usize,
+    trail: Trail,
+) -> Result<(), NoMemory>
+    ensures recorded { OnOk result (T.records parts.old.trails (Tried trail) parts.new.trails) }
+    ensures noted { parts.new
+        ≡ record (with_noted trail parts.old) { trails = parts.new.trails } }
+    ensures err { OnErr result (parts.new.trails ≡ parts.old.trails) }
+    ensures told { told.new ≡ 0 }
+{
+    observe_attempts(rt, &mut parts.trails, trail.attempts(), told);
+    *told = 0;
+    parts.backend.probers.note(trail.attempts());
+    parts.trails.trail(rt, trail)
 }
 
 /// Tells the last attempts at a key whose request was dropped, and notes the marks of all of them.

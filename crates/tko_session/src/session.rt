@@ -22,6 +22,7 @@ use tko_route::{Health, Waiting};
 use tko_text::{FeedFault, Reader, Request};
 
 mod attempts;
+mod handing;
 mod items;
 mod keys;
 mod output;
@@ -35,12 +36,23 @@ pub struct Session {
     outbox: Outbox,
     requests: u64,
     owes: bool,
-    /// The key of the request that is being answered.
-    work: Option<KeyAtWork>,
+    /// The request that is being answered, by the session or by its driver.
+    work: AtWork,
     /// Where the reply to the request begins in the outbox.
     begin: usize,
     /// The targets of the key that is asked for, and the room for those of the next one.
     targets: Vec<usize>,
+}
+
+/// What a session is at.
+#[derive(Drop)]
+enum AtWork {
+    /// No request is being answered.
+    Between,
+    /// The session answers a request.
+    Key(KeyAtWork),
+    /// The driver answers a request, which was handed over to it.
+    HandedOver,
 }
 
 /// A request, or a key of it, and what the session waits for. It stays where it is from the first
@@ -89,7 +101,7 @@ impl Session {
             outbox: Outbox::new(alloc),
             requests: 0,
             owes: false,
-            work: None,
+            work: AtWork::Between,
             begin: 0,
             targets: Vec::new(alloc),
         }
@@ -124,13 +136,14 @@ impl Session {
         ensures ready { OnOk result (IsReady config.now self.new) }
         ensures servers { H.servers health.new ≡ H.servers health.old }
     {
-        let Some(at) = &self.work else {
-            return Ok(self.next_item()?);
-        };
-        match &at.wait {
-            KeyWait::Read => self.begin_request(rt, alloc, health, config),
-            KeyWait::Tried => self.go_on(rt, alloc, health, config),
-            KeyWait::Sent(_) => unreachable!(),
+        match &self.work {
+            AtWork::Between => Ok(self.next_item()?),
+            AtWork::Key(at) => match &at.wait {
+                KeyWait::Read => self.begin_request(rt, alloc, health, config),
+                KeyWait::Tried => self.go_on(rt, alloc, health, config),
+                KeyWait::Sent(_) => unreachable!(),
+            },
+            AtWork::HandedOver => unreachable!(),
         }
     }
 
@@ -140,8 +153,8 @@ impl Session {
         ensures { (one : OneKey) → key_in self.now.work ≡ Some one → result.now ≡ one.request }
     {
         match &self.work {
-            Some(at) => at.key.request(),
-            None => unreachable!(),
+            AtWork::Key(at) => at.key.request(),
+            AtWork::Between | AtWork::HandedOver => unreachable!(),
         }
     }
 
@@ -164,7 +177,7 @@ impl Session {
         ensures ready { OnOk result (IsReady config.now self.new) }
         ensures servers { H.servers health.new ≡ H.servers health.old }
     {
-        let Some(KeyAtWork { key, wait }) = &mut self.work else {
+        let AtWork::Key(KeyAtWork { key, wait }) = &mut self.work else {
             unreachable!();
         };
         let KeyWait::Sent(sent) = replace(wait, KeyWait::Tried) else {
@@ -185,7 +198,7 @@ impl Session {
         ensures attempts { (it : Asking) → self.old.work ≡ Awaits it
             → result ≡ it.waiting.attempts }
     {
-        let Some(KeyAtWork { key: _, wait }) = &mut self.work else {
+        let AtWork::Key(KeyAtWork { key: _, wait }) = &mut self.work else {
             unreachable!();
         };
         let KeyWait::Sent(sent) = replace(wait, KeyWait::Tried) else {
@@ -199,7 +212,7 @@ impl Session {
     pub fn drop_request(&mut self)
         ensures { self.new ≡ dropped self.old }
     {
-        self.work = None;
+        self.work = AtWork::Between;
         self.outbox.truncate(self.begin);
     }
 }

@@ -7,7 +7,7 @@ ghost use Rattle.tko_session.specs.Driven.{ItemDropped, ItemRead, begun_at};
 ghost use Rattle.tko_session.specs.Working.{Between};
 ghost use Rattle.tko_session.specs.SessionState.{progress_after};
 
-use super::{KeyAtWork, KeyWait, Session};
+use super::{AtWork, KeyAtWork, KeyWait, Session};
 use crate::step::{Progress, Step};
 use tko_bytes::NoMemory;
 use tko_reply::OneKey;
@@ -57,7 +57,7 @@ impl Session {
         self.begin = self.outbox.len();
         let key = OneKey::whole(request);
         let wait = KeyWait::Read;
-        self.work = Some(KeyAtWork { key, wait });
+        self.work = AtWork::Key(KeyAtWork { key, wait });
         Step::Began
     }
 }

@@ -6,7 +6,7 @@ ghost use Rattle.tko_session.specs.Driven.{IsReady, WasDropped, WentOn, dropped,
 ghost use Rattle.tko_session.specs.Working.{ended_in, key_in, key_work, read_in};
 ghost use Rattle.tko_session.specs.SessionState.{progress_of};
 
-use super::{KeyAtWork, KeyWait, Session};
+use super::{AtWork, KeyAtWork, KeyWait, Session};
 use crate::step::{Progress, Step};
 use std::alloc::Global;
 use std::sync::Wait;
@@ -34,7 +34,7 @@ impl Session {
             (λ calls. WasDropped config.now self.old calls attempts self.new) health.new) }
         ensures servers { H.servers health.new ≡ H.servers health.old }
     {
-        let Some(KeyAtWork { key, wait: _ }) = &mut self.work else {
+        let AtWork::Key(KeyAtWork { key, wait: _ }) = &mut self.work else {
             unreachable!();
         };
         let progress = progress_of(key.request());
@@ -69,7 +69,7 @@ impl Session {
             (λ calls. WasDropped config.now self.old calls attempts self.new) health.new) }
         ensures servers { H.servers health.new ≡ H.servers health.old }
     {
-        let Some(KeyAtWork { key, wait: _ }) = &mut self.work else {
+        let AtWork::Key(KeyAtWork { key, wait: _ }) = &mut self.work else {
             unreachable!();
         };
         let Ok(keyed) = key.go_on(&mut self.outbox) else {
@@ -110,17 +110,17 @@ impl Session {
         ensures { (one : OneKey) → key_in self.old.work ≡ Some one
             → self.new ≡ record self.old { work = key_work one wait } }
     {
-        if let Some(at) = &mut self.work {
+        if let AtWork::Key(at) = &mut self.work {
             at.wait = wait;
         }
     }
 
     /// Counts a request that was answered.
-    fn finish(&mut self, progress: Progress) -> Step
+    pub(super) fn finish(&mut self, progress: Progress) -> Step
         ensures step { result ≡ Step.At progress }
         ensures finished { self.new ≡ finished self.old }
     {
-        self.work = None;
+        self.work = AtWork::Between;
         self.requests = self.requests.saturating_add(1);
         Step::At(progress)
     }

@@ -6,7 +6,7 @@ ghost use Rattle.tko_reply.specs.Replies.{reply_bound};
 ghost use Rattle.tko_session.specs.Driven.{IsReady};
 ghost use Rattle.tko_session.specs.Outgoing.{AreOutgoing, outgoing, sent_from};
 
-use super::Session;
+use super::{AtWork, Session};
 use crate::step::Report;
 
 impl Session {
@@ -18,8 +18,9 @@ impl Session {
     {
         let front = self.outbox.front();
         match &self.work {
-            None => front,
-            Some(_) => first_bytes(front, self.begin),
+            AtWork::Between => front,
+            AtWork::Key(_) => first_bytes(front, self.begin),
+            AtWork::HandedOver => first_bytes(front, self.begin),
         }
     }
 
@@ -29,8 +30,9 @@ impl Session {
     {
         let len = self.outbox.len();
         match &self.work {
-            None => len,
-            Some(_) => self.begin.min(len),
+            AtWork::Between => len,
+            AtWork::Key(_) => self.begin.min(len),
+            AtWork::HandedOver => self.begin.min(len),
         }
     }
 
@@ -58,9 +60,13 @@ impl Session {
             → IsReady config self.new }
     {
         self.outbox.drop_front(count);
-        if let Some(at) = &mut self.work {
-            at.key.shift(count);
-            self.begin = self.begin.saturating_sub(count);
+        match &mut self.work {
+            AtWork::Between => {}
+            AtWork::Key(at) => {
+                at.key.shift(count);
+                self.begin = self.begin.saturating_sub(count);
+            }
+            AtWork::HandedOver => self.begin = self.begin.saturating_sub(count),
         }
     }
 

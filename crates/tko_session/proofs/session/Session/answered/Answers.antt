@@ -12,11 +12,11 @@ use Rattle.tko_session.proofs.session.Session.answered.Goals as goal
 pub returns-in-Ok-clause-ok : goal.returns-in-Ok-clause-ok
 returns-in-Ok-clause-ok g c =
     let same = c.self.view_is in
-    let key = c.in-Some.field-0.key in
+    let key = c.in-Key.field-0.key in
     let it-was = asking c.in-Sent.sent key in
     let aims = ap (λ (s : SessionState). s.targets) same in
     let found = sym c.replace.ensures.value ∙ c.in-Sent.is in
-    let awaited = sym (ap (λ (s : SessionState). s.work) same) ∙ ap work_at c.in-Some.is ∙ ap (key_work key) found in
+    let awaited = sym (ap (λ (s : SessionState). s.work) same) ∙ ap work_at c.in-Key.is ∙ ap (key_work key) found in
     going c.in-Ok.ensures.ok (λ calls goes it is.
     subst (λ a. OutcomeTaken c.args.config.now a c.args.outcome c.args.self.now calls c.go_to.result c.go_to.new.self)
     (awaits_same it-was it (sym awaited ∙ is))
@@ -27,11 +27,11 @@ returns-in-Ok-clause-ok g c =
 pub returns-in-Ok-clause-ready : goal.returns-in-Ok-clause-ready
 returns-in-Ok-clause-ready g c =
     let same = c.self.view_is in
-    let key = c.in-Some.field-0.key in
+    let key = c.in-Key.field-0.key in
     let it-was = asking c.in-Sent.sent key in
     let aims = ap (λ (s : SessionState). s.targets) same in
     let found = sym c.replace.ensures.value ∙ c.in-Sent.is in
-    let awaited = sym (ap (λ (s : SessionState). s.work) same) ∙ ap work_at c.in-Some.is ∙ ap (key_work key) found in
+    let awaited = sym (ap (λ (s : SessionState). s.work) same) ∙ ap work_at c.in-Key.is ∙ ap (key_work key) found in
     let out : IsOut c.args.config.now c.args.self.now it-was = subst (IsReadyFor c.args.config.now c.args.self.now) awaited c.requires.ready in
     outcome_ready c.args.config.now out
     (outcome_taken c.args.outcome it-was c.in-Ok.stage c.answered.new.self _ _ _ _ _ _ _ _ _ c.in-Ok.ensures.ok.is (c.go_to.ensures.step _ (key_of_work _ _)) (c.go_to.ensures.went _ (key_of_work _ _))
@@ -41,11 +41,11 @@ returns-in-Ok-clause-ready g c =
 pub returns-in-Err-clause-err : goal.returns-in-Err-clause-err
 returns-in-Err-clause-err g c =
     let same = c.self.view_is in
-    let key = c.in-Some.field-0.key in
+    let key = c.in-Key.field-0.key in
     let it-was = asking c.in-Sent.sent key in
     let aims = ap (λ (s : SessionState). s.targets) same in
     let found = sym c.replace.ensures.value ∙ c.in-Sent.is in
-    let awaited = sym (ap (λ (s : SessionState). s.work) same) ∙ ap work_at c.in-Some.is ∙ ap (key_work key) found in
+    let awaited = sym (ap (λ (s : SessionState). s.work) same) ∙ ap work_at c.in-Key.is ∙ ap (key_work key) found in
     let out : IsOut c.args.config.now c.args.self.now it-was = subst (IsReadyFor c.args.config.now c.args.self.now) awaited c.requires.ready in
     let held = subst (λ (s : SessionState). BeginsAt s.begin key.share s.outbox) (sym same) out.begins in
     let left = front_stays _ _ _ _ held c.in-Err.ensures.err ∙ ap (λ (s : SessionState). take s.begin s.outbox) same in

@@ -13,9 +13,9 @@ use Rattle.tko_session.proofs.session.Session.begin_request.Goals as goal
 
 pub first-requires-clause-whole : goal.first-requires-clause-whole
 first-requires-clause-whole g c =
-    let key = c.in-Some.field-0.key in
-    let at = c.in-Some.field-0.wait in
-    let work = sym (ap (λ (s : SessionState). s.work) c.self.view_is) ∙ ap work_at c.in-Some.is in
+    let key = c.in-Key.field-0.key in
+    let at = c.in-Key.field-0.wait in
+    let work = sym (ap (λ (s : SessionState). s.work) c.self.view_is) ∙ ap work_at c.in-Key.is in
     let is = work ∙ read_work key at (subst (λ w. IsSome (read_in w)) work c.requires.read) in
     let ready : IsRead c.args.self.now key = subst (IsReadyFor c.args.config.now c.args.self.now) is c.requires.ready in
     ready.whole
@@ -23,9 +23,9 @@ first-requires-clause-whole g c =
 pub returns-in_default-first-clause-err : goal.returns-in_default-first-clause-err
 returns-in_default-first-clause-err g c =
     let same = c.self.view_is in
-    let key = c.in-Some.field-0.key in
-    let at = c.in-Some.field-0.wait in
-    let work = sym (ap (λ (s : SessionState). s.work) same) ∙ ap work_at c.in-Some.is in
+    let key = c.in-Key.field-0.key in
+    let at = c.in-Key.field-0.wait in
+    let work = sym (ap (λ (s : SessionState). s.work) same) ∙ ap work_at c.in-Key.is in
     let is = work ∙ read_work key at (subst (λ w. IsSome (read_in w)) work c.requires.read) in
     let ready : IsRead c.args.self.now key = subst (IsReadyFor c.args.config.now c.args.self.now) is c.requires.ready in
     let more = subst (λ (s : SessionState). Extends s.outbox c.first.new.outbox) same c.in_default-first.ensures.err in
@@ -36,9 +36,9 @@ returns-in_default-first-clause-err g c =
 pub returns-then-not-keyed-clause-ok : goal.returns-then-not-keyed-clause-ok
 returns-then-not-keyed-clause-ok g c =
     let same = c.self.view_is in
-    let key = c.in-Some.field-0.key in
-    let at = c.in-Some.field-0.wait in
-    let work = sym (ap (λ (s : SessionState). s.work) same) ∙ ap work_at c.in-Some.is in
+    let key = c.in-Key.field-0.key in
+    let at = c.in-Key.field-0.wait in
+    let work = sym (ap (λ (s : SessionState). s.work) same) ∙ ap work_at c.in-Key.is in
     let is = work ∙ read_work key at (subst (λ w. IsSome (read_in w)) work c.requires.read) in
     going c.in-Ok.ensures.ok (λ calls begins.
     request_itself c.args.config.now is c.if-not-keyed.true
@@ -49,9 +49,9 @@ returns-then-not-keyed-clause-ok g c =
 pub begin-requires-clause-front : goal.begin-requires-clause-front
 begin-requires-clause-front g c =
     let same = c.self.view_is in
-    let key = c.in-Some.field-0.key in
-    let at = c.in-Some.field-0.wait in
-    let work = sym (ap (λ (s : SessionState). s.work) same) ∙ ap work_at c.in-Some.is in
+    let key = c.in-Key.field-0.key in
+    let at = c.in-Key.field-0.wait in
+    let work = sym (ap (λ (s : SessionState). s.work) same) ∙ ap work_at c.in-Key.is in
     let is = work ∙ read_work key at (subst (λ w. IsSome (read_in w)) work c.requires.read) in
     let ready : IsRead c.args.self.now key = subst (IsReadyFor c.args.config.now c.args.self.now) is c.requires.ready in
     let begin = subst (λ (s : SessionState). s.begin ≡ length s.outbox) (sym same) ready.begins in
@@ -63,9 +63,9 @@ begin-requires-clause-front g c =
 pub returns-in-Ok-begin-clause-ok : goal.returns-in-Ok-begin-clause-ok
 returns-in-Ok-begin-clause-ok g c =
     let same = c.self.view_is in
-    let key = c.in-Some.field-0.key in
-    let at = c.in-Some.field-0.wait in
-    let work = sym (ap (λ (s : SessionState). s.work) same) ∙ ap work_at c.in-Some.is in
+    let key = c.in-Key.field-0.key in
+    let at = c.in-Key.field-0.wait in
+    let work = sym (ap (λ (s : SessionState). s.work) same) ∙ ap work_at c.in-Key.is in
     let is = work ∙ read_work key at (subst (λ w. IsSome (read_in w)) work c.requires.read) in
     going_then c.in-Ok.ensures.ok c.in-Ok-begin.ensures.ok (λ calls more begins goes.
     request_keyed c.args.config.now is c.if-not-keyed.false
@@ -78,9 +78,9 @@ returns-in-Ok-begin-clause-ok g c =
 pub returns-in-Err-clause-err : goal.returns-in-Err-clause-err
 returns-in-Err-clause-err g c =
     let same = c.self.view_is in
-    let key = c.in-Some.field-0.key in
-    let at = c.in-Some.field-0.wait in
-    let work = sym (ap (λ (s : SessionState). s.work) same) ∙ ap work_at c.in-Some.is in
+    let key = c.in-Key.field-0.key in
+    let at = c.in-Key.field-0.wait in
+    let work = sym (ap (λ (s : SessionState). s.work) same) ∙ ap work_at c.in-Key.is in
     let is = work ∙ read_work key at (subst (λ w. IsSome (read_in w)) work c.requires.read) in
     let ready : IsRead c.args.self.now key = subst (IsReadyFor c.args.config.now c.args.self.now) is c.requires.ready in
     let begin = subst (λ (s : SessionState). s.begin ≡ length s.outbox) (sym same) ready.begins in

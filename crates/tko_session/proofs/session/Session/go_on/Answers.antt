@@ -12,9 +12,9 @@ use Rattle.tko_session.proofs.session.Session.go_on.Goals as goal
 pub returns-in_default-go_on-clause-err : goal.returns-in_default-go_on-clause-err
 returns-in_default-go_on-clause-err g c =
     let same = c.self.view_is in
-    let key = c.in-Some.field-0.key in
-    let at = c.in-Some.field-0.wait in
-    let work = sym (ap (λ (s : SessionState). s.work) same) ∙ ap work_at c.in-Some.is in
+    let key = c.in-Key.field-0.key in
+    let at = c.in-Key.field-0.wait in
+    let work = sym (ap (λ (s : SessionState). s.work) same) ∙ ap work_at c.in-Key.is in
     let is = work ∙ ended_work key at (subst (λ w. IsSome (ended_in w)) work c.requires.tried) in
     going_none c.args.health.now
     (pass_unkeyed c.args.config.now is c.in_default-go_on.ensures.joined (c.in_default-go_on.ensures.err ∙ ap (λ (s : SessionState). s.outbox) same) (c.drop_after.ensures.attempts ∙ c.from.ensures)
@@ -23,9 +23,9 @@ returns-in_default-go_on-clause-err g c =
 pub returns-then-not-keyed-clause-ok : goal.returns-then-not-keyed-clause-ok
 returns-then-not-keyed-clause-ok g c =
     let same = c.self.view_is in
-    let key = c.in-Some.field-0.key in
-    let at = c.in-Some.field-0.wait in
-    let work = sym (ap (λ (s : SessionState). s.work) same) ∙ ap work_at c.in-Some.is in
+    let key = c.in-Key.field-0.key in
+    let at = c.in-Key.field-0.wait in
+    let work = sym (ap (λ (s : SessionState). s.work) same) ∙ ap work_at c.in-Key.is in
     let is = work ∙ ended_work key at (subst (λ w. IsSome (ended_in w)) work c.requires.tried) in
     let goes = subst (λ (s : SessionState). Continues key s.outbox c.in-Ok.keyed c.go_on.new.self c.go_on.new.outbox) same c.in-Ok.ensures.ok in
     going_none c.args.health.now
@@ -36,9 +36,9 @@ returns-then-not-keyed-clause-ok g c =
 pub begin-requires-clause-front : goal.begin-requires-clause-front
 begin-requires-clause-front g c =
     let same = c.self.view_is in
-    let key = c.in-Some.field-0.key in
-    let at = c.in-Some.field-0.wait in
-    let work = sym (ap (λ (s : SessionState). s.work) same) ∙ ap work_at c.in-Some.is in
+    let key = c.in-Key.field-0.key in
+    let at = c.in-Key.field-0.wait in
+    let work = sym (ap (λ (s : SessionState). s.work) same) ∙ ap work_at c.in-Key.is in
     let is = work ∙ ended_work key at (subst (λ w. IsSome (ended_in w)) work c.requires.tried) in
     let ready : BeginsAt c.args.self.now.begin key.share c.args.self.now.outbox = subst (IsReadyFor c.args.config.now c.args.self.now) is c.requires.ready in
     let held' = subst (λ (s : SessionState). BeginsAt s.begin key.share s.outbox) (sym same) ready in
@@ -49,9 +49,9 @@ begin-requires-clause-front g c =
 pub returns-in-Ok-begin-clause-ok : goal.returns-in-Ok-begin-clause-ok
 returns-in-Ok-begin-clause-ok g c =
     let same = c.self.view_is in
-    let key = c.in-Some.field-0.key in
-    let at = c.in-Some.field-0.wait in
-    let work = sym (ap (λ (s : SessionState). s.work) same) ∙ ap work_at c.in-Some.is in
+    let key = c.in-Key.field-0.key in
+    let at = c.in-Key.field-0.wait in
+    let work = sym (ap (λ (s : SessionState). s.work) same) ∙ ap work_at c.in-Key.is in
     let is = work ∙ ended_work key at (subst (λ w. IsSome (ended_in w)) work c.requires.tried) in
     let goes = subst (λ (s : SessionState). Continues key s.outbox c.in-Ok.keyed c.go_on.new.self c.go_on.new.outbox) same c.in-Ok.ensures.ok in
     going c.in-Ok-begin.ensures.ok (λ calls on.
@@ -64,9 +64,9 @@ returns-in-Ok-begin-clause-ok g c =
 pub returns-in-Err-clause-err : goal.returns-in-Err-clause-err
 returns-in-Err-clause-err g c =
     let same = c.self.view_is in
-    let key = c.in-Some.field-0.key in
-    let at = c.in-Some.field-0.wait in
-    let work = sym (ap (λ (s : SessionState). s.work) same) ∙ ap work_at c.in-Some.is in
+    let key = c.in-Key.field-0.key in
+    let at = c.in-Key.field-0.wait in
+    let work = sym (ap (λ (s : SessionState). s.work) same) ∙ ap work_at c.in-Key.is in
     let is = work ∙ ended_work key at (subst (λ w. IsSome (ended_in w)) work c.requires.tried) in
     let ready : BeginsAt c.args.self.now.begin key.share c.args.self.now.outbox = subst (IsReadyFor c.args.config.now c.args.self.now) is c.requires.ready in
     let held' = subst (λ (s : SessionState). BeginsAt s.begin key.share s.outbox) (sym same) ready in

@@ -5,10 +5,10 @@ use Rattle.tko_session.specs.Working.{Between}
 use Rattle.tko_session.proofs.ReadyLemmas.{went_item, went_ready}
 use Rattle.tko_session.proofs.session.Session.next.Goals as goal
 
-pub returns-in_default-clause-ok : goal.returns-in_default-clause-ok
-returns-in_default-clause-ok g c =
+pub returns-in_ok-next_item-in-Between-clause-ok : goal.returns-in_ok-next_item-in-Between-clause-ok
+returns-in_ok-next_item-in-Between-clause-ok g c =
     let between : c.args.self.now.work ≡ Between = search rules in
-    went_item c.args.config.now c.args.health.now between c.in_ok-next_item.ensures.ok
+    went_item c.args.config.now c.args.health.now between c.in_ok-next_item-in-Between.ensures.ok
 
 pub returns-in-Read-clause-ready : goal.returns-in-Read-clause-ready
 returns-in-Read-clause-ready g c =
