@@ -14,13 +14,13 @@ use Rattle.tko_route.specs.declared.routing.Stage.TheVariants as stage
 use Rattle.tko_text.specs.declared.request.Request.{Request}
 use Rattle.tko_reply.specs.Asking.{Course, Goes}
 use Rattle.tko_reply.specs.Ghosts.{PartsGhosts}
-use Rattle.tko_reply.specs.Interactions.{Interacts, Made, with_health, with_noted}
+use Rattle.tko_reply.specs.Interactions.{Interacts, Made, marks_of, with_health, with_noted}
 use Rattle.tko_reply.specs.Sends.{IsSent}
 use Rattle.tko_reply.specs.Standing.{Asking}
 use Rattle.tko_reply.specs.declared.asking.OneKey.{OneKey}
 use Rattle.tko_reply.specs.declared.parts.Parts.{Parts}
 use Rattle.tko_reply.proofs.InteractionLemmas.{gains_told}
-use Rattle.tko_session.specs.Acts.{IsSessionCall, came_to, left_after, marks_of, phase_after, recorded_after}
+use Rattle.tko_session.specs.Acts.{IsSessionCall, came_to, left_after, phase_after, recorded_after}
 use Rattle.tko_session.specs.Acts as act
 use Rattle.tko_session.specs.Awaiting.{awaited_in}
 use Rattle.tko_session.specs.Driven.{AwaitedDropped, AwaitedTaken, IsAwaiting, IsReady, IsReadyFor, KeyBegun, KeyDropped, OutcomeDropped, OutcomeTaken, WasDroppedFrom, WasDropped, WentOn, WentOnFrom, dropped, step_of, went, work_of}
@@ -36,7 +36,8 @@ use Rattle.tko_session.specs.declared.step.Progress.TheVariants as progress
 use Rattle.tko_session.specs.declared.step.Step.{Step}
 use Rattle.tko_session.specs.declared.step.Step.TheVariants as step
 use Rattle.tko_client.specs.declared.calls.Went.{Went}
-use Rattle.tko_client.specs.Steps.{BeganAt, IsLost, IsLostTaking, IsStepped, IsTaken, IsUnrecorded, WentReading, asked_in, phase_of, went_from, went_of}
+use Rattle.tko_client.specs.Answerings.{IsOwn}
+use Rattle.tko_client.specs.Steps.{BeganAt, IsLost, IsLostTaking, IsOfSession, IsStepped, IsTaken, IsUnrecorded, WentReading, asked_in, phase_of, went_from, went_of}
 
 -- how a client stands after a call that said this
 pub phase_same : (said : Step) → phase_after said ≡ phase_of (went_from said)
@@ -63,11 +64,11 @@ abbrev pub NamesAt : Stage → Type 0
 NamesAt (stage.Away clear waiting) = waiting.server ≡ clear
 NamesAt (stage.Done trail) = Unit {0}
 
-reached_names : (at : Stage) (targets : List ℕ) (form : ℕ → Request) (calls : List Call) → Reached targets form calls at → NamesAt at
+pub reached_names : (at : Stage) (targets : List ℕ) (form : ℕ → Request) (calls : List Call) → Reached targets form calls at → NamesAt at
 reached_names (stage.Away clear waiting) targets form calls (awaited, names, found) = sym names
 reached_names (stage.Done trail) targets form calls reached = tt
 
-goes_names : {course : Course} {calls : List Call} {outbox outbox' : List ℕ} {at : Stage} {one : OneKey} → Goes course calls outbox at one outbox' → NamesAt at
+pub goes_names : {course : Course} {calls : List Call} {outbox outbox' : List ℕ} {at : Stage} {one : OneKey} → Goes course calls outbox at one outbox' → NamesAt at
 goes_names {course} {calls} {at = at} goes = reached_names at course.targets course.form calls goes.reached
 
 names_awaits : (at : Stage) (one : OneKey) → NamesAt at → awaited_in (work_of at one) ≡ asked_in (went_from (step_of at))
@@ -78,12 +79,26 @@ stage_began : (at : Stage) (w : Work) → BeganAt (step_of at) w
 stage_began (stage.Away clear waiting) w = tt
 stage_began (stage.Done trail) w = tt
 
+pub of_session : (said : Step) → IsOfSession (went_from said)
+of_session step.Began = tt
+of_session (step.Asks clear) = tt
+of_session (step.Tried trail) = tt
+of_session (step.At progress.More) = tt
+of_session (step.At progress.NeedsInput) = tt
+of_session (step.At progress.Quit) = tt
+of_session (step.At progress.LineTooLong) = tt
+
+own_stage : (at : Stage) (one : OneKey) → IsOwn (work_of at one)
+own_stage (stage.Away clear waiting) one = tt
+own_stage (stage.Done trail) one = tt
+
 -- a call that said this leaves the session so
 abbrev LeavesAt : Step → Work → Type 0
-LeavesAt said at = (awaited_in at ≡ asked_in (went_from said)) × BeganAt said at
+LeavesAt said at = (awaited_in at ≡ asked_in (went_from said)) × BeganAt said at × IsOwn at
 
-said_at : (said : Step) (w : Work) (at : Progress) → said ≡ step.At at → awaited_in w ≡ None → LeavesAt said w
-said_at said w at is none = (none ∙ sym (at_asks at is), subst (λ s. BeganAt s w) (sym is) tt)
+-- the session is at no request, or as before
+said_at : (said : Step) (w : Work) (at : Progress) → said ≡ step.At at → w ≡ work.Between → LeavesAt said w
+said_at said w at is none = (ap awaited_in none ∙ sym (at_asks at is), subst (λ s. BeganAt s w) (sym is) tt, subst IsOwn (sym none) tt)
 
 module _ {config : Configuration} where
   key_leaves : {one : OneKey} {old : SessionState} {calls : List Call} {said : Step} {new : SessionState} → KeyBegun config one old calls said new → LeavesAt said new.work
@@ -91,6 +106,7 @@ module _ {config : Configuration} where
       let to = ap (λ (s : SessionState). s.work) is.state in (
         ap awaited_in to ∙ names_awaits is.at is.key (goes_names is.goes) ∙ ap (λ s. asked_in (went_from s)) (sym is.says),
         subst (λ s. BeganAt s new.work) (sym is.says) (stage_began is.at new.work),
+        subst IsOwn (sym to) (own_stage is.at is.key),
       )
 
   key_lost : {one : OneKey} {old : SessionState} {calls : List Call} {attempts : List Attempt} {new : SessionState} → KeyDropped config one old calls attempts new → new.work ≡ work.Between
@@ -100,20 +116,22 @@ module _ (config : Configuration) where
   -- whom the session awaits once it went on
   went_leaves : (at : Work) (old : SessionState) (calls : List Call) (said : Step) (new : SessionState) → old.work ≡ at → WentOnFrom config at old calls said new → LeavesAt said new.work
   went_leaves work.Between old calls said new is (none, driven.none needs says same) =
-      said_at said new.work progress.NeedsInput says (ap awaited_in (ap (λ (s : SessionState). s.work) same ∙ is))
+      said_at said new.work progress.NeedsInput says (ap (λ (s : SessionState). s.work) same ∙ is)
   went_leaves work.Between old calls said new is (none, driven.refused fault emits says same) =
-      said_at said new.work _ says (ap awaited_in (ap (λ (s : SessionState). s.work) same ∙ is))
+      said_at said new.work _ says (ap (λ (s : SessionState). s.work) same ∙ is)
   went_leaves work.Between old calls said new is (none, driven.asked it emits says same) =
       let to = ap (λ (s : SessionState). s.work) same in (
         ap awaited_in to ∙ ap (λ s. asked_in (went_from s)) (sym says),
         subst (λ s. BeganAt s new.work) (sym says) (subst (λ w. BeganAt step.Began w) (sym to) refl),
+        subst IsOwn (sym to) tt,
       )
   went_leaves (work.Read one) old calls said new is (driven.itself text looks answers are says same) =
-      said_at said new.work _ says (ap (λ (s : SessionState). awaited_in s.work) same)
+      said_at said new.work _ says (ap (λ (s : SessionState). s.work) same)
   went_leaves (work.Read one) old calls said new is (driven.by_key other first begun) = key_leaves begun
   went_leaves (work.Awaits it) old calls said new is never = absurd never
+  went_leaves work.HandedOver old calls said new is never = absurd never
   went_leaves (work.Ended one) old calls said new is (driven.over continues none says same) =
-      said_at said new.work progress.More says (ap (λ (s : SessionState). awaited_in s.work) same)
+      said_at said new.work progress.More says (ap (λ (s : SessionState). s.work) same)
   went_leaves (work.Ended one) old calls said new is (driven.next other continues begun) = key_leaves begun
 
   -- where memory ran out, no request is under way
@@ -123,6 +141,7 @@ module _ (config : Configuration) where
   went_lost (work.Read one) old calls attempts new is (driven.unkeyed cut none same) = ap (λ (s : SessionState). s.work) same
   went_lost (work.Read one) old calls attempts new is (driven.at_key other first lost) = key_lost lost
   went_lost (work.Awaits it) old calls attempts new is never = absurd never
+  went_lost work.HandedOver old calls attempts new is never = absurd never
   went_lost (work.Ended one) old calls attempts new is (driven.unpassed joined none unmarked same) = ap (λ (s : SessionState). s.work) same
   went_lost (work.Ended one) old calls attempts new is (driven.at_next other continues lost) = key_lost lost
 
@@ -133,11 +152,15 @@ module _ (config : Configuration) (old : SessionState) (said : Step) (new : Sess
   pub went_began : (calls : List Call) → WentOn config old calls said new → BeganAt said new.work
   went_began calls on = (went_leaves config old.work old calls said new refl on).1
 
+  pub went_own : (calls : List Call) → WentOn config old calls said new → IsOwn new.work
+  went_own calls on = (went_leaves config old.work old calls said new refl on).2
+
   taken_leaves : (it : Asking) (outcome : Outcome) (calls : List Call) → IsSent config old.targets it → OutcomeTaken config it outcome old calls said new → LeavesAt said new.work
   taken_leaves it outcome calls sent is =
       let to = ap (λ (s : SessionState). s.work) is.state in (
         ap awaited_in to ∙ names_awaits is.at is.key (goes_names (is.goes sent.original sent.calls sent.form sent.found)) ∙ ap (λ s. asked_in (went_from s)) (sym is.says),
         subst (λ s. BeganAt s new.work) (sym is.says) (stage_began is.at new.work),
+        subst IsOwn (sym to) (own_stage is.at is.key),
       )
 
   pub took_awaits : (it : Asking) (outcome : Outcome) (calls : List Call) → IsSent config old.targets it → OutcomeTaken config it outcome old calls said new
@@ -147,6 +170,9 @@ module _ (config : Configuration) (old : SessionState) (said : Step) (new : Sess
   pub took_began : (it : Asking) (outcome : Outcome) (calls : List Call) → IsSent config old.targets it → OutcomeTaken config it outcome old calls said new → BeganAt said new.work
   took_began it outcome calls sent is = (taken_leaves it outcome calls sent is).1
 
+  pub took_own : (it : Asking) (outcome : Outcome) (calls : List Call) → IsSent config old.targets it → OutcomeTaken config it outcome old calls said new → IsOwn new.work
+  took_own it outcome calls sent is = (taken_leaves it outcome calls sent is).2
+
 pub lost_between : (config : Configuration) (old : SessionState) (calls : List Call) (attempts : List Attempt) (new : SessionState) → WasDropped config old calls attempts new → new.work ≡ work.Between
 lost_between config old calls attempts new lost = went_lost config old.work old calls attempts new refl lost
 
@@ -155,6 +181,15 @@ pub asks_on : (said : Step) (mid now : SessionState) (result : Result Went NoMem
     → OnOk result (now ≡ mid) → IfOk result (λ went. awaited_in now.work ≡ asked_in went)
 asks_on said mid now (Ok got) awaits is same = ap (λ (s : SessionState). awaited_in s.work) same ∙ awaits ∙ ap asked_in (sym is)
 asks_on said mid now (Err fault) awaits is same = tt
+
+-- what the session is at then, and that it waits only for a send
+pub own_on : (mid now : SessionState) (result : Result Went NoMemory) → IsOwn mid.work → OnOk result (now ≡ mid) → IfOk result (λ went. IsOwn now.work)
+own_on mid now (Ok got) own same = subst (λ (s : SessionState). IsOwn s.work) (sym same) own
+own_on mid now (Err fault) own same = tt
+
+pub goes_on : (said : Step) (result : Result Went NoMemory) → IfOk result (λ went. went ≡ went_from said) → IfOk result (λ went. IsOfSession went)
+goes_on said (Ok got) is = subst IsOfSession (sym is) (of_session said)
+goes_on said (Err fault) is = tt
 
 progress_reading : (at : Progress) (items : List Item) (reading : Reading) → ProgressIs at items reading → WentReading (went_of at) reading
 progress_reading progress.More items reading is = tt
@@ -179,6 +214,7 @@ module _ (config : Configuration) where
       said_reading (progress_of one.request) new.reading says (progress_reading (progress_of one.request) _ new.reading (request_progress one.request new.reading))
   reads_from (work.Read one) old calls said new (driven.by_key other first begun) = stage_reading begun.at new.reading begun.says
   reads_from (work.Awaits it) old calls said new never = absurd never
+  reads_from work.HandedOver old calls said new never = absurd never
   reads_from (work.Ended one) old calls said new (driven.over continues none says same) = said_reading progress.More new.reading says tt
   reads_from (work.Ended one) old calls said new (driven.next other continues begun) = stage_reading begun.at new.reading begun.says
 
@@ -292,6 +328,7 @@ awaiting_at work.Between never = absurd never
 awaiting_at (work.Read one) never = absurd never
 awaiting_at (work.Awaits it) is = (it, refl)
 awaiting_at (work.Ended one) never = absurd never
+awaiting_at work.HandedOver never = absurd never
 
 -- it is to one of the session's targets
 pub out_at : (config : Configuration) (state : SessionState) (it : Asking) → state.work ≡ work.Awaits it → IsReady config state → IsSent config state.targets it

@@ -1,33 +1,52 @@
--- A client goes on, takes what came of its request, or has its request dropped.
-use Rattle.std.proofs.Common.{◌≡◌, ◌≢◌, ◌<◌, ℕ, ◌+◌, Bool, true, false, not, List, [], ◌∷◌, ◌++◌, length, Some, Result, Ok, Err, refl, sym, ap, subst, ◌∙◌, add-zero, slice_index}
-use Rattle.std.specs.Bool.{OnTrue}
-use Rattle.std.specs.Prelude.{IfOk, MatchBool, OnErr}
-use Rattle.tko_bytes.specs.declared.memory.NoMemory.{NoMemory}
+-- What a call is to a client: it went on, or handed a request over, or took its reply back.
+use Rattle.std.proofs.Common.{◌≡◌, ◌≢◌, ◌<◌, ℕ, ◌+◌, Bool, true, false, not, List, [], ◌∷◌, ◌++◌, All, length, Option, Some, None, Result, Ok, Err, refl, sym, ap, subst, ◌∙◌, arith}
+use Rattle.std.specs.Bool.{OnFalse, OnTrue}
+use Rattle.std.specs.Prelude.{IfOk, IfSome, IsSome, IsTrue, OnErr, OnOk, ◌↔◌}
+use Rattle.std.proofs.lemmas.List.Elements.{All-nil}
+use Rattle.tko_links.specs.declared.links.NoMemory.{NoMemory as LinksNoMemory}
 use Rattle.tko_links.specs.declared.links.Outcome.{Outcome}
-use Rattle.tko_links.specs.declared.links.Outcome.TheVariants as outcome
-use Rattle.tko_links.specs.Links.{is_sent, most_sends, part_of}
-use Rattle.tko_health.specs.declared.health.Health.{Ghosts as HealthGhosts}
+use Rattle.tko_port.specs.Talks.{HasReplies}
+use Rattle.tko_session.specs.Outgoing.{outgoing}
+use Rattle.tko_model.specs.Records.{Gains}
 use Rattle.tko_model.proofs.RecordLemmas.{gains_append, gains_none, gains_one, gains_push}
 use Rattle.tko_pools.specs.Configs.{Configuration}
-use Rattle.tko_route.specs.declared.attempt.Attempt.{Attempt}
+use Rattle.tko_text.specs.declared.request.Request.{Request}
 use Rattle.tko_reply.specs.Answering.{Extends}
+use Rattle.tko_reply.specs.Cuts as cuts
 use Rattle.tko_reply.specs.Ghosts.{PartsGhosts}
-use Rattle.tko_reply.specs.Interactions.{Interaction, Interacts, Noted, with_links, with_noted}
-use Rattle.tko_reply.specs.Standing.{Asking}
+use Rattle.tko_reply.specs.Interactions.{Interaction}
 use Rattle.tko_reply.specs.declared.parts.Parts.{Parts}
-use Rattle.tko_reply.specs.declared.trails.Trails.{Ghosts as TrailsGhosts}
-use Rattle.tko_session.specs.Acts.{IsLoss, IsSessionCall, came_to}
+use Rattle.tko_mux.specs.Awaits.{IsAsking, awaited_one}
+use Rattle.tko_mux.proofs.AwaitsLemmas.{asks_one}
+use Rattle.tko_keys.specs.KeysActs.{KeysAct}
+use Rattle.tko_keys.specs.KeysDriven.{AreUnderWay, IsAskedAt}
+use Rattle.tko_keys.specs.KeysState.{IsComplete, IsNew, KeysState, MayBegin, awaited}
+use Rattle.tko_keys.specs.declared.ask.Ask.{Ask}
+use Rattle.tko_session.specs.Acts.{IsLoss, IsSessionCall, asked_at}
 use Rattle.tko_session.specs.Acts as act
 use Rattle.tko_session.specs.Awaiting.{awaited_in}
-use Rattle.tko_session.specs.Clients.{ClientPhase, Open, Short, client}
-use Rattle.tko_session.specs.Driven.{IsReady, dropped}
+use Rattle.tko_session.specs.Clients.{ClientPhase, Open, Short}
+use Rattle.tko_session.specs.Driven.{IsReady, MayGoOn, WasDroppedFrom, dropped}
+use Rattle.tko_session.specs.Driven as driven
+use Rattle.tko_session.specs.Handing.{HandsOver, IsHanded}
 use Rattle.tko_session.specs.SessionState.{SessionState}
 use Rattle.tko_session.specs.Working.{Work}
+use Rattle.tko_text.specs.Reading.{Reading}
 use Rattle.tko_session.specs.Working as work
+use Rattle.tko_client.specs.declared.answering.Answering.{Answering}
 use Rattle.tko_client.specs.declared.calls.Went.{Went}
-use Rattle.tko_client.specs.Clients.{ClientOver, HasGone, HasTaken}
-use Rattle.tko_client.specs.Steps.{HasStayed, IsLost, IsLostTaking, IsStepped, IsTaken, client_ghosts, phase_of}
-use Rattle.tko_client.proofs.CallLemmas.{out_at}
+use Rattle.tko_client.specs.declared.calls.Went.TheVariants as went
+use Rattle.tko_client.specs.Answerings.{AreKeysReady, IsAnsweringReady, IsIdle, IsIdleWith, IsOwn, MayCall, MayCallWith, asked_by, asked_for, asked_with, awaited_by, awaited_with, client_at}
+use Rattle.tko_client.specs.declared.client.Course.{Course}
+use Rattle.tko_client.specs.declared.client.Course.TheVariants as course
+use Rattle.tko_client.specs.Calls.{AnsweringOver, IsCalled, IsHaltLeft, IsHalted, IsLeft, IsTakenAs, IsTakenTo}
+use Rattle.tko_client.specs.Clients.{ClientOver, CourseReading, CourseStands, Does, HasGone, HasTaken, phase_at, stage_of}
+use Rattle.tko_client.specs.Handings.{AreKeysComplete, HasEndedKeys, HasHanded}
+use Rattle.tko_client.specs.Handings as handing
+use Rattle.tko_client.specs.Keys.{AreKeysLeft, HasKeyCall, IsOfKeys, TakesAt}
+use Rattle.tko_client.specs.Staying.{no_change, stayed_on}
+use Rattle.tko_client.specs.Steps.{HasStayed, IsLost, IsOfSession, IsStepped, WentReading, WentStands, asked_in, client_ghosts, phase_of}
+use Rattle.tko_client.proofs.AskLemmas.{asked_some, asking_on, none_true, same_asking, servers_of}
 
 -- where the first of the replies is there, they are
 pub first_there : {all : List ℕ} (empty : Bool) (first : List ℕ) → (first ≡ [] → empty ≡ true) → Extends first all → OnTrue (not empty) (all ≢ [])
@@ -35,140 +54,371 @@ first_there true first none more = tt
 first_there {all} false [] none more = absurd (let never : false ≡ true = none refl in let no : ⊥ = cc in no)
 first_there {all} false (b ∷ first) none more = λ is. let same : b ∷ (first ++ more.more) ≡ [] = sym more.is ∙ is in let no : ⊥ = cc in no
 
--- a send that is out is to a server
-pub out_within : (config : Configuration) (state : SessionState) (it : Asking) (servers : ℕ) → state.work ≡ work.Awaits it → IsReady config state
-    → servers ≡ length config.addresses → it.waiting.server < servers
-out_within config state it servers at ready same =
-    let sent = out_at config state it at ready in
-    let within : it.waiting.server < length config.addresses =
-    subst (λ n. n < length config.addresses) (sym sent.out.awaited.server) (sent.out.within (length it.waiting.attempts) 0 sent.out.awaited.tried.shorter) in
-    subst (λ n. it.waiting.server < n) (sym same) within
-
--- the server that the session says is that of the send
-pub names_server : (state : SessionState) (it : Asking) (server : ℕ) → state.work ≡ work.Awaits it → Some server ≡ awaited_in state.work → server ≡ it.waiting.server
-names_server state it server at is =
-    let same : Some server ≡ Some it.waiting.server = is ∙ ap awaited_in at in
-    cc
-
-ok_same : {A E : Type 0} (x y : A) (one other : Result A E) → one ≡ Ok x → other ≡ Ok y → one ≡ other → x ≡ y
-ok_same x y one other is not_other same = cc
-
-err_ok : {A E : Type 0} (x : E) (y : A) (one other : Result A E) → one ≡ Err x → other ≡ Ok y → one ≡ other → ⊥
-err_ok x y one other is not_other same = cc
-
-module _ {H T C : Type 0} (health : HealthGhosts H) (trails : TrailsGhosts T) where
-  -- a send was counted, and came to this
-  counted : (it : Asking) (came : Outcome) (parts mid : Parts H (List ℕ) T C) → is_sent came ≡ true → slice_index parts.backend.links it.waiting.server ≢ most_sends
-      → ((at : ℕ) → slice_index mid.backend.links at ≡ slice_index parts.backend.links at + part_of true it.waiting.server at)
-      → mid ≡ with_links mid.backend.links parts → Interacts (client_ghosts health trails) parts (came_to it (Ok came)) mid
-  counted it came parts mid sent room rises others = (
-    record {
-      item = subst (λ b. MatchBool b (Unit {0}) (mid.backend.links ≡ parts.backend.links)) (sym sent) tt;
-      spent = (
-        λ same. absurd (let is : came ≡ outcome.Spent = ok_same came outcome.Spent _ _ refl refl same in let no : false ≡ true = sym (ap is_sent is) ∙ sent in let never : ⊥ = cc in never),
-        λ full. absurd (room full),
-      );
-      sends = λ server. subst (λ b. slice_index mid.backend.links server ≡ slice_index parts.backend.links server + part_of b it.waiting.server server) (sym sent) (rises server);
-    },
-    λ server. refl,
-    others,
-  )
-
-  -- it was not possible
-  uncounted : (it : Asking) (parts : Parts H (List ℕ) T C) → slice_index parts.backend.links it.waiting.server ≢ most_sends
-      → Interacts (client_ghosts health trails) parts (came_to it (Err (record { sent = false }))) parts
-  uncounted it parts room = (
-    record {
-      item = refl;
-      spent = (λ same. absurd (err_ok _ outcome.Spent _ _ refl refl same), λ full. absurd (room full));
-      sends = λ server. sym (add-zero (slice_index parts.backend.links server));
-    },
-    λ server. refl,
-    refl,
-  )
-
-  -- the session took what came of its send
-  pub has_taken : (state now : SessionState) (parts mid after : Parts H (List ℕ) T C) (came : Outcome) (it : Asking) (result : Result Went NoMemory) → state.work ≡ work.Awaits it
-      → is_sent came ≡ true → slice_index parts.backend.links it.waiting.server ≢ most_sends
-      → ((at : ℕ) → slice_index mid.backend.links at ≡ slice_index parts.backend.links at + part_of true it.waiting.server at)
-      → mid ≡ with_links mid.backend.links parts
-      → IfOk result (λ went. IsTaken (client_ghosts health trails) came (phase_of went) (state, mid) (now, after))
-      → IfOk result (λ went. HasTaken (client_ghosts health trails) (Ok came) (client Open state, parts) (client (phase_of went) now, after))
-  has_taken state now parts mid after came it (Err fault) at sent room rises others is = tt
-  has_taken state now parts mid after came it (Ok went) at sent room rises others is =
-      let config : mid.config ≡ parts.config = ap (λ (p : Parts H (List ℕ) T C). p.config) others in
-      let same : is.it ≡ it = (let equal : work.Awaits is.it ≡ work.Awaits it = sym is.at ∙ at in cc) in
-      let done = came_to is.it (Ok came) ∷ is.then in record {
-        it = is.it;
-        at = is.at;
-        then = is.then;
-        act = (
-          act.stepped done refl refl (subst (λ c. IsSessionCall c state done (phase_of went) now) config is.call),
-          gains_append (gains_one (subst (λ i. Interacts (client_ghosts health trails) parts (came_to i (Ok came)) mid) (sym same) (counted it came parts mid sent room rises others))) is.gains,
-        );
-      }
-
-  -- memory ran out as it did
-  pub has_lost : (state now : SessionState) (parts mid after : Parts H (List ℕ) T C) (came : Outcome) (it : Asking) (result : Result Went NoMemory) → state.work ≡ work.Awaits it
-      → is_sent came ≡ true → slice_index parts.backend.links it.waiting.server ≢ most_sends
-      → ((at : ℕ) → slice_index mid.backend.links at ≡ slice_index parts.backend.links at + part_of true it.waiting.server at)
-      → mid ≡ with_links mid.backend.links parts
-      → OnErr result (IsLostTaking (client_ghosts health trails) came (state, mid) (now, after))
-      → OnErr result (HasTaken (client_ghosts health trails) (Ok came) (client Open state, parts) (client Short now, after))
-  has_lost state now parts mid after came it (Ok went) at sent room rises others is = tt
-  has_lost state now parts mid after came it (Err fault) at sent room rises others is =
-      let config : mid.config ≡ parts.config = ap (λ (p : Parts H (List ℕ) T C). p.config) others in
-      let same : is.it ≡ it = (let equal : work.Awaits is.it ≡ work.Awaits it = sym is.at ∙ at in cc) in
-      let done = came_to is.it (Ok came) ∷ is.then in record {
-        it = is.it;
-        at = is.at;
-        then = is.then;
-        act = (
-          act.lost done refl refl (subst (λ c. IsLoss c state done now) config is.loss) refl,
-          gains_append (gains_one (subst (λ i. Interacts (client_ghosts health trails) parts (came_to i (Ok came)) mid) (sym same) (counted it came parts mid sent room rises others))) is.gains,
-        );
-      }
-
-  -- its request was dropped
-  pub has_stopped : (state now : SessionState) (parts mid after : Parts H (List ℕ) T C) (attempts : List Attempt) (it : Asking) → state.work ≡ work.Awaits it
-      → slice_index parts.backend.links it.waiting.server ≢ most_sends → mid ≡ parts → now ≡ dropped state → attempts ≡ it.waiting.attempts
-      → after ≡ with_noted attempts mid
-      → HasTaken (client_ghosts health trails) (Err (record { sent = false })) (client Open state, parts) (client Short now, after)
-  has_stopped state now parts mid after attempts it at room same is are noted =
-      let then : List Interaction = Noted it.waiting.attempts ∷ [] in
-      let done = came_to it (Err (record { sent = false })) ∷ then in
-      let marked : after ≡ with_noted it.waiting.attempts parts = noted ∙ ap (λ marks. with_noted marks mid) are ∙ ap (with_noted it.waiting.attempts) same in record {
-        it = it;
-        at = at;
-        then = then;
-        act = (
-          act.lost done refl refl (act.stopped it false at is refl) refl,
-          gains_append (gains_one (uncounted it parts room)) (gains_one marked),
-        );
-      }
-
-module _ {H T C : Type 0} (ghosts : PartsGhosts H (List ℕ) T C) where
-  -- nothing was done
-  pub gone_none : (at : ClientOver H T C) → HasGone ghosts at at
-  gone_none at = record { calls = []; gains = gains_none at }
-
-  -- the session went on once more
-  pub gone_on : {old : ClientOver H T C} {phase : ClientPhase} {state now : SessionState} {parts after : Parts H (List ℕ) T C} → parts.config ≡ old.1.config
-      → HasGone ghosts old (client Open state, parts) → IsStepped ghosts phase (state, parts) (now, after) → HasGone ghosts old (client phase now, after)
-  gone_on {old} {phase} {state} {now} {parts} {after} config gone step = record {
-    calls = gone.calls ++ step.done ∷ [];
-    gains = gains_push gone.gains (act.stepped step.done refl refl (subst (λ c. IsSessionCall c state step.done phase now) config step.call), step.gains);
-  }
-
-  -- memory ran out as it did
-  pub gone_short : {old : ClientOver H T C} {state now : SessionState} {parts after : Parts H (List ℕ) T C} → parts.config ≡ old.1.config
-      → HasGone ghosts old (client Open state, parts) → IsLost ghosts (state, parts) (now, after) → HasGone ghosts old (client Short now, after)
-  gone_short {old} {state} {now} {parts} {after} config gone lost = record {
-    calls = gone.calls ++ lost.done ∷ [];
-    gains = gains_push gone.gains (act.lost lost.done refl refl (subst (λ c. IsLoss c state lost.done now) config lost.loss) refl, lost.gains);
-  }
-
 -- what calls leave of the parts, health has the servers of the configuration still
 pub servers_on : {H T C : Type 0} {servers : H → ℕ} {old new : Parts H (List ℕ) T C} → HasStayed servers old new
     → servers old.backend.health ≡ length old.config.addresses → servers new.backend.health ≡ length new.config.addresses
 servers_on stays same = stays.health ∙ same ∙ ap (λ (c : Configuration). length c.addresses) (sym stays.config)
+
+-- a session that may go on awaits nobody, and is its own
+pub goes_none : (at : Work) → MayGoOn at → awaited_in at ≡ None
+goes_none work.Between may = refl
+goes_none (work.Read one) may = refl
+goes_none (work.Awaits it) may = absurd may
+goes_none (work.Ended one) may = refl
+goes_none work.HandedOver may = absurd may
+
+pub may_own : (at : Work) → IsOwn at → awaited_in at ≡ None → MayGoOn at
+may_own work.Between own none = tt
+may_own (work.Read one) own none = tt
+may_own (work.Awaits it) own none = absurd (let no : ⊥ = cc in no)
+may_own (work.Ended one) own none = tt
+may_own work.HandedOver own none = absurd own
+
+asked_work : (at : Work) (server : ℕ) → awaited_in at ≡ Some server → IsSome (asked_for at)
+asked_work work.Between server is = absurd (let no : ⊥ = cc in no)
+asked_work (work.Read one) server is = absurd (let no : ⊥ = cc in no)
+asked_work (work.Awaits it) server is = refl
+asked_work (work.Ended one) server is = absurd (let no : ⊥ = cc in no)
+asked_work work.HandedOver server is = absurd (let no : ⊥ = cc in no)
+
+-- a client without keys stands as its session does
+session_stands : (came : Went) (it : Answering) → it.keys ≡ None → IsOfSession came → IsOwn it.session.work → awaited_in it.session.work ≡ asked_in came → WentStands came it
+session_stands (went.Asks server) it none goes own asks = λ empty.
+    let one : server ∷ [] ≡ [] = sym (ap awaited_one asks) ∙ sym (ap (λ k. awaited_with k it.session.work) none) ∙ empty in let no : ⊥ = cc in no
+session_stands went.On it none goes own asks = subst (λ k. MayCallWith k it.session.work) (sym none) (may_own it.session.work own asks)
+session_stands went.Waits it none goes own asks = absurd goes
+session_stands went.NeedsInput it none goes own asks = subst (λ k. IsIdleWith k it.session.work) (sym none) (may_own it.session.work own asks)
+session_stands went.Over it none goes own asks = subst (λ k. IsIdleWith k it.session.work) (sym none) (may_own it.session.work own asks)
+session_stands went.TooLong it none goes own asks = subst (λ k. IsIdleWith k it.session.work) (sym none) (may_own it.session.work own asks)
+session_stands went.Short it none goes own asks = absurd goes
+
+session_request : (asked : Option ℕ) (it : Answering) → it.keys ≡ None → awaited_in it.session.work ≡ asked → IfSome asked (λ server. IsSome (asked_by it))
+session_request None it none is = tt
+session_request (Some server) it none is = subst (λ k. IsSome (asked_with k it.session.work)) (sym none) (asked_work it.session.work server is)
+
+pub session_awaits : (it : Answering) (asked : Option ℕ) → it.keys ≡ None → awaited_in it.session.work ≡ asked → awaited_by it ≡ awaited_one asked
+session_awaits it asked none is = ap (λ k. awaited_with k it.session.work) none ∙ ap awaited_one is
+
+pub session_left : {H T C : Type 0} {ghosts : PartsGhosts H (List ℕ) T C} {servers : H → ℕ} (came : Went) (old new : Answering) (parts after : Parts H (List ℕ) T C) → new.keys ≡ None
+    → IsOfSession came → IsOwn new.session.work → awaited_in new.session.work ≡ asked_in came → WentReading came new.session.reading → IsReady after.config new.session
+    → HasStayed servers parts after → IsLeft ghosts servers came (old, parts) (new, after)
+session_left came old new parts after none goes own asks reading ready stays = record {
+  request = session_request (asked_in came) new none asks;
+  stands = session_stands came new none goes own asks;
+  reading = reading;
+  ready = record { session = ready; keys = subst (λ k. AreKeysReady after.config k new.session.work) (sym none) own };
+  stays = stays;
+}
+
+-- its request was dropped
+pub short_left : {H T C : Type 0} {ghosts : PartsGhosts H (List ℕ) T C} {servers : H → ℕ} (old new : Answering) (parts after : Parts H (List ℕ) T C) → new.keys ≡ None
+    → new.session.work ≡ work.Between → IsReady after.config new.session → HasStayed servers parts after → IsLeft ghosts servers went.Short (old, parts) (new, after)
+short_left old new parts after none between ready stays = record {
+  request = tt;
+  stands = subst (λ k. IsIdleWith k new.session.work) (sym none) (subst MayGoOn (sym between) tt);
+  reading = tt;
+  ready = record { session = ready; keys = subst (λ k. AreKeysReady after.config k new.session.work) (sym none) (subst IsOwn (sym between) tt) };
+  stays = stays;
+}
+
+pub between_ready : (config : Configuration) (state : SessionState) → state.work ≡ work.Between → IsReady config state
+between_ready config state between = subst (driven.IsReadyFor config state) (sym between) tt
+
+-- one that awaited nobody asks whom its session asks
+pub session_asks : (old new : Answering) (asked : Option ℕ) → old.keys ≡ None → awaited_in old.session.work ≡ None → new.keys ≡ None → awaited_in new.session.work ≡ asked
+    → IsAsking asked (awaited_by old) (awaited_by new)
+session_asks old new asked none nobody without is =
+    subst (λ xs. IsAsking asked xs (awaited_by new)) (sym (session_awaits old None none nobody))
+    (subst (λ xs. IsAsking asked [] xs) (sym (session_awaits new asked without is)) (asks_one asked))
+
+pub idle_none : (it : Answering) → IsIdle it → (it.keys ≡ None) × MayGoOn it.session.work
+idle_none it idle = by it.keys refl
+  where
+    by : (keys : Option KeysState) → it.keys ≡ keys → (it.keys ≡ None) × MayGoOn it.session.work
+    by None is = (is, subst (λ k. IsIdleWith k it.session.work) is idle)
+    by (Some keys) is = absurd (subst (λ k. IsIdleWith k it.session.work) is idle)
+
+pub idle_awaits : (it : Answering) → IsIdle it → awaited_by it ≡ []
+idle_awaits it idle = let none = idle_none it idle in session_awaits it None none.0 (goes_none it.session.work none.1)
+
+-- a call for keys leaves a client open
+pub keys_phase : (came : Went) → IsOfKeys came → phase_of came ≡ Open
+keys_phase (went.Asks server) goes = refl
+keys_phase went.On goes = refl
+keys_phase went.Waits goes = absurd goes
+keys_phase went.NeedsInput goes = absurd goes
+keys_phase went.Over goes = absurd goes
+keys_phase went.TooLong goes = absurd goes
+keys_phase went.Short goes = absurd goes
+
+keys_reading : (came : Went) (reading : Reading) → IsOfKeys came → WentReading came reading
+keys_reading (went.Asks server) reading goes = tt
+keys_reading went.On reading goes = tt
+keys_reading went.Waits reading goes = absurd goes
+keys_reading went.NeedsInput reading goes = absurd goes
+keys_reading went.Over reading goes = absurd goes
+keys_reading went.TooLong reading goes = absurd goes
+keys_reading went.Short reading goes = absurd goes
+
+keys_stands : (came : Went) (it : Answering) (now : KeysState) → IsOfKeys came → it.keys ≡ Some now → ((server : ℕ) → asked_in came ≡ Some server → awaited now ≢ []) → WentStands came it
+keys_stands (went.Asks server) it now goes are some = λ empty. some server refl (sym (ap (λ k. awaited_with k it.session.work) are) ∙ empty)
+keys_stands went.On it now goes are some = subst (λ k. MayCallWith k it.session.work) (sym are) tt
+keys_stands went.Waits it now goes are some = absurd goes
+keys_stands went.NeedsInput it now goes are some = absurd goes
+keys_stands went.Over it now goes are some = absurd goes
+keys_stands went.TooLong it now goes are some = absurd goes
+keys_stands went.Short it now goes are some = absurd goes
+
+-- a client with keys, and what a call for them leaves of it
+pub keys_left : {H T C : Type 0} {ghosts : PartsGhosts H (List ℕ) T C} {servers : H → ℕ} (came : Went) (old : Answering) (keys now : KeysState) (parts mid after : Parts H (List ℕ) T C)
+    → IsAnsweringReady parts.config old → old.session.work ≡ work.HandedOver → mid.config ≡ parts.config → AreKeysLeft came (keys, mid) (now, after)
+    → ((server : ℕ) → asked_in came ≡ Some server → awaited now ≢ []) → HasStayed servers parts after
+    → IsLeft ghosts servers came (old, parts) (record old { keys = Some now }, after)
+keys_left came old keys now parts mid after ready at config left some stays =
+    let new : Answering = record old { keys = Some now } in record {
+      request = left.request;
+      stands = keys_stands came new now left.goes refl some;
+      reading = keys_reading came old.session.reading left.goes;
+      ready = record {
+        session = subst (λ c. IsReady c old.session) (sym stays.config) ready.session;
+        keys = (at, subst (λ c. AreUnderWay c now) (config ∙ sym stays.config) left.ready);
+      };
+      stays = stays;
+    }
+
+pub handed_at : {config : Configuration} {it : Answering} {keys : KeysState} → IsAnsweringReady config it → it.keys ≡ Some keys → it.session.work ≡ work.HandedOver
+handed_at {config} {it} ready are = (subst (λ k. AreKeysReady config k it.session.work) are ready.keys).0
+
+pub under_way : {config : Configuration} {it : Answering} {keys : KeysState} → IsAnsweringReady config it → it.keys ≡ Some keys → AreUnderWay config keys
+under_way {config} {it} ready are = (subst (λ k. AreKeysReady config k it.session.work) are ready.keys).1
+
+-- it is ready to take the reply of its keys
+pub is_handed : {config : Configuration} {it : Answering} {keys : KeysState} → IsAnsweringReady config it → it.keys ≡ Some keys → IsHanded it.session
+is_handed {config} {it} ready are =
+    let at = handed_at ready are in record { at = at; begins = subst (driven.IsReadyFor config it.session) at ready.session }
+
+-- nothing is under way for keys, and none may be begun
+pub complete_by : (keys : KeysState) (waits may : Bool) → IsTrue waits ↔ (awaited keys ≢ []) → IsTrue may ↔ MayBegin keys → waits ≡ false → may ≡ false → IsComplete keys
+complete_by keys waits may some begins none never = (asks_none keys.asks (none_true (awaited keys) waits some), cannot)
+  where
+    asks_none : (asks : List Ask) → OnFalse waits (servers_of asks ≡ []) → asks ≡ []
+    asks_none [] is = refl
+    asks_none (ask ∷ asks) is = absurd (let empty : servers_of (ask ∷ asks) ≡ [] = subst (λ b. OnFalse b (servers_of (ask ∷ asks) ≡ [])) none is in let no : ⊥ = cc in no)
+
+    cannot : ¬ (MayBegin keys)
+    cannot begin = let yes' : true ≡ false = sym (begins.1 begin) ∙ never in let no : ⊥ = cc in no
+
+-- the keys of a request, none of which was begun
+new_under_way : (config : Configuration) (request : Request) (most : ℕ) (keys : KeysState) → 0 < most → IsNew request most keys → AreUnderWay config keys
+new_under_way config request most keys some is =
+    subst (AreUnderWay config) (sym is.is) (record {
+      asked = All-nil (IsAskedAt config []);
+      once = λ place. refl;
+      some = some;
+      few = omega arith;
+      near = omega arith;
+      failed = λ never. absurd (let no : ⊥ = cc in no);
+    })
+
+module _ {H T C : Type 0} (ghosts : PartsGhosts H (List ℕ) T C) where
+  -- nothing was done; or one act
+  pub gone_none : (at : ClientOver H T C) → HasGone ghosts at at
+  gone_none at = record { calls = []; gains = gains_none at }
+
+  pub gone_one : {old new : ClientOver H T C} (done : List Interaction) → Does ghosts old.1.config old done new → HasGone ghosts old new
+  gone_one done does = record { calls = done ∷ []; gains = gains_one does }
+
+  pub gone_on : {old mid new : ClientOver H T C} → mid.1.config ≡ old.1.config → HasGone ghosts old mid → HasGone ghosts mid new → HasGone ghosts old new
+  gone_on {old} {mid} {new} config first second = record {
+    calls = first.calls ++ second.calls;
+    gains = gains_append first.gains (subst (λ c. Gains (Does ghosts c) mid second.calls new) config second.gains);
+  }
+
+module _ {H T C : Type 0} (ghosts : PartsGhosts H (List ℕ) T C) (servers : H → ℕ) where
+  -- the session went on
+  pub session_called : (came : Went) (old new : Answering) (parts after : Parts H (List ℕ) T C) → IsIdle old → new ≡ record old { session = new.session; told = new.told }
+      → IsStepped ghosts (phase_of came) (old.session, parts) (new.session, after) → IsOfSession came → IsOwn new.session.work → awaited_in new.session.work ≡ asked_in came
+      → WentReading came new.session.reading → IsReady after.config new.session → HasStayed servers parts after → IsCalled ghosts servers came (old, parts) (new, after)
+  session_called came old new parts after idle same step goes own asks reading ready stays =
+      let none = idle_none old idle in
+      let without : new.keys ≡ None = ap (λ (it : Answering). it.keys) same ∙ none.0 in record {
+        gone = gone_one ghosts step.done (act.stepped step.done refl refl step.call (ap (client_at (phase_of came)) same), step.gains);
+        asks = session_asks old new (asked_in came) none.0 (goes_none old.session.work none.1) without asks;
+        left = session_left came old new parts after without goes own asks reading ready stays;
+      }
+
+  -- memory ran out as it did
+  pub session_short : (old new : Answering) (parts after : Parts H (List ℕ) T C) → IsIdle old → new ≡ record old { session = new.session; told = new.told }
+      → IsLost ghosts (old.session, parts) (new.session, after) → new.session.work ≡ work.Between → HasStayed servers parts after
+      → IsCalled ghosts servers went.Short (old, parts) (new, after)
+  session_short old new parts after idle same lost between stays =
+      let none = idle_none old idle in
+      let without : new.keys ≡ None = ap (λ (it : Answering). it.keys) same ∙ none.0 in record {
+        gone = gone_one ghosts lost.done (act.lost lost.done refl refl lost.loss (ap (client_at Short) same), lost.gains);
+        asks = session_asks old new None none.0 (goes_none old.session.work none.1) without (ap awaited_in between);
+        left = short_left old new parts after without between (between_ready after.config new.session between) stays;
+      }
+
+  -- a call was made for the keys
+  pub keys_called : (came : Went) (old : Answering) (keys now : KeysState) (parts after : Parts H (List ℕ) T C) → IsAnsweringReady parts.config old → old.keys ≡ Some keys
+      → HasKeyCall ghosts came (keys, parts) (now, after) → HasStayed servers parts after → IsCalled ghosts servers came (old, parts) (record old { keys = Some now }, after)
+  keys_called came old keys now parts after ready are call stays =
+      let at = handed_at ready are in
+      let has : act.HasKeys (client_at Open old) keys = record { going = refl; at = at; are = are } in
+      let asks : IsAsking (asked_in came) (awaited_by old) (awaited now) =
+      subst (λ k. IsAsking (asked_in came) (awaited_with k old.session.work) (awaited now)) (sym are) call.asks in record {
+        gone = gone_one ghosts call.done (
+          act.keyed call.done keys now has call.act refl (ap (λ p. client_at p (record old { keys = Some now })) (keys_phase came call.left.goes)),
+          call.gains,
+        );
+        asks = asks;
+        left = keys_left came old keys now parts parts after ready at refl call.left
+            (λ server is. asked_some server (awaited keys) (awaited now) (subst (λ a. IsAsking a (awaited keys) (awaited now)) is call.asks)) stays;
+      }
+
+  -- nothing can be done for the keys
+  pub keys_wait : (old : Answering) (keys : KeysState) (parts : Parts H (List ℕ) T C) → IsAnsweringReady parts.config old → old.keys ≡ Some keys → awaited keys ≢ []
+      → IsCalled ghosts servers went.Waits (old, parts) (old, parts)
+  keys_wait old keys parts ready are some = record {
+    gone = gone_none ghosts (client_at Open old, parts);
+    asks = same_asking (awaited_by old) (awaited_by old) refl;
+    left = record {
+      request = tt;
+      stands = λ empty. some (sym (ap (λ k. awaited_with k old.session.work) are) ∙ empty);
+      reading = tt;
+      ready = ready;
+      stays = no_change;
+    };
+  }
+
+  -- a request for several keys was handed over, or dropped
+  pub handed_called : (came : Went) (old new : Answering) (parts : Parts H (List ℕ) T C) → IsAnsweringReady parts.config old → IsIdle old → HasHanded came old new
+      → IsCalled ghosts servers came (old, parts) (new, parts)
+  handed_called came old new parts ready idle (handing.taken request keys several hands begins same is) =
+      let none = idle_none old idle in
+      let keyed : new.keys ≡ Some keys = ap (λ (it : Answering). it.keys) same in
+      let at : new.session.work ≡ work.HandedOver = ap (λ (s : SessionState). s.work) hands.state in
+      let read = subst (driven.IsReadyFor parts.config old.session) hands.at ready.session in
+      let nobody : awaited_by old ≡ [] = session_awaits old None none.0 (goes_none old.session.work none.1) in
+      let empty : awaited_by new ≡ [] = ap (λ k. awaited_with k new.session.work) keyed ∙ ap awaited begins.is in
+      let under : AreUnderWay parts.config keys = new_under_way parts.config request old.most keys (omega (arith, several)) begins in
+      subst (λ w. IsCalled ghosts servers w (old, parts) (new, parts)) (sym is) (record {
+        gone = gone_one ghosts [] (act.handed request keys refl several hands begins refl (ap (client_at Open) same), gains_none parts);
+        asks = same_asking (awaited_by old) (awaited_by new) (empty ∙ sym nobody);
+        left = record {
+          request = tt;
+          stands = subst (λ k. MayCallWith k new.session.work) (sym keyed) tt;
+          reading = tt;
+          ready = record {
+            session = subst (λ (s : SessionState). IsReady parts.config s) (sym hands.state) read.begins;
+            keys = subst (λ k. AreKeysReady parts.config k new.session.work) (sym keyed) (at, under);
+          };
+          stays = no_change;
+        };
+      })
+  handed_called came old new parts ready idle (handing.refused request mid hands same is) =
+      let none = idle_none old idle in
+      let session : new.session ≡ dropped old.session = ap (λ (it : Answering). it.session) same ∙ ap dropped hands.state in
+      let between : new.session.work ≡ work.Between = ap (λ (s : SessionState). s.work) session in
+      let without : new.keys ≡ None = ap (λ (it : Answering). it.keys) same ∙ none.0 in
+      let lost : WasDroppedFrom parts.config old.session.work old.session [] [] new.session =
+      subst (λ w. WasDroppedFrom parts.config w old.session [] [] new.session) (sym hands.at) (driven.unkeyed (cuts.nothing refl) refl session) in
+      subst (λ w. IsCalled ghosts servers w (old, parts) (new, parts)) (sym is) (record {
+        gone = gone_one ghosts [] (
+          act.lost [] refl refl (act.went [] [] lost refl) (ap (client_at Short) same ∙ ap (λ s. client_at Short (record old { session = s })) (sym (ap (λ (it : Answering). it.session) same))),
+          gains_none parts,
+        );
+        asks = session_asks old new None none.0 (goes_none old.session.work none.1) without (ap awaited_in between);
+        left = short_left old new parts parts without between (between_ready parts.config new.session between) no_change;
+      })
+
+  -- the reply of a request whose keys are complete was taken, or it was dropped
+  pub ended_called : (came : Went) (old new : Answering) (parts : Parts H (List ℕ) T C) → IsAnsweringReady parts.config old → AreKeysComplete old → HasEndedKeys came old new
+      → IsCalled ghosts servers came (old, parts) (new, parts)
+  ended_called came old new parts ready complete (handing.replied keys are lost same is) =
+      let keys_same : complete.keys ≡ keys = (let both : Some complete.keys ≡ Some keys = sym complete.are ∙ are in cc) in
+      let over : IsComplete keys = subst IsComplete keys_same complete.complete in
+      let has : act.HasKeys (client_at Open old) keys = record { going = refl; at = complete.handed.at; are = are } in
+      let without : new.keys ≡ None = ap (λ (it : Answering). it.keys) same in
+      let between : new.session.work ≡ work.Between = ap (λ (it : Answering). it.session.work) same in
+      let nobody : awaited_by old ≡ [] = ap (λ k. awaited_with k old.session.work) are ∙ ap servers_of over.0 in
+      let empty : awaited_by new ≡ [] = session_awaits new None without (ap awaited_in between) in
+      subst (λ w. IsCalled ghosts servers w (old, parts) (new, parts)) (sym is) (record {
+        gone = gone_one ghosts [] (act.replied keys has over lost refl (ap (client_at Open) same), gains_none parts);
+        asks = same_asking (awaited_by old) (awaited_by new) (empty ∙ sym nobody);
+        left = session_left went.On old new parts parts without tt (subst IsOwn (sym between) tt) (ap awaited_in between) tt (between_ready parts.config new.session between) no_change;
+      })
+  ended_called came old new parts ready complete (handing.lost keys are same is) =
+      let keys_same : complete.keys ≡ keys = (let both : Some complete.keys ≡ Some keys = sym complete.are ∙ are in cc) in
+      let over : IsComplete keys = subst IsComplete keys_same complete.complete in
+      let has : act.HasKeys (client_at Open old) keys = record { going = refl; at = complete.handed.at; are = are } in
+      let without : new.keys ≡ None = ap (λ (it : Answering). it.keys) same in
+      let between : new.session.work ≡ work.Between = ap (λ (it : Answering). it.session.work) same in
+      let nobody : awaited_by old ≡ [] = ap (λ k. awaited_with k old.session.work) are ∙ ap servers_of over.0 in
+      let empty : awaited_by new ≡ [] = session_awaits new None without (ap awaited_in between) in
+      subst (λ w. IsCalled ghosts servers w (old, parts) (new, parts)) (sym is) (record {
+        gone = gone_one ghosts [] (act.keys_lost keys has over refl (ap (client_at Short) same), gains_none parts);
+        asks = same_asking (awaited_by old) (awaited_by new) (empty ∙ sym nobody);
+        left = short_left old new parts parts without between (between_ready parts.config new.session between) no_change;
+      })
+
+  -- what a call leaves, where its client stands so
+  pub halt_left : (came : Went) (there : Course) (asked : Option ℕ) (old mid new : AnsweringOver H T C) → asked ≡ asked_in came → (there ≡ course.Short → asked ≡ None)
+      → (WentStands came new.0 → CourseStands there new.0) → ((reading : Reading) → WentReading came reading → CourseReading there reading) → HasStayed servers old.1 mid.1
+      → IsLeft ghosts servers came mid new → IsHaltLeft ghosts servers there asked old new
+  halt_left came there asked old mid new is short stands reads stays left = record {
+    request = subst (λ a. IfSome a (λ server. IsSome (asked_by new.0))) (sym is) left.request;
+    short = short;
+    stands = stands left.stands;
+    reading = reads new.0.session.reading left.reading;
+    ready = left.ready;
+    stays = stayed_on stays left.stays;
+  }
+
+  -- a client went on as long as it could
+  pub halted_after : (came : Went) (there : Course) (asked : Option ℕ) (old mid new : AnsweringOver H T C) → phase_at there ≡ phase_of came → asked ≡ asked_in came
+      → (there ≡ course.Short → asked ≡ None) → (WentStands came new.0 → CourseStands there new.0)
+      → ((reading : Reading) → WentReading came reading → CourseReading there reading) → ((output : List ℕ) → HasReplies (stage_of there) output)
+      → HasGone ghosts (client_at Open old.0, old.1) (client_at Open mid.0, mid.1) → IsAsking None (awaited_by old.0) (awaited_by mid.0) → HasStayed servers old.1 mid.1
+      → IsCalled ghosts servers came mid new → IsHalted ghosts servers there asked old new
+  halted_after came there asked old mid new phase is short stands reads replies gone none stays call = record {
+    gone = subst (λ p. HasGone ghosts (client_at Open old.0, old.1) (client_at p new.0, new.1)) (sym phase) (gone_on ghosts stays.config gone call.gone);
+    asks = subst (λ a. IsAsking a (awaited_by old.0) (awaited_by new.0)) (sym is) (asking_on (asked_in came) (awaited_by old.0) (awaited_by mid.0) (awaited_by new.0) none call.asks);
+    replies = replies (outgoing new.0.session);
+    left = halt_left came there asked old mid new is short stands reads stays call.left;
+  }
+
+  -- it went on once more
+  pub called_on : (old mid new : AnsweringOver H T C) → HasGone ghosts (client_at Open old.0, old.1) (client_at Open mid.0, mid.1) → HasStayed servers old.1 mid.1
+      → IsCalled ghosts servers went.On mid new → HasGone ghosts (client_at Open old.0, old.1) (client_at Open new.0, new.1)
+  called_on old mid new gone stays call = gone_on ghosts stays.config gone call.gone
+
+  -- replies are to be written, or so many calls were made
+  pub halted_full : (old new : AnsweringOver H T C) → HasGone ghosts (client_at Open old.0, old.1) (client_at Open new.0, new.1) → IsAsking None (awaited_by old.0) (awaited_by new.0)
+      → HasStayed servers old.1 new.1 → IsAnsweringReady new.1.config new.0 → IsIdle new.0 → outgoing new.0.session ≢ [] → IsHalted ghosts servers course.Full None old new
+  halted_full old new gone asks stays ready idle some = record {
+    gone = gone;
+    asks = asks;
+    replies = some;
+    left = record { request = tt; short = λ never. refl; stands = idle; reading = tt; ready = ready; stays = stays };
+  }
+
+  pub halted_going : (old new : AnsweringOver H T C) → HasGone ghosts (client_at Open old.0, old.1) (client_at Open new.0, new.1) → IsAsking None (awaited_by old.0) (awaited_by new.0)
+      → HasStayed servers old.1 new.1 → IsAnsweringReady new.1.config new.0 → MayCall new.0 → IsHalted ghosts servers course.Going None old new
+  halted_going old new gone asks stays ready may = record {
+    gone = gone;
+    asks = asks;
+    replies = tt;
+    left = record { request = tt; short = λ never. refl; stands = may; reading = tt; ready = ready; stays = stays };
+  }
+
+  -- what came of a request was taken, and the client stands so
+  pub taken_to : (unsent : Bool) (server : ℕ) (result : Result Outcome LinksNoMemory) (came : Went) (there : Course) (asked : Option ℕ) (old new : AnsweringOver H T C)
+      → phase_at there ≡ phase_of came → asked ≡ asked_in came → (there ≡ course.Short → asked ≡ None) → (WentStands came new.0 → CourseStands there new.0)
+      → ((reading : Reading) → WentReading came reading → CourseReading there reading) → IsTakenAs ghosts servers unsent server result came old new
+      → IsTakenTo ghosts servers unsent server result there asked old new
+  taken_to unsent server result came there asked old new phase is short stands reads call = record {
+    taken = subst (λ p. HasTaken ghosts unsent server result (client_at Open old.0, old.1) (client_at p new.0, new.1)) (sym phase) call.taken;
+    takes = subst (λ a. TakesAt server a (awaited_by old.0) (awaited_by new.0)) (sym is) call.takes;
+    left = halt_left came there asked old old new is short stands reads no_change call.left;
+  }

@@ -1,6 +1,10 @@
+pub mod AskLemmas
 pub mod CallLemmas
 pub mod ClientLemmas
 pub mod GoingLemmas
+pub mod HandingLemmas
+pub mod KeysLemmas
 pub mod LawLemmas
 pub mod LivingLemmas
 pub mod RecordedLemmas
+pub mod TakingLemmas

@@ -1,32 +1,36 @@
 -- A client of an event-driven worker: how it stands, and what each call of it is to its life.
-use Rattle.std.specs.Prelude.{◌≡◌, ℕ, List, [], ◌∷◌, Option, Some, None, Result, flat_map, length, take}
+use Rattle.std.specs.Prelude.{◌≡◌, ◌≢◌, ℕ, Bool, List, [], ◌∷◌, Option, Some, None, Result, flat_map, slice_get, take}
 use Rattle.tko_model.specs.Records.{Gains}
 use Rattle.tko_links.specs.declared.links.NoMemory.{NoMemory}
 use Rattle.tko_links.specs.declared.links.Outcome.{Outcome}
 use Rattle.tko_pools.specs.Configs.{Configuration}
+use Rattle.tko_route.specs.Underway.{Awaited}
 use Rattle.tko_reply.specs.Ghosts.{PartsGhosts}
 use Rattle.tko_reply.specs.Interactions.{Interaction}
 use Rattle.tko_reply.specs.Standing.{Asking}
 use Rattle.tko_reply.specs.declared.parts.Parts.{Parts}
+use Rattle.tko_keys.specs.KeysActs.{key_came}
+use Rattle.tko_keys.specs.KeysState.{KeySlot, KeysState}
 use Rattle.tko_session.specs.Acts.{came_to}
-use Rattle.tko_session.specs.Clients.{Client, ClientPhase, IsClient, Life, Open, Over as PhaseOver, Short as PhaseShort, client, life}
-use Rattle.tko_session.specs.Driven.{IsAwaiting, IsReady}
+use Rattle.tko_session.specs.Clients.{Client, ClientPhase, IsClient, Life, Open, Over as PhaseOver, Short as PhaseShort, life}
 use Rattle.tko_session.specs.ManyClients.{ActsOn}
 use Rattle.tko_session.specs.Outgoing.{outgoing}
-use Rattle.tko_session.specs.Working.{Work}
 use Rattle.tko_session.specs.Working as work
 use Rattle.tko_text.specs.Reading.{Never, Reading}
-use Rattle.tko_text.specs.declared.request.Request.{Request}
 use Rattle.tko_port.specs.Talks.{Dropped, Ended, Fed, NotFed, Sent, Talk, TalkItem, Took, Went}
 use Rattle.tko_port.specs.declared.talking.Stage.{Stage}
 use Rattle.tko_port.specs.declared.talking.Stage.TheVariants as stage
+use Rattle.tko_client.specs.declared.answering.Answering.{Answering}
 use Rattle.tko_client.specs.declared.client.Course.{Course}
-use Rattle.tko_client.specs.declared.client.Course.TheVariants.{Ended as CourseEnded, Full, Going, NeedsInput, Over, Short, TooLong}
+use Rattle.tko_client.specs.declared.client.Course.TheVariants.{Ended as CourseEnded, Full, Going, NeedsInput, Over, Short, TooLong, Waits}
 use Rattle.tko_client.specs.declared.client.EventClient.{EventClient}
-use Rattle.tko_client.specs.Comings.{result_of}
+use Rattle.tko_client.specs.Answerings.{IsAnsweringReady, IsIdle, MayCall, awaited_by, client_at, held_by}
+use Rattle.tko_client.specs.Comings.{is_unsent, result_of}
+use Rattle.tko_client.specs.Keys.{IsOutAt}
 
 abbrev pub stage_of : Course → Stage
 stage_of Going = stage.Going
+stage_of Waits = stage.Waits
 stage_of Full = stage.Full
 stage_of NeedsInput = stage.NeedsInput
 stage_of CourseEnded = stage.Over
@@ -36,6 +40,7 @@ stage_of TooLong = stage.TooLong
 
 abbrev pub phase_at : Course → ClientPhase
 phase_at Going = Open
+phase_at Waits = Open
 phase_at Full = Open
 phase_at NeedsInput = Open
 phase_at CourseEnded = Open
@@ -46,6 +51,7 @@ phase_at TooLong = PhaseOver
 -- after a line that was too long nothing is read
 abbrev pub CourseReading : Course → Reading → Type 0
 CourseReading Going reading = Unit {0}
+CourseReading Waits reading = Unit {0}
 CourseReading Full reading = Unit {0}
 CourseReading NeedsInput reading = Unit {0}
 CourseReading CourseEnded reading = Unit {0}
@@ -53,18 +59,45 @@ CourseReading Over reading = Unit {0}
 CourseReading TooLong reading = reading.after ≡ Never
 CourseReading Short reading = Unit {0}
 
+-- how a client stands: it can be called; or it waits, and a request is under way; else no request
+-- of it is being asked for
+abbrev pub CourseStands : Course → Answering → Type 0
+CourseStands Going it = MayCall it
+CourseStands Waits it = awaited_by it ≢ []
+CourseStands Full it = IsIdle it
+CourseStands NeedsInput it = IsIdle it
+CourseStands CourseEnded it = IsIdle it
+CourseStands Over it = IsIdle it
+CourseStands TooLong it = IsIdle it
+CourseStands Short it = IsIdle it
+
+-- how a client stands that asks a server: it can be called, or it waits
+abbrev pub IsAsked : Course → Answering → Type 0
+IsAsked Going it = MayCall it
+IsAsked Waits it = Unit {0}
+IsAsked Full it = ⊥
+IsAsked NeedsInput it = ⊥
+IsAsked CourseEnded it = ⊥
+IsAsked Over it = ⊥
+IsAsked TooLong it = ⊥
+IsAsked Short it = ⊥
+
 -- the client of a worker that this is
 abbrev pub client_of : EventClient → Client
-client_of it = client (phase_at it.course) it.session
+client_of it = client_at (phase_at it.course) it.answering
+
+-- the servers that its requests are under way to, one for each of them
+abbrev pub awaits : EventClient → List ℕ
+awaits it = awaited_by it.answering
 
 -- as its port sees it
 abbrev pub talk_of : EventClient → Talk
 talk_of it = record {
   stage = stage_of it.course;
-  output = outgoing it.session;
-  answered = it.session.requests;
+  output = outgoing it.answering.session;
+  answered = it.answering.session.requests;
   taken = it.taken;
-  held = length it.session.outbox;
+  held = held_by it.answering;
 }
 
 -- a client, and the parts that all share
@@ -81,17 +114,37 @@ module _ {H T C : Type 0} (ghosts : PartsGhosts H (List ℕ) T C) where
     pub calls : List (List Interaction)
     pub gains : Gains (Does old.1.config) old calls new
 
-  -- an act in which this came of the send that was out, and then more was done
-  pub record HasTaken (result : Result Outcome NoMemory) (old new : ClientOver H T C) : Type 0
-    where
-      pub it : Asking
-      pub at : old.0.session.work ≡ work.Awaits it
-      pub then : List Interaction
-      pub act : Does old.1.config old (came_to it result ∷ then) new
+  -- an act in which this came of the session's send, which is out to this server, and then more was
+  -- done
+  pub record HasTakenSend (server : ℕ) (result : Result Outcome NoMemory) (old new : ClientOver H T C)
+      : Type 0 where
+    pub it : Asking
+    pub at : old.0.session.work ≡ work.Awaits it
+    pub to : it.waiting.server ≡ server
+    pub then : List Interaction
+    pub act : Does old.1.config old (came_to it result ∷ then) new
 
-  -- what is done with a client is acts of its life: its session makes calls; memory runs out for
-  -- it; bytes come, or there is no memory for them; they end; replies are written; or what came of
-  -- its request is taken
+  -- an act in which this came of the request of one of the keys that were handed over, and then more
+  -- was done: of the first that is under way to this server; or of the last, which was not sent
+  pub record HasTakenKey (unsent : Bool) (server : ℕ) (result : Result Outcome NoMemory)
+      (old new : ClientOver H T C) : Type 0 where
+    pub keys : KeysState
+    pub are : old.0.keys ≡ Some keys
+    pub slot : KeySlot
+    pub waiting : Awaited
+    pub out : IsOutAt unsent server keys slot waiting
+    pub then : List Interaction
+    pub act : Does old.1.config old (key_came slot waiting result ∷ then) new
+
+  pub data HasTaken (unsent : Bool) (server : ℕ) (result : Result Outcome NoMemory)
+      (old new : ClientOver H T C) : Type 0 where
+    by_session : old.0.keys ≡ None → HasTakenSend server result old new
+        → HasTaken unsent server result old new
+    by_key : HasTakenKey unsent server result old new → HasTaken unsent server result old new
+
+  -- what is done with a client is acts of its life: its session makes calls, or calls are made for
+  -- the keys of its request; memory runs out for it; bytes come, or there is no memory for them;
+  -- they end; replies are written; or what came of its request is taken
   abbrev pub DoesAs : TalkItem → ClientOver H T C → ClientOver H T C → Type 0
   DoesAs (Went asked) old new = HasGone old new
   DoesAs Dropped old new = HasGone old new × (new.0.phase ≡ PhaseShort)
@@ -100,14 +153,15 @@ module _ {H T C : Type 0} (ghosts : PartsGhosts H (List ℕ) T C) where
   DoesAs Ended old new = new ≡ old
   DoesAs (Sent count) old new =
       ActsOn ghosts old.1.config old (life [] (take count old.0.session.outbox) []) new
-  DoesAs (Took came asked) old new = HasTaken (result_of came) old new
+  DoesAs (Took server came asked) old new =
+      HasTaken (is_unsent came) server (result_of came) old new
 
--- it can be called with this configuration; while a send is out for it its session is open; and it
--- is over for a line that was too long only where nothing more is read
+-- it can be called with this configuration; it stands as it says; and it is over for a line that was
+-- too long only where nothing more is read
 pub record IsReadyOver (config : Configuration) (it : EventClient) : Type 0 where
-  pub session : IsReady config it.session
-  pub going : IsAwaiting it.session.work → it.course ≡ Going
-  pub reading : CourseReading it.course it.session.reading
+  pub answering : IsAnsweringReady config it.answering
+  pub stands : CourseStands it.course it.answering
+  pub reading : CourseReading it.course it.answering.session.reading
 
 -- it can be called with this configuration, once these bytes came to it and these went from it: all
 -- that was done with it is one session's life
@@ -117,13 +171,6 @@ pub record IsReadyAfter (config : Configuration) (came went : List ℕ) (it : Ev
     pub done : List Interaction
     pub is : IsClient config (life came went done) (client_of it)
 
--- the request that a send is out for
-abbrev pub asked_for : Work → Option Request
-asked_for work.Between = None
-asked_for (work.Read one) = None
-asked_for (work.Awaits it) = Some it.key.request
-asked_for (work.Ended one) = None
-
 -- the bytes that a call takes from the client
 abbrev pub bytes_in : TalkItem → List ℕ
 bytes_in (Fed bytes) = bytes
@@ -132,7 +179,7 @@ bytes_in Dropped = []
 bytes_in NotFed = []
 bytes_in Ended = []
 bytes_in (Sent count) = []
-bytes_in (Took came asked) = []
+bytes_in (Took server came asked) = []
 
 -- a client's own call, over the parts as they are then
 pub record IsOwnTalk {H T C : Type 0} (ghosts : PartsGhosts H (List ℕ) T C)

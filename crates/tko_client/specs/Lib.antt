@@ -1,5 +1,8 @@
+pub mod Answerings
+pub mod Calls
 pub mod Clients
 pub mod Comings
-pub mod Halts
+pub mod Handings
+pub mod Keys
 pub mod Staying
 pub mod Steps

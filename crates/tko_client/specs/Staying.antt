@@ -2,8 +2,8 @@
 use Rattle.std.proofs.Common.{◌≡◌, ℕ, List, length, refl, sym, subst, ◌∙◌}
 use Rattle.tko_reply.specs.declared.parts.Parts.{Parts}
 use Rattle.tko_session.specs.Clients.{IsClient, life}
-use Rattle.tko_session.specs.Driven.{IsReady}
 use Rattle.tko_client.specs.declared.client.EventClient.{EventClient}
+use Rattle.tko_client.specs.Answerings.{IsAnsweringReady}
 use Rattle.tko_client.specs.Clients.{IsReadyAfter, IsReadyOver, client_of}
 use Rattle.tko_client.specs.Steps.{HasStayed}
 
@@ -24,8 +24,8 @@ module _ {H T C : Type 0} {servers : H → ℕ} where
   pub over_stays : {it : EventClient} {old new : Parts H (List ℕ) T C}
       → HasStayed servers old new → IsReadyOver old.config it → IsReadyOver new.config it
   over_stays {it} stays ready = record {
-    session = subst (λ c. IsReady c it.session) (sym stays.config) ready.session;
-    going = ready.going;
+    answering = subst (λ c. IsAnsweringReady c it.answering) (sym stays.config) ready.answering;
+    stands = ready.stands;
     reading = ready.reading;
   }
 

@@ -1,6 +1,6 @@
 -- A call of a client's session, and what is recorded after it, over the parts that all clients of a
 -- worker share.
-use Rattle.std.specs.Prelude.{◌≡◌, ℕ, List, ◌∷◌, IsSome, Option, Some, None, Ok, length, slice_index}
+use Rattle.std.specs.Prelude.{◌≡◌, ◌≢◌, ℕ, List, [], ◌∷◌, IsSome, Option, Some, None, Ok, length, slice_index}
 use Rattle.tko_model.specs.Records.{Gains}
 use Rattle.tko_health.specs.declared.health.Health.{Ghosts as HealthGhosts}
 use Rattle.tko_links.specs.declared.links.Outcome.{Outcome}
@@ -11,7 +11,7 @@ use Rattle.tko_reply.specs.declared.parts.Parts.{Parts}
 use Rattle.tko_reply.specs.declared.trails.Trails.{Ghosts as TrailsGhosts}
 use Rattle.tko_text.specs.Reading.{Never, Reading}
 use Rattle.tko_session.specs.Acts.{IsLoss, IsSessionCall, IsToRecord, came_to, left_after}
-use Rattle.tko_session.specs.Clients.{ClientPhase, Open, Over as PhaseOver}
+use Rattle.tko_session.specs.Clients.{ClientPhase, Open, Over as PhaseOver, Short as PhaseShort}
 use Rattle.tko_session.specs.Driven.{dropped}
 use Rattle.tko_session.specs.SessionState.{SessionState}
 use Rattle.tko_session.specs.Working.{Awaits, Work, read_in}
@@ -19,8 +19,10 @@ use Rattle.tko_session.specs.declared.step.Progress.{Progress}
 use Rattle.tko_session.specs.declared.step.Progress.TheVariants as progress
 use Rattle.tko_session.specs.declared.step.Step.{Step}
 use Rattle.tko_session.specs.declared.step.Step.TheVariants as step
+use Rattle.tko_client.specs.declared.answering.Answering.{Answering}
 use Rattle.tko_client.specs.declared.calls.Went.{Went}
-use Rattle.tko_client.specs.declared.calls.Went.TheVariants.{Asks, NeedsInput, On, Over, TooLong}
+use Rattle.tko_client.specs.declared.calls.Went.TheVariants.{Asks, NeedsInput, On, Over, Short, TooLong, Waits}
+use Rattle.tko_client.specs.Answerings.{IsIdle, MayCall, awaited_by}
 
 -- what the parts of an event-driven worker show to its sessions: the connections are not the
 -- sessions', so a send is seen by its count alone; and no clock is read
@@ -56,24 +58,51 @@ went_from (step.At at) = went_of at
 abbrev pub asked_in : Went → Option ℕ
 asked_in (Asks server) = Some server
 asked_in On = None
+asked_in Waits = None
 asked_in NeedsInput = None
 asked_in Over = None
 asked_in TooLong = None
+asked_in Short = None
 
 abbrev pub phase_of : Went → ClientPhase
 phase_of Over = PhaseOver
 phase_of TooLong = PhaseOver
 phase_of (Asks server) = Open
 phase_of On = Open
+phase_of Waits = Open
 phase_of NeedsInput = Open
+phase_of Short = PhaseShort
 
 -- after a line that was too long nothing is read
 abbrev pub WentReading : Went → Reading → Type 0
 WentReading (Asks server) reading = Unit {0}
 WentReading On reading = Unit {0}
+WentReading Waits reading = Unit {0}
 WentReading NeedsInput reading = Unit {0}
 WentReading Over reading = Unit {0}
 WentReading TooLong reading = reading.after ≡ Never
+WentReading Short reading = Unit {0}
+
+-- a session waits only for a send that it asks for
+abbrev pub IsOfSession : Went → Type 0
+IsOfSession (Asks server) = Unit {0}
+IsOfSession On = Unit {0}
+IsOfSession Waits = ⊥
+IsOfSession NeedsInput = Unit {0}
+IsOfSession Over = Unit {0}
+IsOfSession TooLong = Unit {0}
+IsOfSession Short = ⊥
+
+-- how a client may stand after a call that came to this: where it asks or waits, a request is under
+-- way; where it can go on, it can be called; else no request of it is being asked for
+abbrev pub WentStands : Went → Answering → Type 0
+WentStands (Asks server) it = awaited_by it ≢ []
+WentStands On it = MayCall it
+WentStands Waits it = awaited_by it ≢ []
+WentStands NeedsInput it = IsIdle it
+WentStands Over it = IsIdle it
+WentStands TooLong it = IsIdle it
+WentStands Short it = IsIdle it
 
 -- a call that said that a request was read has it
 abbrev pub BeganAt : Step → Work → Type 0

@@ -1,12 +1,13 @@
 //! One call of a session, with what is recorded after it.
-ghost use Rattle.std.specs.Prelude.{◌≡◌, IfOk, None, OnErr, OnOk, length};
+ghost use Rattle.std.specs.Prelude.{◌≡◌, IfOk, OnErr, OnOk, length};
 ghost use Rattle.tko_model.specs.Records.{Gains};
 ghost use Rattle.tko_reply.specs.Interactions.{Interacts};
 ghost use Rattle.tko_session.specs.Acts.{recorded_after};
 ghost use Rattle.tko_session.specs.Awaiting.{awaited_in};
-ghost use Rattle.tko_session.specs.Driven.{IsAwaiting, IsReady};
+ghost use Rattle.tko_session.specs.Driven.{IsAwaiting, IsReady, MayGoOn};
 ghost use Rattle.tko_session.specs.Working.{Between};
-ghost use Rattle.tko_client.specs.Steps.{BeganAt, HasStayed, IsLost, IsLostTaking, IsStepped, IsTaken, IsUnrecorded, WentReading, asked_in, client_ghosts, phase_of, went_from, went_of};
+ghost use Rattle.tko_client.specs.Answerings.{IsOwn};
+ghost use Rattle.tko_client.specs.Steps.{BeganAt, HasStayed, IsLost, IsLostTaking, IsOfSession, IsStepped, IsTaken, IsUnrecorded, WentReading, asked_in, client_ghosts, phase_of, went_from, went_of};
 
 use crate::Sends;
 use std::alloc::Global;
@@ -27,12 +28,16 @@ pub(crate) enum Went {
     Asks(Clear),
     /// It can go on.
     On,
+    /// It can do nothing before something comes for one of its requests.
+    Waits,
     /// It needs more input.
     NeedsInput,
     /// Its last item ended it.
     Over,
     /// Its last item ended it, a line that was too long.
     TooLong,
+    /// Memory ran out, and its request was dropped.
+    Short,
 }
 
 /// Goes on once, and records what that did. An `Err` says that memory ran out, so that its request
@@ -46,10 +51,12 @@ pub(crate) fn go_once<R: IoRuntime, H: Health, T: Trails, C>(
 ) -> Result<Went, NoMemory>
     requires servers { H.servers parts.old.backend.health ≡ length parts.old.config.addresses }
     requires ready { IsReady parts.old.config session.old }
-    requires here { awaited_in session.old.work ≡ None }
+    requires may { MayGoOn session.old.work }
     ensures ok { IfOk result (λ went. IsStepped (client_ghosts H.Health T.Trails) (phase_of went)
         (session.old, parts.old) (session.new, parts.new)) }
     ensures asks { IfOk result (λ went. awaited_in session.new.work ≡ asked_in went) }
+    ensures own { IfOk result (λ went. IsOwn session.new.work) }
+    ensures goes { IfOk result (λ went. IsOfSession went) }
     ensures reading { IfOk result (λ went. WentReading went session.new.reading) }
     ensures err { OnErr result (IsLost (client_ghosts H.Health T.Trails)
         (session.old, parts.old) (session.new, parts.new)) }
@@ -78,6 +85,8 @@ pub(crate) fn take_once<R: IoRuntime, H: Health, T: Trails, C>(
     ensures ok { IfOk result (λ went. IsTaken (client_ghosts H.Health T.Trails) outcome
         (phase_of went) (session.old, parts.old) (session.new, parts.new)) }
     ensures asks { IfOk result (λ went. awaited_in session.new.work ≡ asked_in went) }
+    ensures own { IfOk result (λ went. IsOwn session.new.work) }
+    ensures goes { IfOk result (λ went. IsOfSession went) }
     ensures reading { IfOk result (λ went. WentReading went session.new.reading) }
     ensures err { OnErr result (IsLostTaking (client_ghosts H.Health T.Trails) outcome
         (session.old, parts.old) (session.new, parts.new)) }

@@ -1,86 +1,64 @@
-//! A client's session goes on as far as it can, or takes what came of its request.
-ghost use Rattle.std.specs.Prelude.{◌≡◌, ◌≢◌, ◌+◌, ◌<◌, ℕ, [], false, true, Err, IfOk, None, Ok, OnErr, length, slice_index};
+//! A client goes on as far as it can.
+ghost use Rattle.std.specs.Prelude.{◌≡◌, ◌≢◌, [], length};
 ghost use Rattle.std.specs.Bool.{OnTrue};
-ghost use Rattle.tko_links.specs.Links.{is_sent, most_sends, part_of};
-ghost use Rattle.tko_reply.specs.Interactions.{with_links};
-ghost use Rattle.tko_session.specs.Awaiting.{awaited_in};
-ghost use Rattle.tko_session.specs.Clients.{Open, Short, client};
-ghost use Rattle.tko_session.specs.Driven.{IsAwaiting, IsReady};
 ghost use Rattle.tko_session.specs.Outgoing.{outgoing};
-ghost use Rattle.tko_session.specs.Working.{Between};
-ghost use Rattle.tko_port.specs.Talks.{HasReplies};
-ghost use Rattle.tko_client.specs.Clients.{HasGone, HasTaken};
-ghost use Rattle.tko_client.specs.Halts.{HaltReading, asked_at, phase_in, stage_in};
-ghost use Rattle.tko_client.specs.Steps.{HasStayed, WentReading, asked_in, client_ghosts, phase_of};
+ghost use Rattle.tko_client.specs.Answerings.{IsAnsweringReady, IsIdle, MayCall};
+ghost use Rattle.tko_client.specs.Calls.{IsCalled, IsHalted};
+ghost use Rattle.tko_client.specs.Steps.{client_ghosts};
 
-use crate::calls::{Went, go_once, take_once};
+use crate::answering::Answering;
+use crate::calls::{Went, go_once};
+use crate::halt::Halt;
+use crate::handing::{end_keys, hand_over};
+use crate::keys::begin_key;
 use crate::{Course, Sends};
 use std::alloc::Global;
-use tko_bytes::NoMemory;
 use tko_io::IoRuntime;
-use tko_links::Outcome;
-use tko_model::Clear;
 use tko_route::Health;
-use tko_session::{Parts, Session, Trails, observe_drop};
+use tko_session::{Parts, Session, Trails};
 
-/// How many calls of a session are made at a time, at most. What is left then is done after the
+/// How many calls of a client are made at a time, at most. What is left then is done after the
 /// other clients.
 const CALLS: u32 = 64;
 
-/// Why a session does not go on.
-#[derive(Debug, Drop)]
-pub(crate) enum Halt {
-    /// Its request is to be sent once, to the server that the permission names.
-    Asks(Clear),
-    /// It stands so.
-    At(Course),
-}
-
-/// Goes on while it can, for a bounded number of calls. An `Err` says that memory ran out, so that
-/// its request was dropped.
+/// Goes on while it can, for a bounded number of calls.
 pub(crate) fn go_on<R: IoRuntime, H: Health, T: Trails, C>(
     rt: &R,
     alloc: Global,
-    session: &mut Session,
+    it: &mut Answering,
     parts: &mut Parts<H, Sends, T, C>,
-    told: &mut usize,
-) -> Result<Halt, NoMemory>
+) -> Halt
     requires servers { H.servers parts.old.backend.health ≡ length parts.old.config.addresses }
-    requires ready { IsReady parts.old.config session.old }
-    requires here { awaited_in session.old.work ≡ None }
-    ensures ok { IfOk result (λ halt. HasGone (client_ghosts H.Health T.Trails)
-        (client Open session.old, parts.old) (client (phase_in halt) session.new, parts.new)) }
-    ensures err { OnErr result (HasGone (client_ghosts H.Health T.Trails)
-        (client Open session.old, parts.old) (client Short session.new, parts.new)) }
-    ensures asks { IfOk result (λ halt. awaited_in session.new.work ≡ asked_at halt) }
-    ensures here { OnErr result (awaited_in session.new.work ≡ None) }
-    ensures replies { IfOk result (λ halt.
-        HasReplies (stage_in halt) (outgoing session.new)) }
-    ensures reading { IfOk result (λ halt. HaltReading halt session.new.reading) }
-    ensures ready { IsReady parts.new.config session.new }
-    ensures stays { HasStayed H.servers parts.old parts.new }
+    requires ready { IsAnsweringReady parts.old.config it.old }
+    requires may { MayCall it.old }
+    ensures { IsHalted (client_ghosts H.Health T.Trails) H.servers result.course result.asked
+        (it.old, parts.old) (it.new, parts.new) }
 {
     for _ in 0..CALLS {
-        if is_to_write(session) {
-            return Ok(Halt::At(Course::Full));
+        if is_to_write(it) {
+            return Halt {
+                course: Course::Full,
+                asked: None,
+            };
         }
-        match go_once(rt, alloc, session, parts, told) {
-            Ok(Went::On) => {}
-            Ok(Went::Asks(clear)) => return Ok(Halt::Asks(clear)),
-            Ok(Went::NeedsInput) => return Ok(Halt::At(Course::NeedsInput)),
-            Ok(Went::Over) => return Ok(Halt::At(Course::Over)),
-            Ok(Went::TooLong) => return Ok(Halt::At(Course::TooLong)),
-            Err(fault) => return Err(fault),
+        match call_once(rt, alloc, it, parts) {
+            Went::On => {}
+            went => return Halt::after(it, went),
         }
     }
-    Ok(Halt::At(Course::Going))
+    Halt {
+        course: Course::Going,
+        asked: None,
+    }
 }
 
-/// Whether replies are to be written before the session goes on.
-fn is_to_write(session: &Session) -> bool
-    ensures some { OnTrue result (outgoing session.now ≢ []) }
+/// Whether replies are to be written before it goes on. The keys of a request go on all the same,
+/// since their replies are held whether or not those before are written.
+fn is_to_write(it: &Answering) -> bool
+    ensures some { OnTrue result (outgoing it.now.session ≢ []) }
+    ensures idle { OnTrue result (MayCall it.now → IsIdle it.now) }
 {
-    session.is_full() && has_output(session)
+    it.keys.is_none() && it.session.is_full() && has_output(&it.session)
 }
 
 /// Whether replies may be written.
@@ -90,88 +68,51 @@ fn has_output(session: &Session) -> bool
     !session.output().is_empty()
 }
 
-/// Takes what came of the send that is out, and counts it. An `Err` says that memory ran out, so
-/// that its request was dropped.
-pub(crate) fn take_in<R: IoRuntime, H: Health, T: Trails, C>(
+/// Makes one call: for the keys of a request that was handed over, or else of the session.
+fn call_once<R: IoRuntime, H: Health, T: Trails, C>(
     rt: &R,
-    session: &mut Session,
+    alloc: Global,
+    it: &mut Answering,
     parts: &mut Parts<H, Sends, T, C>,
-    told: &mut usize,
-    outcome: Outcome,
-) -> Result<Went, NoMemory>
+) -> Went
     requires servers { H.servers parts.old.backend.health ≡ length parts.old.config.addresses }
-    requires links { length parts.old.backend.links ≡ length parts.old.config.addresses }
-    requires ready { IsReady parts.old.config session.old }
-    requires awaits { IsAwaiting session.old.work }
-    requires sent { is_sent outcome ≡ true }
-    ensures ok { IfOk result (λ went. HasTaken (client_ghosts H.Health T.Trails) (Ok outcome)
-        (client Open session.old, parts.old) (client (phase_of went) session.new, parts.new)) }
-    ensures reading { IfOk result (λ went. WentReading went session.new.reading) }
-    ensures err { OnErr result (HasTaken (client_ghosts H.Health T.Trails) (Ok outcome)
-        (client Open session.old, parts.old) (client Short session.new, parts.new)) }
-    ensures asks { IfOk result (λ went. awaited_in session.new.work ≡ asked_in went) }
-    ensures here { OnErr result (awaited_in session.new.work ≡ None) }
-    ensures ready { IsReady parts.new.config session.new }
-    ensures stays { HasStayed H.servers parts.old parts.new }
+    requires ready { IsAnsweringReady parts.old.config it.old }
+    requires may { MayCall it.old }
+    ensures { IsCalled (client_ghosts H.Health T.Trails) H.servers result (it.old, parts.old)
+        (it.new, parts.new) }
 {
-    let Some(server) = session.awaited() else {
-        unreachable!();
-    };
-    count_send(rt, parts, server);
-    take_once(rt, session, parts, told, outcome)
+    match &mut it.keys {
+        Some(keys) => {
+            if keys.may_begin() {
+                begin_key(rt, alloc, keys, parts)
+            } else if keys.is_waiting() {
+                Went::Waits
+            } else {
+                end_keys(it)
+            }
+        }
+        None => call_session(rt, alloc, it, parts),
+    }
 }
 
-/// Counts a send, and tells how often its server was sent to.
-fn count_send<R: IoRuntime, H, T: Trails, C>(
+/// Makes one call of the session, or hands a request for several keys over in its place.
+fn call_session<R: IoRuntime, H: Health, T: Trails, C>(
     rt: &R,
+    alloc: Global,
+    it: &mut Answering,
     parts: &mut Parts<H, Sends, T, C>,
-    server: usize,
-)
-    requires { server < length parts.old.backend.links }
-    ensures counted { (at : ℕ) → slice_index parts.new.backend.links at
-        ≡ slice_index parts.old.backend.links at + part_of true server at }
-    ensures room { slice_index parts.old.backend.links server ≢ most_sends }
-    ensures servers { length parts.new.backend.links ≡ length parts.old.backend.links }
-    ensures others { parts.new ≡ with_links parts.new.backend.links parts.old }
+) -> Went
+    requires servers { H.servers parts.old.backend.health ≡ length parts.old.config.addresses }
+    requires ready { IsAnsweringReady parts.old.config it.old }
+    requires idle { IsIdle it.old }
+    ensures { IsCalled (client_ghosts H.Health T.Trails) H.servers result (it.old, parts.old)
+        (it.new, parts.new) }
 {
-    parts.backend.links.room(rt, server);
-    parts.backend.links.count(rt, server);
-    parts.trails.sent(server, parts.backend.links.of(server));
-}
-
-/// Tells how often a server was sent to, where a send to it was not possible.
-fn tell_unsent<R: IoRuntime, H, T: Trails, C>(
-    rt: &R,
-    parts: &mut Parts<H, Sends, T, C>,
-    server: usize,
-)
-    requires { server < length parts.old.backend.links }
-    ensures room { slice_index parts.old.backend.links server ≢ most_sends }
-    ensures same { parts.new ≡ parts.old }
-{
-    parts.backend.links.room(rt, server);
-    parts.trails.sent(server, parts.backend.links.of(server));
-}
-
-/// Drops the request for which memory ran out at its send, which is not counted.
-pub(crate) fn stop<R: IoRuntime, H: Health, T: Trails, C>(
-    rt: &R,
-    session: &mut Session,
-    parts: &mut Parts<H, Sends, T, C>,
-    told: &mut usize,
-)
-    requires links { length parts.old.backend.links ≡ length parts.old.config.addresses }
-    requires ready { IsReady parts.old.config session.old }
-    requires awaits { IsAwaiting session.old.work }
-    ensures taken { HasTaken (client_ghosts H.Health T.Trails) (Err (record { sent = false }))
-        (client Open session.old, parts.old) (client Short session.new, parts.new) }
-    ensures between { session.new.work ≡ Between }
-    ensures stays { HasStayed H.servers parts.old parts.new }
-{
-    let Some(server) = session.awaited() else {
-        unreachable!();
-    };
-    tell_unsent(rt, parts, server);
-    let dropped = session.stop(tko_links::NoMemory { sent: false });
-    let _ = observe_drop(rt, parts, told, &dropped);
+    if let Some(went) = hand_over(alloc, it) {
+        return went;
+    }
+    match go_once(rt, alloc, &mut it.session, parts, &mut it.told) {
+        Ok(went) => went,
+        Err(_) => Went::Short,
+    }
 }

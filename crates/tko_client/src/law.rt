@@ -1,5 +1,5 @@
 //! What the calls of a client are, whatever is done for others between.
-ghost use Rattle.std.specs.Prelude.{List};
+ghost use Rattle.std.specs.Prelude.{List, ℕ};
 ghost use Rattle.tko_model.specs.Records.{Gains};
 ghost use Rattle.tko_session.specs.Clients.{Client, new_client};
 ghost use Rattle.tko_port.specs.Talks.{TalkItem};
@@ -11,7 +11,8 @@ use tko_session::Trails;
 
 /// What is done with a client since it came is one session's life.
 pub fn each_lives<H: Health, T: Trails, C>()
-    ensures { (config : _) (items : List TalkItem) (now : Client)
-        → Gains (IsOwnTalk (client_ghosts {C = C} H.Health T.Trails) config) new_client items now
+    ensures { (config : _) (most : ℕ) (items : List TalkItem) (now : Client)
+        → Gains (IsOwnTalk (client_ghosts {C = C} H.Health T.Trails) config) (new_client most)
+        items now
         → HasLife config items now }
 {}

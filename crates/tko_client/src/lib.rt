@@ -8,17 +8,24 @@
 //! - `each_lives`: a law. What is done with a client is one session's life.
 #![tactic(auto)]
 
+mod answering;
 mod calls;
 mod client;
 mod going;
+mod halt;
+mod handing;
+mod keys;
 mod law;
 mod lent;
 mod sends;
+mod taking;
 
 pub use client::{Course, EventClient};
 pub use law::each_lives;
 pub use lent::Lent;
 pub use sends::Sends;
 
+#[cfg(test)]
+mod keys_tests;
 #[cfg(test)]
 mod tests;

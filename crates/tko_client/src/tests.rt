@@ -26,9 +26,9 @@ const SETTINGS: OneGroup = OneGroup {
     opening_stamp: 0,
 };
 
-type MemoryLent<'r, R> = Lent<'r, R, PlainHealth, Kept, FrozenClock>;
+pub(crate) type MemoryLent<'r, R> = Lent<'r, R, PlainHealth, Kept, FrozenClock>;
 
-type MemoryMux<'r, R> = Mux<Guest<MemoryPort, EventClient>, Shared<MemoryLent<'r, R>>>;
+pub(crate) type MemoryMux<'r, R> = Mux<Guest<MemoryPort, EventClient>, Shared<MemoryLent<'r, R>>>;
 
 /// The parts of a worker of two servers.
 fn parts(alloc: Global) -> Result<Parts<PlainHealth, Sends, Kept, FrozenClock>, Fail> {
@@ -55,6 +55,17 @@ fn two_clients<'r, R: Wait + Net<Stream = TcpStream> + Clock>(
     input: &[u8],
     room: usize,
 ) -> Result<MemoryMux<'r, R>, Fail> {
+    two_clients_with(rt, alloc, input, room, 1)
+}
+
+/// The same, where so many keys of a request may be under way at once.
+pub(crate) fn two_clients_with<'r, R: Wait + Net<Stream = TcpStream> + Clock>(
+    rt: &'r R,
+    alloc: Global,
+    input: &[u8],
+    room: usize,
+    keys_at_once: usize,
+) -> Result<MemoryMux<'r, R>, Fail> {
     let shared = Shared {
         parts: Lent::new(rt, alloc, parts(alloc)?),
         buffer: vec![in alloc; 0; 64]?,
@@ -65,7 +76,7 @@ fn two_clients<'r, R: Wait + Net<Stream = TcpStream> + Clock>(
     for _ in 0..2 {
         mux.open(Guest {
             port: MemoryPort::new(alloc, input.to_vec(alloc)?, room),
-            talk: EventClient::new(alloc),
+            talk: EventClient::new(alloc, keys_at_once),
             presence: Presence::Here,
         })?;
     }
@@ -73,22 +84,25 @@ fn two_clients<'r, R: Wait + Net<Stream = TcpStream> + Clock>(
 }
 
 /// Serves both clients, until nothing can be done for them.
-fn serve_both<'r, R: Wait + Net<Stream = TcpStream> + Clock>(
+pub(crate) fn serve_both<'r, R: Wait + Net<Stream = TcpStream> + Clock>(
     alloc: Global,
     mux: &mut MemoryMux<'r, R>,
 ) {
     for number in 0..2 {
         for _ in 0..100 {
-            if !mux.is_idle(number) {
-                break;
-            }
             mux.act(alloc, number, Event::Writable, 0);
             match mux.act(alloc, number, Event::Serve, 0) {
-                Some(done) if matches!(done.did, Turned::Spent | Turned::Rests) => {}
+                Some(done) if is_to_serve(done.did) => {}
                 _ => break,
             }
         }
     }
+}
+
+/// Whether a client that came to this is served again: more can be done, or may be once it is told
+/// that it can be written to.
+fn is_to_serve(did: Turned) -> bool {
+    matches!(did, Turned::Spent | Turned::Rests | Turned::AsksMore)
 }
 
 /// The server of which these answers come, if clients wait for one.
@@ -127,7 +141,7 @@ fn asked<'r, R: Wait + Net<Stream = TcpStream> + Clock>(mux: &MemoryMux<'r, R>) 
 }
 
 /// What both clients got, once their sessions ended.
-fn outputs<'r, R: Wait + Net<Stream = TcpStream> + Clock>(
+pub(crate) fn outputs<'r, R: Wait + Net<Stream = TcpStream> + Clock>(
     alloc: Global,
     mux: &mut MemoryMux<'r, R>,
 ) -> Result<String, Fail> {

@@ -4,7 +4,7 @@ use Rattle.std.specs.Option.{option_and_then}
 use Rattle.tko_model.specs.declared.mark.Reply.{Reply}
 use Rattle.tko_health.specs.declared.health.Health.{Ghosts as HealthGhosts}
 use Rattle.tko_links.specs.Links.{part_of}
-use Rattle.tko_mux.specs.Asks.{no_memory}
+use Rattle.tko_mux.specs.Awaits.{no_memory}
 use Rattle.tko_mux.specs.Lines.{LineState}
 use Rattle.tko_mux.specs.declared.asking.Came.{Came}
 use Rattle.tko_port.specs.declared.peer.Peer.{Peer}

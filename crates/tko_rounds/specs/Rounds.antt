@@ -9,7 +9,7 @@ use Rattle.tko_text.specs.declared.request.Request.TheVariants.{Version}
 use Rattle.tko_pipe.specs.declared.waiter.Asker.TheVariants.{Probe}
 use Rattle.tko_pipe.specs.Pipes.{pushing}
 use Rattle.tko_mux.specs.declared.asking.Came.{Came}
-use Rattle.tko_mux.specs.Asks.{no_memory}
+use Rattle.tko_mux.specs.Awaits.{no_memory}
 use Rattle.tko_mux.specs.Lines.{IsLinePushed, LineState}
 use Rattle.tko_mux.specs.Muxes.{IsOnLine}
 use Rattle.tko_health.specs.declared.health.Health.{Ghosts as HealthGhosts}

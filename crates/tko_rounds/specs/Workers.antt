@@ -1,9 +1,8 @@
 -- A round as its worker sees it.
-use Rattle.std.specs.Prelude.{◌≡◌, ℕ, List, Option}
+use Rattle.std.specs.Prelude.{◌≡◌, ℕ, List}
 use Rattle.tko_health.specs.declared.health.Health.{Ghosts as HealthGhosts}
 use Rattle.tko_port.specs.Talks.{Readiness}
 use Rattle.tko_reply.specs.declared.parts.Parts.{Parts}
-use Rattle.tko_session.specs.Awaiting.{awaited_in}
 use Rattle.tko_client.specs.Clients.{IsReadyAfter}
 use Rattle.tko_client.specs.declared.client.EventClient.{EventClient}
 use Rattle.tko_client.specs.declared.lent.Lent.{Lent}
@@ -12,10 +11,6 @@ use Rattle.tko_worker.specs.Workers.{WorkerState}
 use Rattle.tko_worker.specs.declared.event_worker.EventWorker.{EventWorker}
 use Rattle.tko_rounds.specs.Probes.{ProbesState}
 use Rattle.tko_rounds.specs.Rounds.{RoundState}
-
--- the server that a client's request is under way to
-abbrev pub awaits : EventClient → Option ℕ
-awaits client = awaited_in client.session.work
 
 -- a client can go on over these parts, once these bytes came to it and these went from it
 abbrev pub is_ready : {R H T C : Type 0} {health : HealthGhosts H}

@@ -19,6 +19,7 @@ pub(crate) fn result_of(came: Came) -> Result<Outcome, NoMemory>
         Came::Fate(Fate::Broken) => Ok(Outcome::Broken),
         Came::Fate(Fate::Aborted) => Ok(Outcome::Aborted),
         Came::Fate(Fate::Memory) => Err(NoMemory { sent: false }),
+        Came::Unsent => Err(NoMemory { sent: false }),
     }
 }
 
@@ -33,6 +34,7 @@ pub(crate) fn probed_by(came: &Came) -> Probed
         Came::Fate(Fate::Broken) => Probed::Failed,
         Came::Fate(Fate::Aborted) => Probed::Failed,
         Came::Fate(Fate::Memory) => Probed::Failed,
+        Came::Unsent => Probed::Failed,
     }
 }
 
@@ -47,5 +49,6 @@ pub(crate) fn is_probe(came: &Came) -> bool
         Came::Fate(Fate::Broken) => true,
         Came::Fate(Fate::Aborted) => true,
         Came::Fate(Fate::Memory) => false,
+        Came::Unsent => false,
     }
 }

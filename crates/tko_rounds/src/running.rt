@@ -2,14 +2,14 @@
 ghost use Rattle.std.specs.Prelude.{◌≡◌, ◌<◌, ◌+◌, ℕ, false, is_err, length, min};
 ghost use Rattle.std.specs.Bool.{OnFalse, OnTrue};
 ghost use Rattle.tko_client.specs.Steps.{HasStayed};
-ghost use Rattle.tko_client.specs.Clients.{talk_of};
+ghost use Rattle.tko_client.specs.Clients.{awaits, talk_of};
 ghost use Rattle.tko_links.specs.Links.{part_of};
 ghost use Rattle.tko_worker.specs.Turns.{socket_at};
 ghost use Rattle.tko_worker.specs.Workers.{IsInOrder};
 ghost use Rattle.tko_rounds.specs.Parts.{TakesResult, with_probing};
 ghost use Rattle.tko_rounds.specs.Probes.{count_of, is_probe};
 ghost use Rattle.tko_rounds.specs.Rounds.{AreVisited, HasNext, HasTaken, IsIdle, IsRound, IsVisited, servers_of};
-ghost use Rattle.tko_rounds.specs.Workers.{KeepsClients, awaits, is_ready, parts_in, state_of};
+ghost use Rattle.tko_rounds.specs.Workers.{KeepsClients, is_ready, parts_in, state_of};
 
 use crate::Rounds;
 use crate::visits::{BeginProbers, FindDue, TakeResult};

@@ -1,5 +1,5 @@
 use Rattle.tko_client.specs.Steps.{client_ghosts}
-use Rattle.tko_client.proofs.CallLemmas.{lost, reads_on, stepped, unrecorded, went_reads}
+use Rattle.tko_client.proofs.CallLemmas.{goes_on, lost, own_on, reads_on, stepped, unrecorded, went_own, went_reads}
 use Rattle.tko_route.specs.Calls.{Told}
 use Rattle.std.proofs.Common.{map}
 use Rattle.tko_client.proofs.calls.go_once.Goals as goal
@@ -26,3 +26,12 @@ returns-in-Ok-clause-reading g c =
     let told = c.observe.ensures in
     reads_on c.in-Ok.step c.next.new.self c.observe.new.session c.observe.result
     (went_reads c.args.parts.now.config c.args.session.now (map Told on.items) c.in-Ok.step c.next.new.self on.is) told.went told.same
+
+pub returns-in-Ok-clause-own : goal.returns-in-Ok-clause-own
+returns-in-Ok-clause-own g c =
+    let on = c.in-Ok.ensures.ok in
+    own_on c.next.new.self c.observe.new.session c.observe.result
+    (went_own c.args.parts.now.config c.args.session.now c.in-Ok.step c.next.new.self (map Told on.items) on.is) c.observe.ensures.same
+
+pub returns-in-Ok-clause-goes : goal.returns-in-Ok-clause-goes
+returns-in-Ok-clause-goes g c = goes_on c.in-Ok.step c.observe.result c.observe.ensures.went

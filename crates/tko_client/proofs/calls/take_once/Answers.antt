@@ -1,5 +1,5 @@
 use Rattle.tko_client.specs.Steps.{client_ghosts}
-use Rattle.tko_client.proofs.CallLemmas.{asks_on, awaiting_at, out_at, reads_on, took, took_awaits, took_began, took_lost, took_reads, took_unrecorded}
+use Rattle.tko_client.proofs.CallLemmas.{asks_on, awaiting_at, goes_on, out_at, own_on, reads_on, took, took_awaits, took_began, took_lost, took_own, took_reads, took_unrecorded}
 use Rattle.tko_route.specs.Calls.{Told}
 use Rattle.std.proofs.Common.{map}
 use Rattle.tko_client.proofs.calls.take_once.Goals as goal
@@ -46,3 +46,14 @@ returns-in-Ok-clause-reading g c =
     let told = c.observe.ensures in
     reads_on c.in-Ok.step c.answered.new.self c.observe.new.session c.observe.result
     (took_reads c.args.parts.now.config out.0 c.args.outcome c.args.session.now (map Told on.items) c.in-Ok.step c.answered.new.self (on.is out.0 out.1)) told.went told.same
+
+pub returns-in-Ok-clause-own : goal.returns-in-Ok-clause-own
+returns-in-Ok-clause-own g c =
+    let out = awaiting_at c.args.session.now.work c.requires.awaits in
+    let on = c.in-Ok.ensures.ok in
+    let sent = out_at c.args.parts.now.config c.args.session.now out.0 out.1 c.requires.ready in
+    own_on c.answered.new.self c.observe.new.session c.observe.result
+    (took_own c.args.parts.now.config c.args.session.now c.in-Ok.step c.answered.new.self out.0 c.args.outcome (map Told on.items) sent (on.is out.0 out.1)) c.observe.ensures.same
+
+pub returns-in-Ok-clause-goes : goal.returns-in-Ok-clause-goes
+returns-in-Ok-clause-goes g c = goes_on c.in-Ok.step c.observe.result c.observe.ensures.went

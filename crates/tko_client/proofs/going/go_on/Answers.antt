@@ -1,39 +1,29 @@
+use Rattle.std.proofs.Common.{None, subst}
+use Rattle.tko_client.specs.Answerings.{awaited_by}
+use Rattle.tko_client.specs.Calls.{IsCalled}
 use Rattle.tko_client.specs.Staying.{stayed_on}
 use Rattle.tko_client.specs.Steps.{client_ghosts}
-use Rattle.tko_client.proofs.GoingLemmas.{gone_on, gone_short, servers_on}
+use Rattle.tko_client.proofs.AskLemmas.{asking_on}
+use Rattle.tko_client.proofs.GoingLemmas.{called_on, halted_after, servers_on}
 use Rattle.tko_client.proofs.going.go_on.Goals as goal
 
-pub returns-in-Ok-Asks-clause-ok : goal.returns-in-Ok-Asks-clause-ok
-returns-in-Ok-Asks-clause-ok g c =
-    gone_on (client_ghosts {C = g.row.C.Denot} g.H.Health g.T.Trails) c.loop.invariant.stays.config c.loop.invariant.gone
-    (rw c.in-Ok-Asks.field-0-is at (c.in-Ok-Asks.ensures.ok))
-
-pub returns-in-Ok-NeedsInput-clause-ok : goal.returns-in-Ok-NeedsInput-clause-ok
-returns-in-Ok-NeedsInput-clause-ok g c =
-    gone_on (client_ghosts {C = g.row.C.Denot} g.H.Health g.T.Trails) c.loop.invariant.stays.config c.loop.invariant.gone
-    (rw c.in-Ok-NeedsInput.field-0-is at (c.in-Ok-NeedsInput.ensures.ok))
-
-pub returns-in-Ok-Over-clause-ok : goal.returns-in-Ok-Over-clause-ok
-returns-in-Ok-Over-clause-ok g c =
-    gone_on (client_ghosts {C = g.row.C.Denot} g.H.Health g.T.Trails) c.loop.invariant.stays.config c.loop.invariant.gone
-    (rw c.in-Ok-Over.field-0-is at (c.in-Ok-Over.ensures.ok))
-
-pub returns-in-Ok-TooLong-clause-ok : goal.returns-in-Ok-TooLong-clause-ok
-returns-in-Ok-TooLong-clause-ok g c =
-    gone_on (client_ghosts {C = g.row.C.Denot} g.H.Health g.T.Trails) c.loop.invariant.stays.config c.loop.invariant.gone
-    (rw c.in-Ok-TooLong.field-0-is at (c.in-Ok-TooLong.ensures.ok))
-
-pub returns-in-Err-clause-err : goal.returns-in-Err-clause-err
-returns-in-Err-clause-err g c =
-    gone_short (client_ghosts {C = g.row.C.Denot} g.H.Health g.T.Trails) c.loop.invariant.stays.config c.loop.invariant.gone c.in-Err.ensures.err
+pub returns-in_default : goal.returns-in_default
+returns-in_default g c =
+    let ghosts = client_ghosts {C = g.row.C.Denot} g.H.Health g.T.Trails in
+    let was = c.loop.invariant in
+    let then = c.after.ensures in
+    halted_after ghosts g.H.Health.servers c.call_once.result c.after.result.course c.after.result.asked (c.args.it.now, c.args.parts.now) (c.loop.it, c.loop.parts)
+    (c.call_once.new.it, c.call_once.new.parts) then.phase then.asked then.short then.stands then.reading then.replies was.gone was.asks was.stays c.call_once.ensures
 
 pub loop-preserved : goal.loop-preserved
 loop-preserved g c =
+    let ghosts = client_ghosts {C = g.row.C.Denot} g.H.Health g.T.Trails in
     let was = c.loop.invariant in
-    let then = c.in-Ok-On.ensures in record {
-      gone = gone_on (client_ghosts {C = g.row.C.Denot} g.H.Health g.T.Trails) was.stays.config was.gone (rw c.in-Ok-On.field-0-is at (then.ok));
-      stays = stayed_on was.stays then.stays;
-      servers = servers_on then.stays was.servers;
-      ready = then.ready;
-      here = rw c.in-Ok-On.field-0-is at (then.asks);
+    let call = subst (λ w. IsCalled ghosts g.H.Health.servers w (c.loop.it, c.loop.parts) (c.call_once.new.it, c.call_once.new.parts)) c.in-On.is c.call_once.ensures in record {
+      gone = called_on ghosts g.H.Health.servers (c.args.it.now, c.args.parts.now) (c.loop.it, c.loop.parts) (c.call_once.new.it, c.call_once.new.parts) was.gone was.stays call;
+      asks = asking_on None (awaited_by c.args.it.now) (awaited_by c.loop.it) (awaited_by c.call_once.new.it) was.asks call.asks;
+      stays = stayed_on was.stays call.left.stays;
+      servers = servers_on call.left.stays was.servers;
+      ready = call.left.ready;
+      may = call.left.stands;
     }

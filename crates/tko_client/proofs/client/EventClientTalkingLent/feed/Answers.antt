@@ -1,4 +1,4 @@
-use Rattle.std.proofs.Common.{rules}
+use Rattle.std.proofs.Common.{ap, rules}
 use Rattle.tko_model.proofs.RecordLemmas.{gains_none}
 use Rattle.tko_client.specs.Staying.{no_change}
 use Rattle.tko_client.specs.Steps.{client_ghosts}
@@ -8,7 +8,8 @@ use Rattle.tko_client.proofs.client.EventClientTalkingLent.feed.Goals as goal
 
 pub returns-in-Ok-clause-ok : goal.returns-in-Ok-clause-ok
 returns-in-Ok-clause-ok g c = (
-  fed_act c.args._lent.now.parts.config c.args.self.now.course c.args.self.now.session c.feed.new.self c.args.piece.now c.requires.needs c.in-Ok.ensures.ok,
+  fed_act c.args._lent.now.parts.config c.args.self.now.course c.args.self.now.answering _ c.args.piece.now c.requires.needs
+      (ap (λ s. record c.args.self.now.answering { session = s }) c.in-Ok.ensures.ok),
   gains_none c.args._lent.now.parts,
 )
 

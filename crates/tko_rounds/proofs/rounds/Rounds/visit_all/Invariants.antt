@@ -1,10 +1,10 @@
 use Rattle.std.proofs.Common.{◌≡◌, ℕ, length}
-use Rattle.tko_client.specs.Clients.{talk_of}
+use Rattle.tko_client.specs.Clients.{awaits, talk_of}
 use Rattle.tko_worker.specs.Turns.{socket_at}
 use Rattle.tko_worker.specs.Workers.{IsInOrder}
 use Rattle.tko_rounds.specs.Parts.{with_probing}
 use Rattle.tko_rounds.specs.Rounds.{AreVisited}
-use Rattle.tko_rounds.specs.Workers.{KeepsClients, awaits, is_ready, parts_in, state_of}
+use Rattle.tko_rounds.specs.Workers.{KeepsClients, is_ready, parts_in, state_of}
 use Rattle.tko_rounds.proofs.rounds.Rounds.visit_all.Given as goal
 
 abbrev pub invariant-loop-server : goal.invariant-loop-server

@@ -1,0 +1,32 @@
+use Rattle.std.proofs.Common.{◌<◌, Err, ap, false, subst, sym, ◌∙◌}
+use Rattle.tko_reply.specs.Interactions.{with_noted}
+use Rattle.tko_client.specs.declared.calls.Went.TheVariants.{On}
+use Rattle.tko_client.specs.Keys.{HasKeyCame}
+use Rattle.tko_client.specs.Steps.{HasStayed, client_ghosts}
+use Rattle.tko_client.proofs.TakingLemmas.{awaited_within, keys_awaits, keys_stopped, sent_to, session_stopped}
+use Rattle.tko_client.proofs.taking.stop.Goals as goal
+
+pub tell_unsent-requires : goal.tell_unsent-requires
+tell_unsent-requires g c =
+    subst (λ n. c.args.server < n) (sym c.requires.links) (awaited_within c.args.parts.now.config c.args.it.now c.args.server c.requires.ready c.requires.awaits)
+
+pub stop_key-requires-clause-awaits : goal.stop_key-requires-clause-awaits
+stop_key-requires-clause-awaits g c = keys_awaits c.args.it.now c.in-Some.keys c.args.server c.in-Some.is c.requires.awaits
+
+pub returns-in-Some-clause-taken : goal.returns-in-Some-clause-taken
+returns-in-Some-clause-taken g c =
+    let same = c.tell_unsent.ensures.same in
+    keys_stopped g.H.Health g.T.Trails g.H.Health.servers c.args.unsent c.args.server c.args.it.now c.in-Some.keys c.stop_key.new.keys c.args.parts.now c.stop_key.new.parts c.requires.ready
+    c.in-Some.is c.requires.awaits c.tell_unsent.ensures.room
+    (subst (λ p. HasKeyCame (client_ghosts {C = g.row.C.Denot} g.H.Health g.T.Trails) c.args.unsent c.args.server (Err (record { sent = false })) On (c.in-Some.keys, p) (c.stop_key.new.keys, c.stop_key.new.parts))
+    same c.stop_key.ensures.stopped)
+    (subst (λ p. HasStayed g.H.Health.servers p c.stop_key.new.parts) same c.stop_key.ensures.stays)
+
+pub returns-in-None-clause-taken : goal.returns-in-None-clause-taken
+returns-in-None-clause-taken g c =
+    let same = c.tell_unsent.ensures.same in
+    session_stopped g.H.Health g.T.Trails g.H.Health.servers c.args.unsent c.args.server c.args.it.now _ c.args.parts.now c.stop_session.new.parts c.in-None.is
+    (sent_to c.args.it.now c.args.server c.in-None.is c.requires.awaits) c.tell_unsent.ensures.room
+    (ap (λ s. record c.args.it.now { session = s; told = c.stop_session.new.told }) c.stop_session.ensures.dropped)
+    (λ it at. c.stop_session.ensures.noted it at ∙ ap (λ p. with_noted it.waiting.attempts p) same)
+    (subst (λ p. HasStayed g.H.Health.servers p c.stop_session.new.parts) same c.stop_session.ensures.stays)

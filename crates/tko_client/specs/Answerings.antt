@@ -1,0 +1,93 @@
+-- What a client's requests are answered by: its session, or the keys of a request that the session
+-- handed over.
+use Rattle.std.specs.Prelude.{◌≡◌, ◌≢◌, ◌+◌, ◌-◌, ◌^◌, ℕ, List, [], Option, Some, None, length, min}
+use Rattle.tko_text.specs.declared.request.Request.{Request}
+use Rattle.tko_pools.specs.Configs.{Configuration}
+use Rattle.tko_mux.specs.Awaits.{awaited_one}
+use Rattle.tko_keys.specs.KeysDriven.{AreUnderWay}
+use Rattle.tko_keys.specs.KeysState.{KeysState, asked_first, asked_last, awaited, held_in}
+use Rattle.tko_session.specs.Awaiting.{awaited_in}
+use Rattle.tko_session.specs.Clients.{Client, ClientPhase}
+use Rattle.tko_session.specs.Driven.{IsReady, MayGoOn}
+use Rattle.tko_session.specs.Working.{Work}
+use Rattle.tko_session.specs.Working as work
+use Rattle.tko_client.specs.declared.answering.Answering.{Answering}
+
+-- the client of a worker that this is, where its session stands so
+abbrev pub client_at : ClientPhase → Answering → Client
+client_at phase it =
+    record { most = it.most; phase = phase; session = it.session; keys = it.keys }
+
+-- the servers that its requests are under way to: one at most, without keys
+abbrev pub awaited_with : Option KeysState → Work → List ℕ
+awaited_with None at = awaited_one (awaited_in at)
+awaited_with (Some keys) at = awaited keys
+
+abbrev pub awaited_by : Answering → List ℕ
+awaited_by it = awaited_with it.keys it.session.work
+
+-- the request that a send of the session is out for
+abbrev pub asked_for : Work → Option Request
+asked_for work.Between = None
+asked_for (work.Read one) = None
+asked_for (work.Awaits it) = Some it.key.request
+asked_for (work.Ended one) = None
+asked_for work.HandedOver = None
+
+-- the request that was asked last
+abbrev pub asked_with : Option KeysState → Work → Option Request
+asked_with None at = asked_for at
+asked_with (Some keys) at = asked_last keys
+
+abbrev pub asked_by : Answering → Option Request
+asked_by it = asked_with it.keys it.session.work
+
+-- the first request that is under way to a server
+abbrev pub waited_with : Option KeysState → Work → ℕ → Option Request
+waited_with None at server = asked_for at
+waited_with (Some keys) at server = asked_first server keys
+
+abbrev pub waited_by : Answering → ℕ → Option Request
+waited_by it server = waited_with it.keys it.session.work server
+
+-- how many bytes of replies are held, of those that may be written and of the one under way; the
+-- number stays at 2^64 - 1
+abbrev pub held_with : Option KeysState → ℕ → ℕ
+held_with None count = count
+held_with (Some keys) count = min (count + held_in keys.slots) (2 ^ 64 - 1)
+
+abbrev pub held_by : Answering → ℕ
+held_by it = held_with it.keys (length it.session.outbox)
+
+-- the session answers its requests itself
+abbrev pub IsOwn : Work → Type 0
+IsOwn work.Between = Unit {0}
+IsOwn (work.Read one) = Unit {0}
+IsOwn (work.Awaits it) = Unit {0}
+IsOwn (work.Ended one) = Unit {0}
+IsOwn work.HandedOver = ⊥
+
+-- the keys of a request can be called, and their session handed it over; or there are none
+abbrev pub AreKeysReady : Configuration → Option KeysState → Work → Type 0
+AreKeysReady config None at = IsOwn at
+AreKeysReady config (Some keys) at = (at ≡ work.HandedOver) × AreUnderWay config keys
+
+pub record IsAnsweringReady (config : Configuration) (it : Answering) : Type 0 where
+  pub session : IsReady config it.session
+  pub keys : AreKeysReady config it.keys it.session.work
+
+-- the session is at no send, and no request was handed over
+abbrev pub IsIdleWith : Option KeysState → Work → Type 0
+IsIdleWith None at = MayGoOn at
+IsIdleWith (Some keys) at = ⊥
+
+abbrev pub IsIdle : Answering → Type 0
+IsIdle it = IsIdleWith it.keys it.session.work
+
+-- it can be called: as above, or for the keys of a request that was handed over
+abbrev pub MayCallWith : Option KeysState → Work → Type 0
+MayCallWith None at = MayGoOn at
+MayCallWith (Some keys) at = Unit {0}
+
+abbrev pub MayCall : Answering → Type 0
+MayCall it = MayCallWith it.keys it.session.work

@@ -1,0 +1,96 @@
+//! What a client's requests are answered by: its session, and the keys of a request that was handed
+//! over.
+ghost use Rattle.std.specs.Prelude.{◌≡◌, ◌≢◌, ◌<◌, [], IsSome, Some};
+ghost use Rattle.std.specs.Bool.{OnFalse, OnTrue};
+ghost use Rattle.tko_mux.specs.Awaits.{times_due};
+ghost use Rattle.tko_pools.specs.Configs.{Configuration};
+ghost use Rattle.tko_session.specs.Clients.{Open, new_client};
+ghost use Rattle.tko_client.specs.Answerings.{IsAnsweringReady, IsIdle, MayCall, asked_by, awaited_by, client_at, held_by, waited_by};
+
+use std::alloc::Global;
+use tko_keys::KeysAtOnce;
+use tko_session::Session;
+use tko_text::Request;
+
+/// A client's session. Where several keys of a request may be under way at once, a request for
+/// several is handed over by the session, and its keys are here until the reply is complete.
+#[derive(Drop)]
+pub(crate) struct Answering {
+    pub session: Session,
+    pub keys: Option<KeysAtOnce>,
+    /// How many keys of a request may be under way at once.
+    pub most: usize,
+    /// How many of the attempts at the session's key were told.
+    pub told: usize,
+}
+
+impl Answering {
+    /// Nothing came yet.
+    pub(crate) fn new(alloc: Global, most: usize) -> Answering
+        ensures client { client_at Open result ≡ new_client most }
+        ensures here { awaited_by result ≡ [] }
+        ensures idle { IsIdle result }
+        ensures ready { (config : Configuration) → IsAnsweringReady config result }
+    {
+        Answering {
+            session: Session::new(alloc),
+            keys: None,
+            most,
+            told: 0,
+        }
+    }
+
+    /// Whether a request is under way.
+    pub(crate) fn is_waiting(&self) -> bool
+        ensures some { OnTrue result (awaited_by self.now ≢ []) }
+        ensures none { OnFalse result (awaited_by self.now ≡ []) }
+    {
+        match &self.keys {
+            Some(keys) => keys.is_waiting(),
+            None => self.session.awaited().is_some(),
+        }
+    }
+
+    /// Whether one more request can be asked for while others are under way.
+    pub(crate) fn may_ask_more(&self) -> bool
+        ensures { OnTrue result (MayCall self.now) }
+    {
+        match &self.keys {
+            Some(keys) => keys.may_begin(),
+            None => false,
+        }
+    }
+
+    /// The request that was asked last.
+    pub(crate) fn request(&self) -> &Request
+        requires { IsSome (asked_by self.now) }
+        ensures { asked_by self.now ≡ Some result.now }
+    {
+        match &self.keys {
+            Some(keys) => keys.request(),
+            None => self.session.request(),
+        }
+    }
+
+    /// The first request that is under way to this server.
+    pub(crate) fn request_to(&self, server: usize) -> &Request
+        requires { 0 < times_due (awaited_by self.now) server }
+        ensures { waited_by self.now server ≡ Some result.now }
+    {
+        match &self.keys {
+            Some(keys) => keys.request_to(server),
+            None => self.session.request(),
+        }
+    }
+
+    /// How many bytes of replies are held: of those that may be written, and of the one under way.
+    pub(crate) fn held(&self) -> usize
+        ensures { result ≡ held_by self.now }
+    {
+        let held = self.session.held();
+        match &self.keys {
+            Some(keys) => held.saturating_add(keys.held()),
+            None => held,
+        }
+    }
+}

@@ -1,0 +1,75 @@
+//! How a client stands once a call of it came to something.
+ghost use Rattle.std.specs.Prelude.{◌≡◌, ◌≢◌, ℕ, List, None};
+ghost use Rattle.tko_text.specs.Reading.{Reading};
+ghost use Rattle.tko_port.specs.Talks.{HasReplies};
+ghost use Rattle.tko_client.specs.Clients.{CourseReading, CourseStands, IsAsked, phase_at, stage_of};
+ghost use Rattle.tko_client.specs.Steps.{WentReading, WentStands, asked_in, phase_of};
+
+use crate::Course;
+use crate::answering::Answering;
+use crate::calls::Went;
+use tko_model::Clear;
+
+/// What calls of a client came to.
+#[derive(Debug, Drop)]
+pub(crate) struct Halt {
+    /// How the client stands.
+    pub course: Course,
+    /// The permission to send its request once, if it asks a server.
+    pub asked: Option<Clear>,
+}
+
+impl Halt {
+    /// The last call came to this.
+    pub(crate) fn after(it: &Answering, went: Went) -> Halt
+        ensures stands { WentStands went it.now → CourseStands result.course it.now }
+        ensures phase { phase_at result.course ≡ phase_of went }
+        ensures asked { result.asked ≡ asked_in went }
+        ensures short { result.course ≡ Course.Short → result.asked ≡ None }
+        ensures reading { (reading : Reading) → WentReading went reading
+            → CourseReading result.course reading }
+        ensures replies { (output : List ℕ) → HasReplies (stage_of result.course) output }
+    {
+        match went {
+            Went::Asks(clear) => Halt {
+                course: course_asking(it),
+                asked: Some(clear),
+            },
+            Went::On => Halt {
+                course: Course::Going,
+                asked: None,
+            },
+            Went::Waits => Halt {
+                course: Course::Waits,
+                asked: None,
+            },
+            Went::NeedsInput => Halt {
+                course: Course::NeedsInput,
+                asked: None,
+            },
+            Went::Over => Halt {
+                course: Course::Over,
+                asked: None,
+            },
+            Went::TooLong => Halt {
+                course: Course::TooLong,
+                asked: None,
+            },
+            Went::Short => Halt {
+                course: Course::Short,
+                asked: None,
+            },
+        }
+    }
+}
+
+/// How a client stands that asks a server.
+fn course_asking(it: &Answering) -> Course
+    ensures { IsAsked result it.now }
+{
+    if it.may_ask_more() {
+        Course::Going
+    } else {
+        Course::Waits
+    }
+}
