@@ -43,8 +43,8 @@ pub record IsPlanned (options : ServeOptions) (plan : Plan) : Type 0 where
   pub greatest : plan.delays.greatest ≡ options.greatest_delay
   pub listen : is_address (string_bytes options.listen) ≡ true
 
--- a server of this plan, with the time limits, the limit of clients and the number of connections
--- that the options name, in a process that may have `allowed` files open
+-- a server of this plan, with the time limits, the limit of clients, the number of keys at once and
+-- that of connections that the options name, in a process that may have `allowed` files open
 pub record IsServerOf (plan : Plan) (options : ServeOptions) (allowed : Option ℕ)
     (server : Server) : Type 0 where
   pub config : server.config ≡ plan.config
@@ -54,6 +54,7 @@ pub record IsServerOf (plan : Plan) (options : ServeOptions) (allowed : Option �
   pub patience : server.patience ≡ serve_patience options
   pub open_files : server.open_files ≡ allowed
   pub clients : server.clients ≡ options.clients
+  pub keys : server.keys_at_once ≡ options.keys_at_once
   pub connections : server.connections ≡ options.connections
 
 -- this is what is wrong with the JSON

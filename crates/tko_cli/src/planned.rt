@@ -31,6 +31,7 @@ impl Plan {
             patience: patience_of(options),
             open_files,
             clients: options.clients,
+            keys_at_once: options.keys_at_once,
             connections: options.connections,
         }
     }

@@ -1,8 +1,10 @@
 //! What the loop of an event-driven worker calls.
-ghost use Rattle.std.specs.Prelude.{◌≡◌, sum_by};
+ghost use Rattle.std.specs.Prelude.{◌≡◌, [], max, sum_by};
 ghost use Rattle.tko_io.specs.Io.{capped};
-ghost use Rattle.tko_client.specs.Clients.{talk_of};
-ghost use Rattle.tko_rounds.specs.Workers.{awaits, is_ready, parts_in};
+ghost use Rattle.tko_client.specs.Clients.{IsReadyAfter, awaits, client_of, talk_of};
+ghost use Rattle.tko_pools.specs.Configs.{Configuration};
+ghost use Rattle.tko_session.specs.Clients.{new_client};
+ghost use Rattle.tko_rounds.specs.Workers.{is_ready, parts_in};
 ghost use Rattle.tko_worker.specs.Counts.{no_ends};
 ghost use Rattle.tko_worker.specs.Workers.{IsInOrder};
 ghost use Rattle.tko_event_threads.specs.Turns.{IsTurnEnd};
@@ -27,6 +29,8 @@ use tko_worker::{EndCounts, EventWorker};
 pub(crate) struct EventHost<'r, R> {
     rt: &'r R,
     rounds: Rounds,
+    /// How many keys of a client's request are under way at most.
+    keys_at_once: u32,
     /// The clients that could not be taken in since the last turn.
     refused: u64,
     /// How much the worker serves, if there was a walk since the last turn.
@@ -47,11 +51,14 @@ struct TurnEnd<'r, R> {
 }
 
 impl<'r, R: IoRuntime> EventHost<'r, R> {
-    /// No round was run yet.
-    pub(crate) fn new(rt: &'r R, rounds: Rounds) -> EventHost<'r, R> {
+    /// No round was run yet. Of each client's request so many keys are under way at most.
+    pub(crate) fn new(rt: &'r R, rounds: Rounds, keys_at_once: u32) -> EventHost<'r, R>
+        ensures keys { result.keys_at_once ≡ keys_at_once }
+    {
         EventHost {
             rt,
             rounds,
+            keys_at_once,
             refused: 0,
             load: None,
         }
@@ -131,7 +138,7 @@ impl<'r, 'c, 'a, 'm, R: IoRuntime, H: Health, N: Opening, C: Drop> Host<
         &mut self,
         lent: &Lent<'c, R, H, Accounted<'a, 'm, N>, C>,
     ) -> Result<EventClient, NoMemory> {
-        Ok(EventClient::new(lent.alloc))
+        Ok(make_client(lent.alloc, self.keys_at_once))
     }
 
     fn round<L: Port + Drop>(
@@ -152,4 +159,14 @@ impl<'r, 'c, 'a, 'm, R: IoRuntime, H: Health, N: Opening, C: Drop> Host<
     fn refused(&mut self) {
         self.refused = self.refused.saturating_add(1);
     }
+}
+
+/// A client that has just come. Of a request of it so many keys may be under way at once, and one
+/// in any case.
+fn make_client(alloc: Global, keys_at_once: u32) -> EventClient
+    ensures client { client_of result ≡ new_client (max keys_at_once 1) }
+    ensures here { awaits result ≡ [] }
+    ensures ready { (config : Configuration) → IsReadyAfter config [] [] result }
+{
+    EventClient::new(alloc, keys_at_once.max(1) as usize)
 }

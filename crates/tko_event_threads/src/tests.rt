@@ -115,6 +115,7 @@ fn work<R: Wait + Net<Stream = TcpStream, Listener = TcpListener> + Clock>(
         log: WorkerLog::off(),
         servers,
         limits: LIMITS,
+        keys_at_once: 1,
         way_in,
         first_ask,
     };

@@ -6,7 +6,7 @@ use Rattle.clap.specs.declared.parser.matches.ArgMatches.{ArgMatches}
 use Rattle.tko_options.specs.Commands.{IsCommandWith}
 use Rattle.tko_options.specs.Found.{AreCheckFound, AreDryFound, AreFound, is_log_place}
 use Rattle.tko_options.specs.Misfits.{AreMisread}
-use Rattle.tko_options.specs.Modes.{may_limit}
+use Rattle.tko_options.specs.Modes.{may_ask, may_limit}
 use Rattle.tko_options.specs.Program.{program_app}
 use Rattle.tko_options.specs.declared.asked.Asked.{Asked}
 use Rattle.tko_options.specs.declared.asked.Asked.TheVariants as asked
@@ -32,6 +32,11 @@ names_log wanted = true
 abbrev pub may_limit_clients : Asked → Bool
 may_limit_clients (asked.Serve options) = may_limit options.mode options.clients
 may_limit_clients wanted = true
+
+-- a server asks for several keys of a request at once only where its workers may
+abbrev pub may_ask_at_once : Asked → Bool
+may_ask_at_once (asked.Serve options) = may_ask options.mode options.keys_at_once
+may_ask_at_once wanted = true
 
 -- what was asked for is what clap finds in the words, as it reads the program
 pub record IsReadFrom (words : List (List ℕ)) (wanted : Asked) : Type 0 where

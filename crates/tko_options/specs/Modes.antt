@@ -1,5 +1,5 @@
 -- How the clients of a server are served: the names of the modes, and what follows from one.
-use Rattle.std.specs.Prelude.{ℕ, Bool, List, [], Option, Some, None, bytes_eq, codes, if◌then◌else◌, is_some, not, true, unwrap_or}
+use Rattle.std.specs.Prelude.{ℕ, Bool, List, [], Option, Some, None, bytes_eq, codes, if◌then◌else◌, is_some, leb, not, true, unwrap_or}
 use Rattle.clap.specs.Words.{first_value}
 use Rattle.clap.specs.declared.parser.matches.Found.{Found}
 use Rattle.tko_options.specs.declared.mode.Mode.{Mode}
@@ -19,6 +19,11 @@ default_workers mode.Events = 2
 -- the mode that the option names
 abbrev pub mode_at : Found → Option Mode
 mode_at found = mode_named (unwrap_or (first_value found (codes "mode")) [])
+
+-- whether a worker may ask for so many keys of a request at once: in threads for one
+abbrev pub may_ask : Mode → ℕ → Bool
+may_ask mode.Threads keys = leb keys 1
+may_ask mode.Events keys = true
 
 -- whether the number of clients may have this limit, or none: in threads it is that of the workers
 abbrev pub may_limit : Mode → Option ℕ → Bool

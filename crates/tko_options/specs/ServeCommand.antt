@@ -8,6 +8,9 @@ use Rattle.tko_options.specs.CommandLine.{any_number, config_file_option, max_nu
 abbrev pub default_mode : Text
 default_mode = codes "events"
 
+abbrev pub default_keys_at_once : Text
+default_keys_at_once = codes "1"
+
 abbrev pub default_connections : Text
 default_connections = codes "0"
 
@@ -70,6 +73,16 @@ threads_option = record (text_option (codes "threads")) { parser = Some any_numb
 abbrev pub clients_option : Rule
 clients_option = from_one (text_option (codes "clients"))
 
+-- the greatest number of keys of a request that may be asked for at once
+abbrev pub max_keys_at_once : ℕ
+max_keys_at_once = 256
+
+-- `--keys-at-once N`, a number from 1 to 256
+abbrev pub keys_option : Rule
+keys_option = record (number_option (codes "keys-at-once") default_keys_at_once) {
+  parser = Some (parser.Signed (pos 1) (pos max_keys_at_once));
+}
+
 -- `--connections N`, a number of 64 bits
 abbrev pub connections_option : Rule
 connections_option = record (number_option (codes "connections") default_connections) {
@@ -88,8 +101,8 @@ with_ends app =
 -- how it serves its clients, and how many
 abbrev pub with_clients : App → App
 with_clients app =
-    with_rule (with_rule (with_rule (with_rule app mode_option) threads_option) clients_option)
-    connections_option
+    with_rule (with_rule (with_rule (with_rule (with_rule app mode_option) threads_option)
+    clients_option) keys_option) connections_option
 
 -- how long it waits for a client
 abbrev pub with_patience : App → App

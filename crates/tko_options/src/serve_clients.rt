@@ -2,14 +2,20 @@
 ghost use Rattle.std.specs.Prelude.{◌≡◌, false, IfOk};
 ghost use Rattle.clap.specs.Words.{App, rule_of};
 ghost use Rattle.tko_options.specs.CommandLine.{ReadsAs};
-ghost use Rattle.tko_options.specs.ServeCommand.{clients_option, connections_option, mode_option, threads_option, with_clients, with_patience};
+ghost use Rattle.tko_options.specs.ServeCommand.{clients_option, connections_option, keys_option, mode_option, threads_option, with_clients, with_patience};
 
 use crate::command_line::{number, text};
 use crate::serve_command::{delay, from_one, limit};
+use clap::builder::ValueParser;
 use clap::{Arg, Command, value_parser};
 use std::alloc::{AllocError, Global};
 
 const DEFAULT_MODE: &str = "events";
+
+const DEFAULT_KEYS_AT_ONCE: &str = "1";
+
+/// The least and the greatest number of keys of a request that may be asked for at once.
+const KEYS_AT_ONCE: (i64, i64) = (1, 256);
 
 const DEFAULT_CONNECTIONS: &str = "0";
 
@@ -28,6 +34,7 @@ pub(crate) fn with_clients<'a>(
         .arg(mode(alloc))?
         .arg(threads(alloc))?
         .arg(clients(alloc))?
+        .arg(keys_at_once(alloc))?
         .arg(connections(alloc))
 }
 
@@ -74,6 +81,16 @@ fn clients<'a>(alloc: Global) -> Arg<'a>
     let help = "How many clients there are at once in events, from 1; without it as many as \
         the descriptors allow";
     from_one(text(alloc, "clients", "N").help(help))
+}
+
+/// `--keys-at-once N`.
+fn keys_at_once<'a>(alloc: Global) -> Arg<'a>
+    ensures rule { rule_of result ≡ keys_option }
+    ensures local { result.global ≡ false }
+{
+    let help = "How many keys of a request are asked for at once in events, 1 to 256";
+    let keys = number(alloc, "keys-at-once", DEFAULT_KEYS_AT_ONCE, help);
+    keys.value_parser(ValueParser::signed(KEYS_AT_ONCE.0, KEYS_AT_ONCE.1))
 }
 
 fn connections<'a>(alloc: Global) -> Arg<'a>

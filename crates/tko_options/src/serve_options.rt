@@ -3,7 +3,7 @@ ghost use Rattle.std.specs.Prelude.{◌≡◌, IfErr, IfOk, Some, bytes_eq, code
 ghost use Rattle.clap.specs.Words.{found_of};
 ghost use Rattle.tko_options.specs.Found.{AreFound, IsNumberAt, IsNumberIfAny, IsNumberOr, is_log_place};
 ghost use Rattle.tko_options.specs.Misfits.{IsUnfit};
-ghost use Rattle.tko_options.specs.Modes.{default_workers, may_limit, mode_at};
+ghost use Rattle.tko_options.specs.Modes.{default_workers, may_ask, may_limit, mode_at};
 ghost use Rattle.tko_options.specs.Trackers.{serve_settings};
 
 use crate::found::{number_of, optional_text, text_of};
@@ -21,6 +21,9 @@ const NO_MODE: &str = "invalid value for '--mode <MODE>'\n  [possible values: th
 const CLIENTS_IN_THREADS: &str =
     "the argument '--clients <N>' cannot be used with '--mode threads'";
 
+const KEYS_IN_THREADS: &str =
+    "more than 1 of '--keys-at-once <N>' cannot be used with '--mode threads'";
+
 /// The options of `serve`.
 #[derive(Debug, Drop)]
 pub struct ServeOptions {
@@ -35,6 +38,8 @@ pub struct ServeOptions {
     pub threads: u32,
     /// How many clients there may be at once, where that is limited; never in threads.
     pub clients: Option<u64>,
+    /// How many keys of a request are asked for at once; in threads 1.
+    pub keys_at_once: u32,
     /// After how many connections it ends; 0 for never.
     pub connections: u64,
     /// How long an exchange may take, in milliseconds.
@@ -59,10 +64,12 @@ pub struct ServeOptions {
 impl ServeOptions {
     /// Reads the options. clap's own parser of names takes a list by reference, which no definition
     /// of the command can name, so clap reads any text of `--log` and `--mode`.
+    #[tactic(auto, using(crate::proofs::MisfitLemmas::unfit_keys))]
     pub(crate) fn of(alloc: Global, found: &ArgMatches<'_>) -> Result<ServeOptions, Refusal>
         ensures ok { IfOk result (AreFound (found_of found.now)) }
         ensures log { IfOk result (λ options. is_log_place (string_bytes options.log) ≡ true) }
         ensures clients { IfOk result (λ options. may_limit options.mode options.clients ≡ true) }
+        ensures keys { IfOk result (λ options. may_ask options.mode options.keys_at_once ≡ true) }
         ensures err { IfErr result (IsUnfit (found_of found.now)) }
     {
         let Some(mode) = mode_of(found) else {
@@ -74,6 +81,9 @@ impl ServeOptions {
         }
         if !options.may_limit_clients() {
             return Err(Refusal::by(alloc, ErrorKind::ArgumentConflict, CLIENTS_IN_THREADS));
+        }
+        if !options.may_ask_at_once() {
+            return Err(Refusal::by(alloc, ErrorKind::ArgumentConflict, KEYS_IN_THREADS));
         }
         Ok(options)
     }
@@ -94,6 +104,7 @@ impl ServeOptions {
             mode,
             threads: threads_of(found, mode),
             clients: clients_of(found),
+            keys_at_once: number_of(found, "keys-at-once"),
             connections: connections_of(found),
             timeout: number_of(found, "timeout"),
             write_timeout: number_of(found, "write-timeout"),
@@ -127,6 +138,13 @@ impl ServeOptions {
         ensures { result ≡ may_limit self.now.mode self.now.clients }
     {
         self.mode == Mode::Events || self.clients.is_none()
+    }
+
+    /// Whether so many keys of a request may be asked for at once.
+    fn may_ask_at_once(&self) -> bool
+        ensures { result ≡ may_ask self.now.mode self.now.keys_at_once }
+    {
+        self.mode == Mode::Events || self.keys_at_once <= 1
     }
 
     /// The settings of a tracker of `servers` servers without groups, with the limit of all that

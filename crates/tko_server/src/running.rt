@@ -41,6 +41,8 @@ pub struct Options {
     pub open_files: Option<u64>,
     /// How many clients event-driven workers have at most; `None` is what the descriptors allow.
     pub clients: Option<u64>,
+    /// How many keys of one request an event-driven worker asks for at once.
+    pub keys_at_once: u32,
     /// How many connections are accepted; 0 is no limit.
     pub connections: u64,
 }

@@ -102,6 +102,7 @@ fn options(alloc: Global, port: u16) -> Result<Options, Fail> {
         patience: PATIENCE,
         open_files: None,
         clients: None,
+        keys_at_once: 1,
         connections: 2,
     })
 }

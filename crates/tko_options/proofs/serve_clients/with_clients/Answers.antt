@@ -10,6 +10,8 @@ returns c app reads =
     c.threads.ensures.local c.threads.ensures.rule in
     let three = adds_option _ _ _ _ c.in_ok-arg-3.field-0 two c.in_ok-arg-3.ensures
     c.clients.ensures.local c.clients.ensures.rule in
-    IfOk-weaker c.arg-4.result _ _
-    (λ command added. adds_option _ _ _ _ command three added c.connections.ensures.local
-    c.connections.ensures.rule) c.arg-4.ensures
+    let four = adds_option _ _ _ _ c.in_ok-arg-4.field-0 three c.in_ok-arg-4.ensures
+    c.keys_at_once.ensures.local c.keys_at_once.ensures.rule in
+    IfOk-weaker c.arg-5.result _ _
+    (λ command added. adds_option _ _ _ _ command four added c.connections.ensures.local
+    c.connections.ensures.rule) c.arg-5.ensures
