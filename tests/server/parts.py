@@ -81,7 +81,10 @@ class Memcached:
             return int(re.search(rb"STAT %s (\d+)" % name.encode(), client.ask(b"stats\r\n")).group(1))
 
     def pause(self):
+        """Returns once all of its threads have stopped: until then it may answer. The state is looked at and not taken
+        (WNOWAIT), so a server that is stopped already counts as stopped again."""
         self.process.send_signal(signal.SIGSTOP)
+        os.waitid(os.P_PID, self.process.pid, os.WSTOPPED | os.WNOWAIT)
 
     def resume(self):
         self.process.send_signal(signal.SIGCONT)

@@ -87,10 +87,10 @@ class RefusedMemory(RefusingTest):
     def test_a_schedule(self):
         self.assert_each_refused("replay", data=SCHEDULE)
 
-    def serve_with(self, server, requests, refused):
+    def serve_with(self, server, requests, refused, more):
         """What a client gets, what the program then comes to, and whether there was such a call."""
         port = free_port()
-        options = {"connections": 1, "threads": 1}
+        options = {"connections": 1, "threads": 1, **more}
         process, told = self.start_refused(serve_words(port, configuration(only=[server]), options),
                                            {"REFUSED_CALL": refused})
         with told:
@@ -107,12 +107,13 @@ class RefusedMemory(RefusingTest):
         except ConnectionError:
             return b""
 
-    def assert_each_refused_to_a_client(self, server, exchange_of):
-        """Each call is refused while a client sends these requests, to which these replies are due."""
+    def assert_each_refused_to_a_client(self, server, exchange_of, **more):
+        """Each call is refused while a client sends these requests, to which these replies are due. The program may have
+        more options."""
         noted = 0
         for call in itertools.count(1):
             requests, whole = exchange_of(call)
-            reply, status, errors, refused = self.serve_with(server, requests, call)
+            reply, status, errors, refused = self.serve_with(server, requests, call, more)
             self.assertTrue(whole.startswith(reply), f"call {call}: {len(reply)} bytes, {reply[:200]}")
             if not refused:
                 break
@@ -142,6 +143,19 @@ class RefusedMemory(RefusingTest):
         requests = b"get long\r\nget longer none long\r\n" + store(*long) + b"gets none\r\nget longer\r\nquit\r\n"
         whole = values(long) + values(longer, long) + b"STORED\r\nEND\r\n" + values(longer)
         self.assert_each_refused_to_a_client(server, lambda call: (requests, whole))
+
+    @only_in("events", "there several keys may be under way")
+    def test_several_keys_at_once(self):
+        """Where memory runs out for one key, nothing of its reply is sent, and those under way answer no later request."""
+        server = self.memcached()
+        pairs = [(b"long", b"x" * 100000), (b"a", b"1"), (b"b", b"22"), (b"c", b"333")]
+        with server.client() as client:
+            for key, value in pairs:
+                client.ask(store(key, value))
+        requests = b"get a none b c a\r\nget long a long\r\ngets none none\r\nget c\r\nquit\r\n"
+        long, one, two, three = pairs
+        whole = values(one, two, three, one) + values(long, one, long) + b"END\r\n" + values(three)
+        self.assert_each_refused_to_a_client(server, lambda call: (requests, whole), keys_at_once=3)
 
     def late_server(self, counted):
         """A server that is not open yet. Its answer to a probe is long, and a `get` removes this file."""

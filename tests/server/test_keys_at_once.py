@@ -1,0 +1,213 @@
+"""A `get` of several keys of which some are under way at once (`--keys-at-once`): what its reply is, and for which keys
+requests are out."""
+import itertools
+import random
+
+from fakes import key_of
+from parts import only_in
+from ports import wait_until
+from several_keys import (BUSY, NO_SERVER, NUMBERS, QUIET, SLACK, WHY, KeysAtOnce, found, get, keys_on, value_of,
+                          values_of)
+from talk import values
+
+
+class Replies(KeysAtOnce):
+    """What a `get` of keys is answered each of which has a value, has none, gets an error of its server, or is on a
+    server that is down."""
+
+    def setUp(self):
+        up, down = self.fake(self.answer), self.closed()
+        self.servers = [up, down]
+        there, gone = (iter(keys_on(place, 2, 20)) for place in (0, 1))
+        # By kind, a key for each place.
+        self.keys = {kind: [next(gone if kind == "down" else there) for _ in range(3)]
+                     for kind in ("value", "missing", "error", "down")}
+        self.kinds = {key: kind for kind, keys in self.keys.items() for key in keys}
+
+    def answer(self, _, request):
+        word, key = request.split()
+        return {"value": values_of(word, (key, value_of(key))), "missing": b"END\r\n", "error": BUSY}[self.kinds[key]]
+
+    def expected(self, word, keys):
+        """The values of all keys, or the whole reply to the first one that has no list of values."""
+        for key in keys:
+            if self.kinds[key] in ("error", "down"):
+                return BUSY if self.kinds[key] == "error" else NO_SERVER
+        return values_of(word, *((key, value_of(key)) for key in keys if self.kinds[key] == "value"))
+
+    def each_row(self, rows):
+        for number in NUMBERS:
+            proxy = self.over(number, self.servers)
+            with proxy.client() as client:
+                for word, keys in itertools.product((b"get", b"gets"), rows):
+                    with self.subTest(number=number, word=word, kinds=[self.kinds[key] for key in keys]):
+                        self.assertEqual(client.ask(get(*keys, word=word)), self.expected(word, keys))
+                # Nothing is left that the next request could take for its own.
+                self.assertEqual(client.ask(b"version\r\n"), b"VERSION tkoproxy 1\r\n")
+            self.assertEqual(proxy.marks()[self.servers[0].address], "up:0")
+
+    def test_each_kind_at_each_place_of_three_keys(self):
+        kinds = itertools.product(self.keys, repeat=3)
+        self.each_row([[self.keys[kind][place] for place, kind in enumerate(row)] for row in kinds])
+
+    def test_a_key_that_is_asked_for_twice(self):
+        rows = []
+        for kind, other in itertools.product(self.keys, repeat=2):
+            twice, once = self.keys[kind][0], self.keys[other][1]
+            rows += [[twice, twice], [twice, twice, once], [twice, once, twice], [once, twice, twice],
+                     [twice, twice, twice]]
+        self.each_row(rows)
+
+    def test_one_key_alone(self):
+        self.each_row([[keys[0]] for keys in self.keys.values()])
+
+    def test_each_key_that_is_asked_for_is_counted(self):
+        """Also those behind the first one, which fails and is the whole reply."""
+        keys = [*self.keys["value"], *self.keys["missing"]]
+        for number, kind in itertools.product(NUMBERS, ("value", "error")):
+            first, asked = self.keys[kind][0], 7 if kind == "value" else min(number, 7)
+            with self.subTest(number=number, kind=kind):
+                proxy = self.over(number, self.servers, connections=1)
+                with proxy.client() as client:
+                    client.send(get(first, *keys) + b"quit\r\n")
+                    self.assertEqual(client.rest(), self.expected(b"get", [first, *keys]))
+                kinds = {"request": 2, "attempt": asked, "skip": 0, "reply": asked, "no-server": 0, "probe": 0}
+                totals = "".join(f"total {kind} {count}\n" for kind, count in kinds.items())
+                self.assertEqual(proxy.end(), (0, totals))
+
+    def test_other_requests_between_in_their_order(self):
+        """Pipelined, so that each reply has to wait for those before it."""
+        good, bad = self.keys["value"], self.keys["error"]
+        for number in NUMBERS:
+            with self.subTest(number=number), self.over(number, self.servers).client() as client:
+                client.send(b"version\r\n" + get(*good) + b"what\r\n" + get(good[0], bad[0]))
+                client.send(get(good[1]) + b"quit\r\n")
+                self.assertEqual(client.rest(), b"".join([
+                    b"VERSION tkoproxy 1\r\n", self.expected(b"get", good), b"ERROR\r\n", BUSY,
+                    self.expected(b"get", good[1:2])]))
+
+
+@only_in("events", WHY)
+class UnderWay(KeysAtOnce):
+    """How many requests are out, and for which keys."""
+
+    def test_so_many_at_once_and_no_more(self):
+        for number, count in ((1, 5), (2, 5), (8, 20), (256, 300)):
+            with self.subTest(number=number):
+                server, held = self.held()
+                keys = keys_on(0, 1, count)
+                with self.over(number, [server], timeout=60000).client() as client:
+                    client.send(get(*keys))
+                    self.are_waiting(number, held)
+                    self.assertEqual(held.keys(), keys[:number])
+                    held.give()
+                    # As one is answered the next is asked for.
+                    self.are_waiting(number, held)
+                    self.assertEqual(held.keys(), keys[1:number + 1])
+                    for asked in range(number + 1, count):
+                        held.give()
+                        wait_until(lambda: len(held.waiting) == number, SLACK, f"key {asked} is asked for")
+                    held.give(number)
+                    self.assertEqual(client.reply(), values(*((key, value_of(key)) for key in keys)))
+                self.assertEqual([key_of(request) for request in server.requests], keys)
+                self.assertEqual(held.most, number)
+
+    def test_a_get_of_fewer_keys(self):
+        server, held = self.held()
+        with self.over(8, [server]).client() as client:
+            client.send(get(b"a", b"b", b"c"))
+            self.are_waiting(3, held)
+            held.give(3)
+            self.assertEqual(client.reply(), values(*((key, value_of(key)) for key in (b"a", b"b", b"c"))))
+
+    def test_each_client_has_so_many(self):
+        server, held = self.held()
+        keys = keys_on(0, 1, 10)
+        proxy = self.over(4, [server])
+        with proxy.client() as one, proxy.client() as other:
+            one.send(get(*keys))
+            self.are_waiting(4, held)
+            other.send(get(*keys))
+            self.are_waiting(8, held)
+            for _ in range(20):
+                wait_until(lambda: held.waiting, SLACK, "a request comes")
+                held.give()
+            for client in (one, other):
+                self.assertEqual(client.reply(), values(*((key, value_of(key)) for key in keys)))
+        self.assertEqual(len(server.connections), 1)
+
+    def test_the_next_request_waits_for_the_reply(self):
+        server, held = self.held()
+        with self.over(4, [server]).client() as client:
+            client.send(get(b"a", b"b") + get(b"c", b"d"))
+            self.are_waiting(2, held)
+            held.give()
+            self.are_waiting(1, held)
+            held.give()
+            self.are_waiting(2, held)
+            self.assertEqual(held.keys(), [b"c", b"d"])
+            held.give(2)
+            for keys in ((b"a", b"b"), (b"c", b"d")):
+                self.assertEqual(client.reply(), values(*((key, value_of(key)) for key in keys)))
+
+    def test_no_key_is_asked_for_far_ahead_of_one_that_waits(self):
+        """However fast the others are answered: so few keys were asked for in vain where the first one fails."""
+        (slow, held), quick = self.held(lambda *_: BUSY), self.fake(found)
+        keys = keys_on(0, 2, 1) + keys_on(1, 2, 20)
+        proxy = self.over(4, [slow, quick])
+        with proxy.client() as client:
+            client.send(get(*keys))
+            self.are_waiting(1, held)
+            self.assertEqual([key_of(request) for request in quick.requests], keys[1:4])
+            self.assertTrue(client.is_quiet(QUIET))
+            held.give()
+            self.assertEqual(client.reply(), BUSY)
+            self.assertEqual(len(quick.requests), 3)
+            # The values that had come are no part of the next reply.
+            self.assertEqual(client.ask(get(keys[5])), values((keys[5], value_of(keys[5]))))
+
+    def test_after_a_failed_key_no_other_is_asked_for(self):
+        """The reply waits for those under way, which may stand before it."""
+        (slow, held), quick = self.held(), self.fake(lambda *_: BUSY)
+        keys = keys_on(0, 2, 2) + keys_on(1, 2, 1) + keys_on(0, 2, 20)[2:]
+        with self.over(4, [slow, quick]).client() as client:
+            client.send(get(*keys))
+            self.are_waiting(3, held)
+            held.give(2)
+            self.are_waiting(1, held)
+            self.assertTrue(client.is_quiet(QUIET))
+            held.give()
+            self.assertEqual(client.reply(), BUSY)
+            self.assertEqual([key_of(request) for request in slow.requests], [*keys[:2], keys[3]])
+
+    def test_the_values_are_in_the_order_of_the_keys(self):
+        """In whatever order four servers answer, each of which has two of the keys."""
+        choice = random.Random(47)
+        pairs = [self.held() for _ in range(4)]
+        keys = [key for group in zip(*(keys_on(place, 4, 2) for place in range(4))) for key in group]
+        proxy = self.over(8, [server for server, _ in pairs])
+        with proxy.client() as client:
+            for word, order in itertools.product((b"get", b"gets"), itertools.permutations(range(4))):
+                choice.shuffle(keys)
+                client.send(get(*keys, word=word))
+                for place in order:
+                    held = pairs[place][1]
+                    wait_until(lambda: len(held.waiting) == 2, SLACK, "both requests have come")
+                    held.give(2)
+                with self.subTest(word=word, order=order):
+                    self.assertEqual(client.reply(), values_of(word, *((key, value_of(key)) for key in keys)))
+
+    def test_many_clients_get_their_own_values(self):
+        """Over the same few connections, with keys that they have in common."""
+        servers = [self.fake(found) for _ in range(3)]
+        proxy = self.over(8, servers, threads=2)
+        choice = random.Random(48)
+        names = [b"shared-%d" % number for number in range(100)]
+        clients = [self.client(proxy.port) for _ in range(40)]
+        for _ in range(10):
+            asked = [choice.choices(names, k=choice.choice([2, 7, 30])) for _ in clients]
+            for client, keys in zip(clients, asked):
+                client.send(get(*keys))
+            for client, keys in zip(clients, asked):
+                self.assertEqual(client.reply(), values(*((key, value_of(key)) for key in keys)))
+        self.assertEqual(set(proxy.marks().values()), {"up:0"})
