@@ -95,10 +95,15 @@ def memcached(connections, threads=4, port=None, servers=1):
 MOST_WORKERS = 1024
 
 
-def has_modes(program):
-    """Whether `serve` of this tkoproxy has `--mode`. An earlier one has none, and serves as that of threads."""
+def has_option(program, option):
+    """Whether `serve` of this tkoproxy has it."""
     told = subprocess.run([program, "serve", "--help"], stdout=subprocess.PIPE, text=True, check=True).stdout
-    return "--mode" in told
+    return f"{option} " in told
+
+
+def has_modes(program):
+    """Whether it has `--mode`. An earlier one has none, and serves as that of threads."""
+    return has_option(program, "--mode")
 
 
 def modes(program):
@@ -117,9 +122,9 @@ def tkoproxy_threads(name, program, servers, connections):
     return tkoproxy_of(name, program, config_of(servers), [*threads_mode(program), "--threads", str(connections)])
 
 
-def tkoproxy_events(name, program, servers, workers):
-    """The program with so many event-driven workers."""
-    return tkoproxy_of(name, program, config_of(servers), ["--mode", "events", "--threads", str(workers)])
+def tkoproxy_events(name, program, servers, workers, *more):
+    """The program with so many event-driven workers, and with more options."""
+    return tkoproxy_of(name, program, config_of(servers), ["--mode", "events", "--threads", str(workers), *more])
 
 
 def config_of(servers):

@@ -70,12 +70,17 @@ def legend(names):
         x += 45 + 7.5 * len(words)
 
 
+def names_in(rates):
+    """The targets of all cases, in the order of the longest row, and then those that it lacks."""
+    return distinct(name for row in sorted(rates.values(), key=len, reverse=True) for name in row)
+
+
 def drawn(rates, notes):
     """The SVG of the requests a second, which are by (kind, size, connections) and the name of the target."""
     kinds, sizes = distinct(case[0] for case in rates), distinct(case[1] for case in rates)
     width = (WIDTH - LEFT - RIGHT - GAP_X * (len(sizes) - 1)) / len(sizes)
     height = TOP + len(kinds) * (ROW + GAP_Y) - GAP_Y + BOTTOM
-    shapes = [svg.text(16, 28, TITLE, 17, bold=True), *legend(next(iter(rates.values())))]
+    shapes = [svg.text(16, 28, TITLE, 17, bold=True), *legend(names_in(rates))]
     for row, kind in enumerate(kinds):
         for column, size in enumerate(sizes):
             own = {case[2]: rate for case, rate in rates.items() if case[:2] == (kind, size)}
