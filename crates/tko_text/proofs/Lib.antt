@@ -6,7 +6,14 @@ pub mod GivesLemmas
 pub mod JoinedLemmas
 pub mod KeyLemmas
 pub mod LineLemmas
+pub mod ListedLemmas
+pub mod ListingFaultLemmas
+pub mod ListingLemmas
+pub mod ListingReads
+pub mod ListingTexts
+pub mod MarkLemmas
 pub mod NeverLemmas
+pub mod PlaceLemmas
 pub mod PrintLemmas
 pub mod PrintedLemmas
 pub mod ReadAgainLemmas

@@ -43,7 +43,7 @@ head_is_one line key other flags f size s cas c a b =
       cas_is_one b.cas_words cas c (subst (λ (ws : List (List ℕ)). IsCas ws cas) cas_words a.cas_is) b.cas_is,
     )
 
-block_then : (found more : List ℕ) → block found ++ more ≡ found ++ 13 ∷ 10 ∷ more
+pub block_then : (found more : List ℕ) → block found ++ more ≡ found ++ 13 ∷ 10 ∷ more
 block_then found more = append_assoc found (13 ∷ 10 ∷ []) more
 
 -- data of one size is one
@@ -70,7 +70,7 @@ data_long bytes found more e =
 pub cut_data_has_none : (size : ℕ) (bytes found more : List ℕ) → IsCutData size bytes → bytes ≡ block found ++ more → length found ≡ size → ⊥
 cut_data_has_none size bytes found more cut e len = omega (arith, cut_data_short size bytes cut, data_long bytes found more e)
 
-wrong_data_has_none : (size : ℕ) (bytes found more : List ℕ) → DataFault fault.Unreadable size bytes → bytes ≡ block found ++ more → length found ≡ size → ⊥
+pub wrong_data_has_none : (size : ℕ) (bytes found more : List ℕ) → DataFault fault.Unreadable size bytes → bytes ≡ block found ++ more → length found ≡ size → ⊥
 wrong_data_has_none size bytes found more wrong e len =
     let flat : bytes ≡ found ++ 13 ∷ 10 ∷ more = e ∙ block_then found more in
     let late : bytes ≡ (found ++ 13 ∷ []) ++ 10 ∷ more = flat ∙ sym (append_assoc found (13 ∷ []) (10 ∷ more)) in
@@ -79,7 +79,7 @@ wrong_data_has_none size bytes found more wrong e len =
       | inr lf ↦ lf.1 (ap (λ xs. get_or xs (size + 1) 0) late ∙ get_or_at (found ++ 13 ∷ []) 10 more 0 (size + 1) (omega (arith, length-append found (13 ∷ []), len)))
     ]
 
-wrong_data_isnt_cut : (size : ℕ) (bytes : List ℕ) → DataFault fault.Unreadable size bytes → IsCutData size bytes → ⊥
+pub wrong_data_isnt_cut : (size : ℕ) (bytes : List ℕ) → DataFault fault.Unreadable size bytes → IsCutData size bytes → ⊥
 wrong_data_isnt_cut size bytes wrong cut = elim wrong [
   | inl cr ↦ elim cut [
     | inl short ↦ omega (arith, short, cr.0)
@@ -88,13 +88,13 @@ wrong_data_isnt_cut size bytes wrong cut = elim wrong [
   | inr lf ↦ omega (arith, cut_data_short size bytes cut, lf.0)
 ]
 
-end_fault_isnt_open : (rest : List ℕ) → EndFault fault.Unreadable rest → IsOpenLine rest → ⊥
+pub end_fault_isnt_open : (rest : List ℕ) → EndFault fault.Unreadable rest → IsOpenLine rest → ⊥
 end_fault_isnt_open rest wrong open_line = elim wrong [
   | inl overlong ↦ omega (arith, overlong.many, open_line.few)
   | inr other ↦ open_line_has_none rest other.2.0 other.0 other.1 open_line other.2.1 other.2.2
 ]
 
-end_fault_has_none : (f : ReadFault) (rest more : List ℕ) → EndFault f rest → SplitsEnd rest more → ⊥
+pub end_fault_has_none : (f : ReadFault) (rest more : List ℕ) → EndFault f rest → SplitsEnd rest more → ⊥
 end_fault_has_none fault.Short rest more open_line is = open_line_has_none rest is.0 is.1.line more open_line is.1.is_line is.2
 end_fault_has_none fault.Unreadable rest more wrong is = elim wrong [
   | inl overlong ↦ overlong_has_none rest is.0 is.1.line more overlong is.1.is_line is.2

@@ -1,5 +1,5 @@
 -- What is read of bytes, from what was found of their first line and of what follows it.
-use Rattle.std.proofs.Common.{◌≡◌, ◌≢◌, ℕ, ◌-◌, List, ◌++◌, length, take, drop, refl, ap, sym, ◌∙◌, subst, inl, inr, arith, Some, None, Result, Ok, Err, append_assoc, length-append}
+use Rattle.std.proofs.Common.{◌≡◌, ◌≢◌, ℕ, ◌-◌, List, ◌++◌, length, take, drop, refl, ap, sym, ◌∙◌, subst, inl, inr, arith, Option, Some, None, Result, Ok, Err, append_assoc, length-append}
 use Rattle.std.specs.Prelude.{codes}
 use Rattle.std.proofs.lemmas.List.{take_at, take-append-drop}
 use Rattle.tko_text.specs.declared.request.Request.{Request}
@@ -9,9 +9,13 @@ use Rattle.tko_text.specs.declared.response.body.Value.{Value}
 use Rattle.tko_text.specs.declared.response.fault.ReadFault.{ReadFault}
 use Rattle.tko_text.specs.declared.response.fault.ReadFault.TheVariants as fault
 use Rattle.tko_text.specs.ResponseLines.{IsLine, Split, SplitsLine}
-use Rattle.tko_text.specs.Responses.{Kind, Retrieval, Storage, Deletion, Counting, Touching, Probe, Asks, Suits, Says, IsBody, IsCutBody, Spells, Begins, IsResponse, IsBeginning, NoResponse, ReadsResponse, kind_of}
+use Rattle.tko_text.specs.declared.response.kind as code
+use Rattle.tko_text.specs.declared.response.kind.Kind.TheVariants as variant
+use Rattle.tko_text.specs.ResponseKinds.{seen}
+use Rattle.tko_text.specs.Responses.{Kind, Retrieval, Listing, Storage, Deletion, Counting, Touching, Probe, Asks, Suits, Says, IsBody, IsCutBody, IsCutValue, Spells, Begins, IsCutList, IsListing, IsResponse, IsBeginning, NoResponse, ReadsResponse, kind_of}
 use Rattle.tko_text.specs.ResponseFaults.{NoneOf, ReadsOf, LineFault, Misses, NoBody, SplitsBody, BodyFault, line_response, value_line}
 use Rattle.tko_text.proofs.ResponseLineLemmas.{line_is_one, open_line_has_none, overlong_has_none}
+use Rattle.tko_text.proofs.ListingTexts.{listing_line, overlong_isnt_cut}
 use Rattle.tko_text.proofs.ResponseWordLemmas.{response_says, says_response, says_is_one, value_says_nothing}
 
 -- a response begins with a line, which is all of it, or goes on with a value's body
@@ -19,12 +23,14 @@ pub data Opening : List ℕ → Response → Type 0 where
   by_line : (front : List ℕ) (line : Split) (response : Response) → IsLine front line → Says line response → Opening front response
   by_value : (head : List ℕ) (line : Split) (body : List ℕ) (value : Value) → IsLine head line → IsBody line body value
       → Opening (head ++ body) (response.Values (Some value))
+  by_list : (front : List ℕ) (values : List Value) → IsListing front values → Opening front (response.Listed values)
 
 pub opening : (front : List ℕ) (r : Response) → Spells front r → Opening front r
 opening front (response.Values (Some value)) spells =
     subst (λ (xs : List ℕ). Opening xs (response.Values (Some value))) (sym spells.whole)
     (by_value spells.head spells.line spells.body value spells.is_line spells.is_body)
 opening front (response.Values None) spells = by_line front spells.line (response.Values None) spells.is_line spells.says
+opening front (response.Listed values) spells = by_list front values spells
 opening front response.Stored spells = by_line front spells.line response.Stored spells.is_line spells.says
 opening front response.NotStored spells = by_line front spells.line response.NotStored spells.is_line spells.says
 opening front response.Exists spells = by_line front spells.line response.Exists spells.is_line spells.says
@@ -38,9 +44,10 @@ opening front (response.ClientError text) spells = by_line front spells.line (re
 opening front (response.ServerError text) spells = by_line front spells.line (response.ServerError text) spells.is_line spells.says
 
 -- a line that is a response spells it
-spells_line : (front : List ℕ) (line : Split) (r : Response) → IsLine front line → Says line r → Spells front r
+pub spells_line : (front : List ℕ) (line : Split) (r : Response) → IsLine front line → Says line r → Spells front r
 spells_line front line (response.Values (Some value)) is says = absurd says
 spells_line front line (response.Values None) is says = record { line = line; is_line = is; says = says }
+spells_line front line (response.Listed values) is says = absurd says
 spells_line front line response.Stored is says = record { line = line; is_line = is; says = says }
 spells_line front line response.NotStored is says = record { line = line; is_line = is; says = says }
 spells_line front line response.Exists is says = record { line = line; is_line = is; says = says }
@@ -56,6 +63,7 @@ spells_line front line (response.ServerError text) is says = record { line = lin
 -- a kind has a value exactly where it asked for it
 asks_value : (kind : Kind) (value : Value) → Suits kind (response.Values (Some value)) → Asks kind value.key value.unique
 asks_value (Retrieval key unique) value suits = suits
+asks_value (Listing keys unique) value suits = suits
 asks_value Storage value suits = suits
 asks_value Deletion value suits = suits
 asks_value Counting value suits = suits
@@ -64,18 +72,82 @@ asks_value Probe value suits = suits
 
 suits_value : (kind : Kind) (value : Value) → Asks kind value.key value.unique → Suits kind (response.Values (Some value))
 suits_value (Retrieval key unique) value asks = asks
+suits_value (Listing keys unique) value asks = asks
 suits_value Storage value asks = asks
 suits_value Deletion value asks = asks
 suits_value Counting value asks = asks
 suits_value Touching value asks = asks
 suits_value Probe value asks = asks
 
+-- a request of this kind has one key at most
+abbrev pub IsSingle : Kind → Type 0
+IsSingle (Listing keys unique) = ⊥
+IsSingle _ = Unit {0}
+
+pub code_single : (kind : code.Kind.Kind) → IsSingle (seen kind)
+code_single (variant.Retrieval key unique) = tt
+code_single variant.Storage = tt
+code_single variant.Deletion = tt
+code_single variant.Counting = tt
+code_single variant.Touching = tt
+code_single variant.Probe = tt
+
+pub none_listed : (kind : Kind) (values : List Value) → IsSingle kind → Suits kind (response.Listed values) → ⊥
+none_listed (Retrieval key unique) values single suits = suits
+none_listed (Listing keys unique) values single suits = single
+none_listed Storage values single suits = suits
+none_listed Deletion values single suits = suits
+none_listed Counting values single suits = suits
+none_listed Touching values single suits = suits
+none_listed Probe values single suits = suits
+
+none_cut : (kind : Kind) (bytes : List ℕ) → IsSingle kind → IsCutList kind bytes → ⊥
+none_cut (Retrieval key unique) bytes single cut = cut
+none_cut (Listing keys unique) bytes single cut = single
+none_cut Storage bytes single cut = cut
+none_cut Deletion bytes single cut = cut
+none_cut Counting bytes single cut = cut
+none_cut Touching bytes single cut = cut
+none_cut Probe bytes single cut = cut
+
+-- a request that lists values has no single one
+pub listed_alone : (kind : Kind) (values : List Value) (found : Option Value) → Suits kind (response.Listed values)
+    → Suits kind (response.Values found) → ⊥
+listed_alone (Retrieval key unique) values found lists suits = lists
+listed_alone (Listing keys unique) values None lists suits = suits
+listed_alone (Listing keys unique) values (Some value) lists suits = suits
+listed_alone Storage values found lists suits = lists
+listed_alone Deletion values found lists suits = lists
+listed_alone Counting values found lists suits = lists
+listed_alone Touching values found lists suits = lists
+listed_alone Probe values found lists suits = lists
+
+pub listed_uncut : (kind : Kind) (values : List Value) (bytes : List ℕ) → Suits kind (response.Listed values)
+    → IsCutValue kind bytes → ⊥
+listed_uncut (Retrieval key unique) values bytes lists cut = lists
+listed_uncut (Listing keys unique) values bytes lists cut = cut.is_cut.asked
+listed_uncut Storage values bytes lists cut = lists
+listed_uncut Deletion values bytes lists cut = lists
+listed_uncut Counting values bytes lists cut = lists
+listed_uncut Touching values bytes lists cut = lists
+listed_uncut Probe values bytes lists cut = lists
+
+pub cut_list_is_no_value : (kind : Kind) (bytes : List ℕ) (value : Value) → Suits kind (response.Values (Some value))
+    → IsCutList kind bytes → ⊥
+cut_list_is_no_value (Retrieval key unique) bytes value suits cut = cut
+cut_list_is_no_value (Listing keys unique) bytes value suits cut = suits
+cut_list_is_no_value Storage bytes value suits cut = cut
+cut_list_is_no_value Deletion bytes value suits cut = cut
+cut_list_is_no_value Counting bytes value suits cut = cut
+cut_list_is_no_value Touching bytes value suits cut = cut
+cut_list_is_no_value Probe bytes value suits cut = cut
+
 -- the front that a rest leaves
-taken : (bytes front rest : List ℕ) → bytes ≡ front ++ rest → take (length bytes - length rest) bytes ≡ front
+pub taken : (bytes front rest : List ℕ) → bytes ≡ front ++ rest → take (length bytes - length rest) bytes ≡ front
 taken bytes front rest e = ap (take (length bytes - length rest)) e ∙ take_at front rest (length bytes - length rest) (omega (arith, ap length e, length-append front rest))
 
 -- no front of the bytes is a response, where no opening is
-none_by_opening : (kind : Kind) (bytes : List ℕ)
+pub none_by_opening : (kind : Kind) (bytes : List ℕ)
     → ((front rest : List ℕ) (r : Response) → Opening front r → Suits kind r → bytes ≡ front ++ rest → ⊥) → NoneOf kind bytes
 none_by_opening kind bytes none n r le is =
     none (take n bytes) (drop n bytes) r (opening (take n bytes) r is.1) is.0 (sym (take-append-drop n bytes))
@@ -87,19 +159,23 @@ module _ (kind : Kind) (bytes : List ℕ) where
     no_opening : (front rest : List ℕ) (r : Response) → Opening front r → Suits kind r → bytes ≡ front ++ rest → ⊥
     no_opening front rest r (by_line front' line r' is says) suits e = none front line rest is e
     no_opening front rest r (by_value head line body value is is_body) suits e = none head line (body ++ rest) is (e ∙ append_assoc head body rest)
+    no_opening front rest r (by_list front' values listing) suits e =
+        let first = listing_line front values listing in
+        none first.0 first.1 (first.2 ++ rest) first.3 (e ∙ ap (λ xs. xs ++ rest) first.4 ∙ append_assoc first.0 first.2 rest)
 
   pub line_fault : (f : ReadFault) → LineFault f bytes → ReadsOf kind bytes (Err f)
   line_fault fault.Short open_line = (inl open_line, no_line (λ a s x line e. open_line_has_none bytes a s x open_line line e))
   line_fault fault.Unreadable overlong = (
     λ begins. elim begins [
       | inl open_line ↦ omega (arith, overlong.many, open_line.few)
-      | inr cut ↦ overlong_has_none bytes cut.head cut.line cut.body overlong cut.is_line cut.whole
+      | inr (inl cut) ↦ overlong_has_none bytes cut.head cut.line cut.body overlong cut.is_line cut.whole
+      | inr (inr cut) ↦ overlong_isnt_cut kind bytes overlong cut
     ],
     no_line (λ a s x line e. overlong_has_none bytes a s x overlong line e),
   )
   line_fault fault.Memory none = absurd none
 
-module _ (kind : Kind) (bytes : List ℕ) (line : Split) (rest : List ℕ) (split : SplitsLine bytes line rest) where
+module _ (kind : Kind) (single : IsSingle kind) (bytes : List ℕ) (line : Split) (rest : List ℕ) (split : SplitsLine bytes line rest) where
   -- no response that the kind can have is the line, and none goes on from it
   none_of_line : ((r : Response) → Says line r → Suits kind r → ⊥) → NoBody kind line rest → NoneOf kind bytes
   none_of_line unsaid none = none_by_opening kind bytes closed where
@@ -110,17 +186,19 @@ module _ (kind : Kind) (bytes : List ℕ) (line : Split) (rest : List ℕ) (spli
     closed front later r (by_value head line' body value is is_body) suits e =
         let same = line_is_one split.0 head line line' rest (body ++ later) split.1 is (sym split.2 ∙ e ∙ append_assoc head body later) in
         none body later value same.2 (subst (λ (xs : Split). IsBody xs body value) (sym same.1) is_body) (asks_value kind value suits)
+    closed front later r (by_list front' values listing) suits e = none_listed kind values single suits
 
   -- the fault of what follows the line is that of the bytes
   body_fault : (f : ReadFault) → ((r : Response) → Says line r → Suits kind r → ⊥) → BodyFault f kind line rest → ReadsOf kind bytes (Err f)
   body_fault fault.Short unsaid cut = (
-    inr (record { head = split.0; line = line; body = rest; whole = split.2; is_line = split.1; is_cut = cut.0 }),
+    inr (inl (record { head = split.0; line = line; body = rest; whole = split.2; is_line = split.1; is_cut = cut.0 })),
     none_of_line unsaid cut.1,
   )
   body_fault fault.Unreadable unsaid wrong = (
     λ begins. elim begins [
       | inl open_line ↦ open_line_has_none bytes split.0 line rest open_line split.1 split.2
-      | inr cut ↦
+      | inr (inr cut) ↦ none_cut kind bytes single cut
+      | inr (inl cut) ↦
           let same = line_is_one split.0 cut.head line cut.line rest cut.body split.1 cut.is_line (sym split.2 ∙ cut.whole) in
           wrong.0 (subst (λ (xs : List ℕ). IsCutBody kind line xs) (sym same.2) (subst (λ (xs : Split). IsCutBody kind xs cut.body) (sym same.1) cut.is_cut))
     ],
@@ -152,9 +230,9 @@ module _ (kind : Kind) (bytes : List ℕ) (line : Split) (rest : List ℕ) (spli
     (suits, subst (λ (xs : List ℕ). Spells xs r) (sym (taken bytes split.0 rest split.2)) (spells_line split.0 line r split.1 (response_says line r found))),
   )
 
-module _ (kind : Kind) (bytes arguments rest : List ℕ) (split : SplitsLine bytes (value_line arguments) rest) where
+module _ (kind : Kind) (single : IsSingle kind) (bytes arguments rest : List ℕ) (split : SplitsLine bytes (value_line arguments) rest) where
   pub value_fault : (f : ReadFault) → BodyFault f kind (value_line arguments) rest → ReadsOf kind bytes (Err f)
-  value_fault f wrong = body_fault kind bytes (value_line arguments) rest split f (λ r says. λ _. value_says_nothing arguments r says) wrong
+  value_fault f wrong = body_fault kind single bytes (value_line arguments) rest split f (λ r says. λ _. value_says_nothing arguments r says) wrong
 
   pub reads_value : (more : List ℕ) (value : Value) → SplitsBody kind (value_line arguments) rest value more
       → ReadsOf kind bytes (Ok (response.Values (Some value), length bytes - length more))

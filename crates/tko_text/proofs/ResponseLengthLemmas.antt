@@ -5,15 +5,22 @@ use Rattle.std.proofs.lemmas.Bool.{cases_lt}
 use Rattle.tko_bytes.specs.Lines.{HasNoEnd}
 use Rattle.tko_text.specs.declared.request.Request.{Request}
 use Rattle.tko_text.specs.declared.response.Response.{Response}
+use Rattle.tko_text.specs.declared.response.body.Value.{Value}
 use Rattle.tko_text.specs.ResponseLines.{Split, SplitsLine}
-use Rattle.tko_text.specs.Responses.{Kind, IsBody, IsHead, IsResponse, NoResponse, Says, block, kind_of}
+use Rattle.tko_text.specs.Responses.{Kind, IsBody, IsHead, IsListing, IsResponse, NoResponse, Says, Suits, block, kind_of}
 use Rattle.tko_text.specs.ResponseFaults.{IsOf, value_line}
 use Rattle.tko_text.specs.ResponseLengths.{IsLeastLength, IsLeastOf}
 use Rattle.tko_text.proofs.ResponseBodyLemmas.{head_is_one}
 use Rattle.tko_text.proofs.ResponseLineLemmas.{line_is_one}
-use Rattle.tko_text.proofs.ResponseLemmas.Opening.{by_line, by_value}
-use Rattle.tko_text.proofs.ResponseLemmas.{Opening, opening, same_kind}
+use Rattle.tko_text.proofs.ResponseLemmas.Opening.{by_line, by_value, by_list}
+use Rattle.tko_text.proofs.ResponseLemmas.{IsSingle, Opening, none_listed, opening, same_kind}
 use Rattle.tko_text.proofs.ResponseWordLemmas.{value_says_nothing}
+
+listing_ends : (front : List ℕ) (values : List Value) → IsListing front values → (before : List ℕ) × (front ≡ before ++ 10 ∷ [])
+listing_ends front [] is = (is.is_line.before, is.is_line.whole)
+listing_ends front (v ∷ vs) is =
+    let rest = listing_ends is.1 vs is.4 in
+    (is.0 ++ rest.0, is.2 ∙ ap (λ xs. is.0 ++ xs) rest.1 ∙ sym (append_assoc is.0 rest.0 (10 ∷ [])))
 
 opening_ends : (front : List ℕ) (r : Response) → Opening front r → (before : List ℕ) × (front ≡ before ++ 10 ∷ [])
 opening_ends front r (by_line f line s is says) = (is.before, is.whole)
@@ -22,6 +29,7 @@ opening_ends front r (by_value head line body value is is_body) =
     let body_is : body ≡ (block value.data ++ last.before) ++ 10 ∷ [] =
     is_body.whole ∙ ap (λ xs. block value.data ++ xs) last.whole ∙ sym (append_assoc (block value.data) last.before (10 ∷ [])) in
     (head ++ (block value.data ++ last.before), ap (λ xs. head ++ xs) body_is ∙ sym (append_assoc head (block value.data ++ last.before) (10 ∷ [])))
+opening_ends front r (by_list f values is) = listing_ends front values is
 
 -- a response ends with an LF
 pub response_ends : (request : Request) (bytes : List ℕ) (r : Response) → IsResponse request bytes r
@@ -89,15 +97,15 @@ unfolding IsLeastLength IsLeastOf IsResponse
 least_kind request kind bytes least of is more n r le found =
     is more n r le (subst (λ (k : Kind). IsOf k (take n (bytes ++ more)) r) (same_kind request kind found.0 of found.1) (found.2, found.3))
 
-module _ (kind : Kind) (bytes arguments rest key : List ℕ) (flags size : ℕ) (cas : _) (split : SplitsLine bytes (value_line arguments) rest)
+module _ (kind : Kind) (single : IsSingle kind) (bytes arguments rest key : List ℕ) (flags size : ℕ) (cas : _) (split : SplitsLine bytes (value_line arguments) rest)
     (head : IsHead (value_line arguments) key flags size cas) where
-  long_opening : (front more : List ℕ) (r : Response) → Opening front r → (later : List ℕ) → bytes ++ more ≡ front ++ later
+  long_opening : (front more : List ℕ) (r : Response) → Suits kind r → Opening front r → (later : List ℕ) → bytes ++ more ≡ front ++ later
       → length bytes - length rest + size + 3 ≤ length front
-  long_opening front more r (by_line f line s is says) later e =
+  long_opening front more r suits (by_line f line s is says) later e =
       let whole : split.0 ++ (rest ++ more) ≡ front ++ later = sym (append_assoc split.0 rest more) ∙ ap (λ xs. xs ++ more) (sym split.2) ∙ e in
       let same = line_is_one split.0 front (value_line arguments) line (rest ++ more) later split.1 is whole in
       absurd (value_says_nothing arguments s (subst (λ (xs : Split). Says xs s) (sym same.1) says))
-  long_opening front more r (by_value first line body value is is_body) later e =
+  long_opening front more r suits (by_value first line body value is is_body) later e =
       let whole : split.0 ++ (rest ++ more) ≡ first ++ (body ++ later) =
       sym (append_assoc split.0 rest more) ∙ ap (λ xs. xs ++ more) (sym split.2) ∙ e ∙ append_assoc first body later in
       let same = line_is_one split.0 first (value_line arguments) line (rest ++ more) (body ++ later) split.1 is whole in
@@ -110,9 +118,10 @@ module _ (kind : Kind) (bytes arguments rest key : List ℕ) (flags size : ℕ) 
       let block_len = length-append value.data (13 ∷ 10 ∷ []) in
       let last_len = ap length last.whole ∙ length-append last.before (10 ∷ []) in
       omega (arith, length-append first body, first_len, split_len, body_len, block_len, last_len, heads.2)
+  long_opening front more r suits (by_list f values is) later e = absurd (none_listed kind values single suits)
 
   pub least_value : IsLeastOf kind bytes (length bytes - length rest + size + 3)
   unfolding IsLeastOf
   least_value more n r le is =
-      let long = long_opening (take n (bytes ++ more)) more r (opening (take n (bytes ++ more)) r is.1) (drop n (bytes ++ more)) (sym (take-append-drop n (bytes ++ more))) in
+      let long = long_opening (take n (bytes ++ more)) more r is.0 (opening (take n (bytes ++ more)) r is.1) (drop n (bytes ++ more)) (sym (take-append-drop n (bytes ++ more))) in
       omega (arith, long, length-take-le n (bytes ++ more) le)

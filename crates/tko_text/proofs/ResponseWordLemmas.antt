@@ -111,6 +111,7 @@ pub says_response : (line : Split) (r : Response) → Says line r → line_respo
 unfolding line_response
 says_response line (response.Values None) says = rw (says.0, says.1) refl
 says_response line (response.Values (Some value)) says = absurd says
+says_response line (response.Listed values) says = absurd says
 says_response line response.Stored says = rw (says.0, says.1) refl
 says_response line response.NotStored says = rw (says.0, says.1) refl
 says_response line response.Exists says = rw (says.0, says.1) refl

@@ -6,8 +6,11 @@ pub mod Heads
 pub mod Keys
 pub mod Limits
 pub mod Lines
+pub mod ListingFaults
+pub mod Marks
 pub mod Numbers
 pub mod Parsed
+pub mod Places
 pub mod Printed
 pub mod Reading
 pub mod Requests

@@ -1,9 +1,11 @@
 -- Responses of servers: the text of each, the requests that it answers, and what is read.
-use Rattle.std.specs.Prelude.{◌≡◌, ℕ, ◌<◌, ◌≤◌, ◌⊎◌, Bool, true, false, List, [], ◌∷◌, ◌++◌, length, take, drop, codes, decimal, Option, Some, None, is_some, Result, Ok, Err}
+use Rattle.std.specs.Prelude.{◌≡◌, ℕ, ◌<◌, ◌≤◌, ◌⊎◌, Bool, true, false, List, [], ◌∷◌, ◌++◌, length, take, drop, codes, decimal, flat_map, Option, Some, None, is_some, Result, Ok, Err}
+use Rattle.std.specs.List.{find, list_any}
+use Rattle.std.specs.Str.{bytes_eq}
 use Rattle.tko_text.specs.declared.request.Request.{Request}
 use Rattle.tko_text.specs.declared.request.Request.TheVariants as request
 use Rattle.tko_text.specs.declared.response.Response.{Response}
-use Rattle.tko_text.specs.declared.response.Response.TheVariants.{Values, Stored, NotStored, Exists, Deleted, Touched, NotFound, Number, Version, Error, ClientError, ServerError}
+use Rattle.tko_text.specs.declared.response.Response.TheVariants.{Values, Listed, Stored, NotStored, Exists, Deleted, Touched, NotFound, Number, Version, Error, ClientError, ServerError}
 use Rattle.tko_text.specs.declared.response.body.Value.{Value}
 use Rattle.tko_text.specs.declared.response.fault.ReadFault.{ReadFault}
 use Rattle.tko_text.specs.declared.response.fault.ReadFault.TheVariants as fault
@@ -15,16 +17,19 @@ use Rattle.tko_bytes.specs.Words.{words}
 pub data Kind : Type 0 where
   -- a value of this key, with its cas number or without
   Retrieval : (key : List ℕ) (unique : Bool) → Kind
+  -- values of these keys, each with its cas number or without
+  Listing : (keys : List (List ℕ)) (unique : Bool) → Kind
   Storage : Kind
   Deletion : Kind
   Counting : Kind
   Touching : Kind
   Probe : Kind
 
--- the kind of a request of one key; each of several keys is sent as a request of its own
+-- the kind of a request of these keys
 abbrev pub retrieval : List (List ℕ) → Bool → Option Kind
+retrieval [] unique = None
 retrieval (key ∷ []) unique = Some (Retrieval key unique)
-retrieval _ unique = None
+retrieval (key ∷ other ∷ keys) unique = Some (Listing (key ∷ other ∷ keys) unique)
 
 -- the kind of a request that is sent to a server; `quit` and `stats tko` are never sent
 abbrev pub kind_of : Request → Option Kind
@@ -45,10 +50,28 @@ abbrev pub Asks : Kind → List ℕ → Option ℕ → Type 0
 Asks (Retrieval asked unique) key cas = (key ≡ asked) × (is_some cas ≡ unique)
 Asks _ key cas = ⊥
 
+-- whether a key is one of these
+abbrev pub is_among : List (List ℕ) → List ℕ → Bool
+is_among keys key = list_any (λ other. bytes_eq other key) keys
+
+-- a value with such a key and cas number may follow values of the keys `had`: its key was asked
+-- for, and none of them has it
+abbrev pub IsAwaited : List (List ℕ) → Bool → (had : List (List ℕ)) → List ℕ → Option ℕ → Type 0
+IsAwaited keys unique had key cas =
+    (is_among keys key ≡ true) × (is_among had key ≡ false) × (is_some cas ≡ unique)
+
+-- each of the values may follow values of the keys `had` and those of the values before it
+abbrev pub AreAwaited : List (List ℕ) → Bool → (had : List (List ℕ)) → List Value → Type 0
+AreAwaited keys unique had [] = Unit {0}
+AreAwaited keys unique had (value ∷ values) =
+    IsAwaited keys unique had value.key value.unique
+    × AreAwaited keys unique (had ++ value.key ∷ []) values
+
 -- the responses that a request of each kind can have
 abbrev pub Suits : Kind → Response → Type 0
 Suits (Retrieval key unique) (Values None) = Unit {0}
 Suits kind (Values (Some value)) = Asks kind value.key value.unique
+Suits (Listing keys unique) (Listed values) = AreAwaited keys unique [] values
 Suits Storage Stored = Unit {0}
 Suits Storage NotStored = Unit {0}
 Suits Storage Exists = Unit {0}
@@ -78,6 +101,7 @@ IsTextLine word line text = (line.word ≡ word) × (text ≡ drop 1 line.rest)
 abbrev pub Says : Split → Response → Type 0
 Says line (Values None) = IsAlone (codes "END") line
 Says line (Values (Some value)) = ⊥
+Says line (Listed values) = ⊥
 Says line Stored = IsAlone (codes "STORED") line
 Says line NotStored = IsAlone (codes "NOT_STORED") line
 Says line Exists = IsAlone (codes "EXISTS") line
@@ -132,9 +156,24 @@ pub record IsValue (bytes : List ℕ) (found : Value) : Type 0 where
   pub is_line : IsLine head line
   pub is_body : IsBody line body found
 
+-- the bytes are a value's first line and its data
+pub record IsValueText (bytes : List ℕ) (found : Value) : Type 0 where
+  pub head : List ℕ
+  pub line : Split
+  pub is_line : IsLine head line
+  pub is_head : IsHead line found.key found.flags (length found.data) found.unique
+  pub whole : bytes ≡ head ++ block found.data
+
+-- the bytes are the texts of these values, one after another, and the line `END`
+abbrev pub IsListing : List ℕ → List Value → Type 0
+IsListing bytes [] = IsAnswerLine bytes (Values None)
+IsListing bytes (found ∷ values) =
+    (first rest : List ℕ) × (bytes ≡ first ++ rest) × IsValueText first found × IsListing rest values
+
 -- the bytes, from their first to their last, are this response
 abbrev pub Spells : List ℕ → Response → Type 0
 Spells bytes (Values (Some found)) = IsValue bytes found
+Spells bytes (Listed values) = IsListing bytes values
 Spells bytes answer = IsAnswerLine bytes answer
 
 -- not all of `size` bytes of data, or not yet the CR LF that follows them
@@ -166,9 +205,44 @@ pub record IsCutValue (kind : Kind) (bytes : List ℕ) : Type 0 where
   pub is_line : IsLine head line
   pub is_cut : IsCutBody kind line body
 
--- the bytes are a line that has no end yet, or a value that isn't whole
+-- the first line of a value has come that may follow values of the keys `had`, and not all of its
+-- data
+pub record IsCutText (keys : List (List ℕ)) (unique : Bool) (had : List (List ℕ)) (bytes : List ℕ)
+    : Type 0 where
+  pub head : List ℕ
+  pub line : Split
+  pub body : List ℕ
+  pub key : List ℕ
+  pub flags : ℕ
+  pub size : ℕ
+  pub cas : Option ℕ
+  pub whole : bytes ≡ head ++ body
+  pub is_line : IsLine head line
+  pub is_head : IsHead line key flags size cas
+  pub awaited : IsAwaited keys unique had key cas
+  pub cut : IsCutData size body
+
+-- the bytes, which follow values of the keys `had`, are a line that has no end yet, a value that
+-- isn't whole, or a whole value that such bytes follow
+pub data IsCutListing : List (List ℕ) → Bool → List (List ℕ) → List ℕ → Type 0 where
+  in_line : (keys : List (List ℕ)) (unique : Bool) (had : List (List ℕ)) (bytes : List ℕ)
+      → IsOpenLine bytes → IsCutListing keys unique had bytes
+  in_value : (keys : List (List ℕ)) (unique : Bool) (had : List (List ℕ)) (bytes : List ℕ)
+      → IsCutText keys unique had bytes → IsCutListing keys unique had bytes
+  after_value : (keys : List (List ℕ)) (unique : Bool) (had : List (List ℕ)) (bytes : List ℕ)
+      (first rest : List ℕ) (found : Value) → bytes ≡ first ++ rest → IsValueText first found
+      → IsAwaited keys unique had found.key found.unique
+      → IsCutListing keys unique (had ++ found.key ∷ []) rest → IsCutListing keys unique had bytes
+
+-- several values were asked for, and not all of the response has come
+abbrev pub IsCutList : Kind → List ℕ → Type 0
+IsCutList (Listing keys unique) bytes = IsCutListing keys unique [] bytes
+IsCutList _ bytes = ⊥
+
+-- the bytes are a line that has no end yet, a value that isn't whole, or values of a response that
+-- isn't whole
 abbrev pub Begins : Kind → List ℕ → Type 0
-Begins kind bytes = IsOpenLine bytes ⊎ IsCutValue kind bytes
+Begins kind bytes = IsOpenLine bytes ⊎ (IsCutValue kind bytes ⊎ IsCutList kind bytes)
 
 -- the bytes, all of them, are this response to the request
 unfoldable pub IsResponse : Request → List ℕ → Response → Type 0
@@ -222,14 +296,11 @@ found_text found cas =
 abbrev pub value_text : Value → List ℕ
 value_text found = found_text found (cas_text found.unique)
 
--- the response of a value with this text after its size
-abbrev pub value_with : Value → List ℕ → List ℕ
-value_with found cas = found_text found cas ++ codes "END\r\n"
-
 -- the written form of a response
 unfoldable pub response_text : Response → List ℕ
 response_text (Values None) = codes "END\r\n"
 response_text (Values (Some found)) = value_text found ++ codes "END\r\n"
+response_text (Listed values) = flat_map value_text values ++ codes "END\r\n"
 response_text Stored = codes "STORED\r\n"
 response_text NotStored = codes "NOT_STORED\r\n"
 response_text Exists = codes "EXISTS\r\n"
@@ -241,3 +312,12 @@ response_text (Version text) = codes "VERSION " ++ text ++ codes "\r\n"
 response_text Error = codes "ERROR\r\n"
 response_text (ClientError text) = codes "CLIENT_ERROR " ++ text ++ codes "\r\n"
 response_text (ServerError text) = codes "SERVER_ERROR " ++ text ++ codes "\r\n"
+
+-- the first of the values that has this key
+abbrev pub value_for : List ℕ → List Value → Option Value
+value_for key values = find (λ (value : Value). bytes_eq value.key key) values
+
+-- the response to this key alone; what is no list of values answers each key
+abbrev pub part_for : List ℕ → Response → Response
+part_for key (Listed values) = Values (value_for key values)
+part_for key response = response

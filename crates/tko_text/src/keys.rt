@@ -39,6 +39,14 @@ impl Keys {
         self.keys.as_slice()
     }
 
+    /// Puts a key behind the others.
+    pub fn push(&mut self, key: Key) -> Result<(), NoMemory>
+        ensures ok { OnOk result (self.new ≡ self.old ++ key ∷ []) }
+        ensures err { OnErr result (self.new ≡ self.old) }
+    {
+        Ok(self.keys.push(key)?)
+    }
+
     /// Keeps the first key alone, and returns those that follow it.
     pub fn split_first(&mut self, alloc: Global) -> Result<IntoIter<Key>, NoMemory>
         ensures parts { IfOk result (λ others. self.old ≡ self.new ++ into_iter_items others) }

@@ -29,7 +29,7 @@ pub use keys::Keys;
 pub use laws::{any_cutting, read_again};
 pub use reader::{FeedFault, Reader};
 pub use request::{Entry, Request, Verb};
-pub use response::{Data, ReadFault, Response, Text, Value, one_response};
+pub use response::{Data, Listed, ReadFault, Response, Text, Value, one_response};
 pub use tko_bytes::NoMemory;
 
 #[cfg(test)]

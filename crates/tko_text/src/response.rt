@@ -1,9 +1,9 @@
 //! What a server answers.
-ghost use Rattle.std.specs.Prelude.{◌≡◌, ◌≤◌, ◌++◌, length, IfOk, IfSome, OnOk, OnErr};
+ghost use Rattle.std.specs.Prelude.{◌≡◌, ◌≢◌, ◌≤◌, ◌++◌, ℕ, List, length, IfOk, IfSome, OnOk, OnErr};
 ghost use Rattle.tko_text.specs.ResponseLengths.{IsLeastLength};
-ghost use Rattle.tko_text.specs.Responses.{ReadsResponse, response_text};
+ghost use Rattle.tko_text.specs.Responses.{ReadsResponse, part_for, response_text};
 
-use crate::{NoMemory, Request};
+use crate::{Key, NoMemory, Request};
 use bytes::Bytes;
 use std::alloc::Global;
 
@@ -12,6 +12,8 @@ use std::alloc::Global;
 pub enum Response {
     /// To a `get` or `gets` of one key: no value or one.
     Values(Option<Value>),
+    /// To a `get` or `gets` of several keys.
+    Listed(Listed),
     Stored,
     NotStored,
     /// The cas number of a `cas` is no longer this one.
@@ -45,8 +47,8 @@ impl Response {
         reader::read(alloc, request, bytes)
     }
 
-    /// The same, of bytes that a value may keep. A value then shares them, where `read` copies its
-    /// data, and the list is left empty. Otherwise it stays as it is.
+    /// The same, of bytes that a value may keep. Values then share them, where `read` copies them,
+    /// and the list is left empty. Otherwise it stays as it is.
     pub fn take(
         alloc: Global,
         request: &Request,
@@ -76,15 +78,26 @@ impl Response {
         writer::append_response(self, out)
     }
 
-    /// The written form without a copy: the text that a value was taken from, if that is its
-    /// written form and the value still shares it.
+    /// The written form without a copy, if it is that of a value which shares the text that it was
+    /// read from, and that has the written form there.
     pub fn shared_text(&self) -> Option<Bytes>
         ensures { IfSome result (λ text. text ≡ response_text self.now) }
     {
         match self {
-            Response::Values(Some(value)) => writer::shared_text(value),
+            Response::Values(Some(value)) => writer::shared_text(value, b"\r\nEND\r\n"),
             _ => None,
         }
+    }
+
+    /// The response to this key alone, which of the values of several keys has its own one. That
+    /// one leaves the list. It is found at once where it is the first that is left.
+    pub fn part(&mut self, alloc: Global, key: &Key) -> Result<Response, NoMemory>
+        ensures ok { IfOk result (λ part. part ≡ part_for key.now self.old) }
+        ensures others { (other : List ℕ) → other ≢ key.now
+            → part_for other self.new ≡ part_for other self.old }
+        ensures err { OnErr result (self.new ≡ self.old) }
+    {
+        part::part(self, alloc, key)
     }
 
     /// The written form.
@@ -104,6 +117,11 @@ mod kind;
 mod laws;
 mod least;
 mod line;
+mod list;
+mod listed;
+mod part;
+mod place;
+mod places;
 mod reader;
 mod writer;
 
@@ -112,3 +130,4 @@ pub(crate) use data::DATA_LIMIT;
 pub use data::Data;
 pub use fault::ReadFault;
 pub use laws::one_response;
+pub use listed::Listed;

@@ -93,7 +93,15 @@ const ANSWERS: &str = "\
     get a||short;get a|VALUE a 0 1\r\nx\r\nEND|short;get a|VALUE a 0 1\r\nx\r|short;\
     get a|VALUE a 0 1\r\nxy|unreadable;get a|VALUE a 0 1\r\nx\rx|unreadable;\
     get a|VALUE b 0 1\r\n|unreadable;get a|VALUE a 0 1048577\r\n|unreadable;get a|STORED|short;\
-    get a|STORED\r\n|unreadable;delete a|VALUE a 0 1\r\n|unreadable";
+    get a|STORED\r\n|unreadable;delete a|VALUE a 0 1\r\n|unreadable;\
+    get a b|END\r\nx|END\r\n5;get a b|VALUE b 7 2\r\n\r\n\r\nEND\r\n|\
+    VALUE b 7 2\r\n\r\n\r\nEND\r\n22;\
+    gets a b|VALUE  b 0 1 4\nx\r\nVALUE a 1 0 5\r\n\r\n END \nEND|\
+    VALUE b 0 1 4\r\nx\r\nVALUE a 1 0 5\r\n\r\nEND\r\n41;\
+    get a b|SERVER_ERROR x\r\n|SERVER_ERROR x\r\n16;get a b|STORED\r\n|unreadable;\
+    get a b|VALUE c 0 1\r\n|unreadable;get a b|VALUE a 0 0\r\n\r\nVALUE a 0|short;\
+    get a b|VALUE a 0 0\r\n\r\nVALUE a 0 9\r\n|unreadable;get a b|END x\r\n|unreadable;\
+    get a b|VALUE a 0 0\r\n\r\nERROR\r\n|unreadable;get a b|VALUE a 0 2\r\nx|short";
 
 /// The first request of an input.
 fn request_of(alloc: Global, input: &str) -> Result<Request, Fail> {
@@ -123,6 +131,54 @@ fn a_response_takes_its_bytes(rt: HostRuntime) -> Result<(), Fail> {
         let (request, more) = row.split_once('|').ok_or("no row")?;
         let (bytes, text) = more.split_once('|').ok_or("no answer")?;
         let came = answer(rt.alloc(), request, bytes)?;
+        assert_eq!(rt; came.as_slice(), text.as_bytes(), "{row}");
+    }
+    Ok(())
+}
+
+/// Requests of several keys, each with the bytes of a server, keys, and the written forms of the
+/// parts that these have, one after another.
+const PARTS: &str = "\
+    get a b c|VALUE a 1 1\r\nx\r\nVALUE c 2 1\r\nz\r\nEND\r\n|a b c a|\
+    VALUE a 1 1\r\nx\r\nEND\r\nEND\r\nVALUE c 2 1\r\nz\r\nEND\r\nEND\r\n;\
+    gets a b|VALUE b 0 0 7\r\n\r\nVALUE a 0 2 8\r\nxy\r\nEND\r\n|a b|\
+    VALUE a 0 2 8\r\nxy\r\nEND\r\nVALUE b 0 0 7\r\n\r\nEND\r\n;\
+    get a b|SERVER_ERROR x\r\n|a b|SERVER_ERROR x\r\nSERVER_ERROR x\r\n";
+
+/// Appends the written form of the part of this key.
+fn append_part(
+    alloc: Global,
+    response: &mut Response,
+    key: &str,
+    text: &mut Vec<u8>,
+) -> Result<(), Fail> {
+    let Some(key) = Key::of(alloc, key.as_bytes())? else {
+        return Err("no key".into());
+    };
+    let part = response.part(alloc, &key)?;
+    part.append_to(text)?;
+    Ok(())
+}
+
+/// The written forms of the parts of these keys.
+fn parts(alloc: Global, request: &str, bytes: &str, keys: &str) -> Result<Vec<u8>, Fail> {
+    let request = request_of(alloc, request)?;
+    let mut bytes = Vec::from_slice(alloc, bytes.as_bytes())?;
+    let (mut response, _) = Response::take(alloc, &request, &mut bytes)?;
+    let mut text = Vec::new(alloc);
+    for key in keys.split(' ') {
+        append_part(alloc, &mut response, key, &mut text)?;
+    }
+    Ok(text)
+}
+
+#[test]
+fn each_key_has_its_part_of_a_response(rt: HostRuntime) -> Result<(), Fail> {
+    for row in PARTS.split(';') {
+        let (request, more) = row.split_once('|').ok_or("no row")?;
+        let (bytes, more) = more.split_once('|').ok_or("no keys")?;
+        let (keys, text) = more.split_once('|').ok_or("no parts")?;
+        let came = parts(rt.alloc(), request, bytes, keys)?;
         assert_eq!(rt; came.as_slice(), text.as_bytes(), "{row}");
     }
     Ok(())

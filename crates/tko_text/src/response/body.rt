@@ -9,9 +9,6 @@ use bytes::Bytes;
 use memchr::memchr;
 use std::marker::Model;
 
-/// How many bytes the line `END` has.
-const END_LEN: usize = 5;
-
 /// What is stored under a key.
 #[derive(Debug, Drop)]
 pub struct Value {
@@ -32,14 +29,12 @@ impl Value {
         append_value(self, b"\r\n", out)
     }
 
-    /// The written form without a copy, if the value shares the text that it was read from and that
-    /// is the written form of the response.
+    /// The written form without a copy, if the value shares the text that it was read from, and
+    /// that has the written form there.
     pub fn shared_text(&self) -> Option<Bytes>
         ensures { IfSome result (λ text. text ≡ value_text self.now) }
     {
-        let mut text = shared_text(self)?;
-        text.truncate(text.len().saturating_sub(END_LEN));
-        Some(text)
+        shared_text(self, b"\r\n")
     }
 }
 

@@ -95,17 +95,42 @@ impl Data {
 impl Part {
     ghost use Rattle.tko_text.specs.Data.{part_bytes};
 
-    /// The text that it is a part of, if these pieces are all that comes before it, and this all
-    /// that comes after it. The text is shared and not copied.
+    /// The piece of the text that has these pieces right before the part and this right behind it,
+    /// if they are there. The text is shared and not copied.
     pub(crate) fn text_around(&self, front: &[&[u8]], back: &[u8]) -> Option<Bytes>
         ensures { IfSome result (λ text.
             text ≡ flat_map (λ piece. piece.now) front.now ++ part_bytes self.now ++ back.now) }
     {
+        let len = len_of(front);
+        if len > self.begin {
+            return None;
+        }
         let (before, rest) = self.text.as_slice().split_at(self.begin);
         let (_, after) = rest.split_at(self.size);
-        if is_joined(before, front) && after == back {
-            return self.text.clone().ok();
+        let from = self.begin - len;
+        if is_joined(&before[from..], front) && after.strip_prefix(back).is_some() {
+            return self.piece(from, back.len());
         }
         None
     }
+
+    /// The text from a place before the part up to so many bytes behind it.
+    fn piece(&self, from: usize, behind: usize) -> Option<Bytes>
+        requires from { from ≤ self.now.begin }
+        requires behind { self.now.begin + self.now.size + behind ≤ length self.now.text }
+        ensures { IfSome result (λ text.
+            text ≡ drop from (take (self.now.begin + self.now.size + behind) self.now.text)) }
+    {
+        let mut text = self.text.clone().ok()?;
+        text.truncate(self.begin + self.size + behind);
+        text.advance(from);
+        Some(text)
+    }
+}
+
+/// How many bytes the pieces have together, or another number where a `usize` cannot say so.
+fn len_of(pieces: &[&[u8]]) -> usize {
+    pieces
+        .iter()
+        .fold(0, |len, piece| len.saturating_add(piece.len()))
 }

@@ -1,13 +1,13 @@
 //! The requests that a server answers, by the responses that they can have.
 ghost use Rattle.std.specs.Prelude.{◌≡◌, ◌↔◌, IsTrue, option_map};
-ghost use Rattle.tko_text.specs.ResponseKinds.{seen};
+ghost use Rattle.tko_text.specs.ResponseKinds.{expected, seen};
 ghost use Rattle.tko_text.specs.ResponseLines.{Split};
 ghost use Rattle.tko_text.specs.Responses.{Says, Suits, kind_of, retrieval};
 
 use super::Response;
 use crate::{Key, Request};
 
-/// The kind of a request that is sent to a server.
+/// The kind of a request that is sent to a server, where it has one key at most.
 #[derive(Clone, Copy)]
 pub(crate) enum Kind<'a> {
     /// A value of this key, with its cas number or without.
@@ -19,29 +19,39 @@ pub(crate) enum Kind<'a> {
     Probe,
 }
 
-/// The kind of a request. There is none for several keys, `quit` and `stats tko`.
-pub(crate) fn kind_of(request: &Request) -> Option<Kind<'_>>
-    ensures { option_map seen result ≡ kind_of request.now }
+/// What a server is asked for.
+#[derive(Clone, Copy)]
+pub(crate) enum Expected<'a> {
+    /// One thing.
+    Single(Kind<'a>),
+    /// Values of these keys, two or more, each with its cas number or without.
+    Listing { keys: &'a [Key], unique: bool },
+}
+
+/// What a request asks a server for. `quit` and `stats tko` are never sent to one.
+pub(crate) fn kind_of(request: &Request) -> Option<Expected<'_>>
+    ensures { option_map expected result ≡ kind_of request.now }
 {
     match request {
         Request::Get { keys } => retrieval(keys.as_slice(), false),
         Request::Gets { keys } => retrieval(keys.as_slice(), true),
-        Request::Store { .. } | Request::Cas { .. } => Some(Kind::Storage),
-        Request::Delete { .. } => Some(Kind::Deletion),
-        Request::Incr { .. } | Request::Decr { .. } => Some(Kind::Counting),
-        Request::Touch { .. } => Some(Kind::Touching),
-        Request::Version => Some(Kind::Probe),
+        Request::Store { .. } | Request::Cas { .. } => Some(Expected::Single(Kind::Storage)),
+        Request::Delete { .. } => Some(Expected::Single(Kind::Deletion)),
+        Request::Incr { .. } | Request::Decr { .. } => Some(Expected::Single(Kind::Counting)),
+        Request::Touch { .. } => Some(Expected::Single(Kind::Touching)),
+        Request::Version => Some(Expected::Single(Kind::Probe)),
         Request::Quit | Request::StatsTko => None,
     }
 }
 
-/// The kind of a request of one key.
-fn retrieval(keys: &[Key], unique: bool) -> Option<Kind<'_>>
-    ensures { option_map seen result ≡ retrieval keys.now unique }
+/// What a request of these keys asks for.
+fn retrieval(keys: &[Key], unique: bool) -> Option<Expected<'_>>
+    ensures { option_map expected result ≡ retrieval keys.now unique }
 {
     match keys {
-        [key] => Some(Kind::Retrieval { key, unique }),
-        _ => None,
+        [] => None,
+        [key] => Some(Expected::Single(Kind::Retrieval { key, unique })),
+        _ => Some(Expected::Listing { keys, unique }),
     }
 }
 
@@ -52,6 +62,7 @@ pub(crate) fn suits(kind: Kind, response: &Response) -> bool
 {
     match response {
         Response::Values(_) => matches!(kind, Kind::Retrieval { .. }),
+        Response::Listed(_) => false,
         Response::Stored | Response::NotStored | Response::Exists => {
             matches!(kind, Kind::Storage)
         }

@@ -3,7 +3,7 @@ ghost use Rattle.tko_text.specs.ResponseKinds.{seen};
 ghost use Rattle.tko_text.specs.ResponseLengths.{IsLeastLength, IsLeastOf};
 ghost use Rattle.tko_text.specs.Responses.{Retrieval};
 
-use super::kind::{Kind, kind_of};
+use super::kind::{Expected, Kind, kind_of};
 use super::line::split_line;
 use super::reader::value_head;
 use crate::{Key, Request};
@@ -17,7 +17,8 @@ pub(crate) fn least_len(request: &Request, bytes: &[u8]) -> usize
     ensures { IsLeastLength request.now bytes.now result }
 {
     match kind_of(request) {
-        Some(kind) => least_of(kind, bytes),
+        Some(Expected::Single(kind)) => least_of(kind, bytes),
+        Some(Expected::Listing { .. }) => 0,
         None => 0,
     }
 }

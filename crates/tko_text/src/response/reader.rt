@@ -7,8 +7,9 @@ ghost use Rattle.tko_text.specs.ResponseKinds.{seen};
 ghost use Rattle.tko_text.specs.Responses.{IsCas, IsHead, ReadsResponse, Retrieval, block};
 
 use super::data::DATA_LIMIT;
-use super::kind::{Kind, kind_of, suits};
+use super::kind::{Expected, Kind, kind_of, suits};
 use super::line::split_line;
+use super::list::{read_list, take_list};
 use super::{Data, ReadFault, Response, Text, Value};
 use crate::line::{FLAGS_LIMIT, NUMBER_LIMIT};
 use crate::{Key, NoMemory, Request};
@@ -20,9 +21,9 @@ use tko_bytes::{Words, number, split_word};
 /// What the first line of a value announces beside its key.
 #[derive(Clone, Copy, Debug)]
 pub(super) struct Head {
-    flags: u32,
+    pub(super) flags: u32,
     pub(super) size: usize,
-    unique: Option<u64>,
+    pub(super) unique: Option<u64>,
 }
 
 /// The response at the front of the bytes, and how many bytes it takes.
@@ -35,7 +36,8 @@ pub(crate) fn read(
     ensures within { IfOk result (λ found. found.1 ≤ length bytes.now) }
 {
     match kind_of(request) {
-        Some(kind) => read_kind(alloc, kind, bytes),
+        Some(Expected::Single(kind)) => read_kind(alloc, kind, bytes),
+        Some(Expected::Listing { keys, unique }) => read_list(alloc, keys, unique, bytes),
         None => Err(ReadFault::Unreadable),
     }
 }
@@ -51,7 +53,10 @@ pub(crate) fn take(
     ensures err { OnErr result (bytes.new.items ≡ bytes.old.items) }
 {
     match kind_of(request) {
-        Some(Kind::Retrieval { key, unique }) => take_kind(alloc, key, unique, bytes),
+        Some(Expected::Single(Kind::Retrieval { key, unique })) => {
+            take_kind(alloc, key, unique, bytes)
+        }
+        Some(Expected::Listing { keys, unique }) => take_list(alloc, keys, unique, bytes),
         _ => read(alloc, request, bytes.as_slice()),
     }
 }
@@ -75,7 +80,11 @@ fn read_kind(alloc: Global, kind: Kind, bytes: &[u8]) -> Result<(Response, usize
 
 /// The response that is one line of this first word.
 #[tactic(auto, unfolding(crate::specs::ResponseFaults::line_response))]
-fn whole_line(alloc: Global, word: &[u8], arguments: &[u8]) -> Result<Response, ReadFault>
+pub(super) fn whole_line(
+    alloc: Global,
+    word: &[u8],
+    arguments: &[u8],
+) -> Result<Response, ReadFault>
     requires { IsText arguments.now }
     ensures { MatchResult result
         (λ response. line_response (record { word = word.now; rest = arguments.now })
@@ -261,8 +270,17 @@ fn keep_data(
     ensures ok { IfOk result (λ found. found ≡ take size (drop begin bytes.old.items)) }
     ensures err { OnErr result (bytes.new.items ≡ bytes.old.items) }
 {
+    let text = keep_text(alloc, bytes)?;
+    Ok(Data::part_of(text, begin, size))
+}
+
+/// All the bytes as a text, which are not copied. The list is left empty.
+pub(super) fn keep_text(alloc: Global, bytes: &mut Vec<u8>) -> Result<Bytes, NoMemory>
+    ensures ok { IfOk result (λ text. text ≡ bytes.old.items) }
+    ensures err { OnErr result (bytes.new.items ≡ bytes.old.items) }
+{
     match Bytes::from_vec(replace(bytes, Vec::new(alloc))) {
-        Ok(text) => Ok(Data::part_of(text, begin, size)),
+        Ok(text) => Ok(text),
         Err(refused) => {
             *bytes = refused.value;
             Err(NoMemory)
@@ -311,7 +329,7 @@ fn cas_number(mut words: Words, unique: bool) -> Option<Option<u64>>
 }
 
 /// The first `size` bytes, which are data, and what follows their CR LF.
-fn split_data(bytes: &[u8], size: usize) -> Result<(&[u8], &[u8]), ReadFault>
+pub(super) fn split_data(bytes: &[u8], size: usize) -> Result<(&[u8], &[u8]), ReadFault>
     ensures { MatchResult result
         (λ split. (length split.0.now ≡ size) × (bytes.now ≡ block split.0.now ++ split.1.now))
         (λ fault. DataFault fault size bytes.now) }
@@ -332,7 +350,7 @@ fn split_data(bytes: &[u8], size: usize) -> Result<(&[u8], &[u8]), ReadFault>
 }
 
 /// What follows the line `END`.
-fn split_end(bytes: &[u8]) -> Result<&[u8], ReadFault>
+pub(super) fn split_end(bytes: &[u8]) -> Result<&[u8], ReadFault>
     ensures { MatchResult result (λ rest. SplitsEnd bytes.now rest.now)
         (λ fault. EndFault fault bytes.now) }
 {

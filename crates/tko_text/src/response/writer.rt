@@ -1,12 +1,14 @@
 //! Writes a response.
-ghost use Rattle.std.specs.Prelude.{◌≡◌, ◌++◌, ℕ, [], List, Some, IfSome, OnOk, OnErr, codes};
+ghost use Rattle.std.specs.Prelude.{◌≡◌, ◌++◌, ℕ, [], All, List, None, Some, IfSome, OnOk, OnErr, codes, flat_map, length, take};
 ghost use Rattle.std.specs.Fmt.{decimal};
 ghost use Rattle.tko_text.specs.Data.{part_bytes};
-ghost use Rattle.tko_text.specs.Responses.{found_text, response_text, value_text, value_with};
+ghost use Rattle.tko_text.specs.Places.{IsPlaceIn, parts, value_at, values_in};
+ghost use Rattle.tko_text.specs.Responses.{found_text, response_text, value_text};
 
 use super::data::Part;
-use super::{Response, Value};
-use crate::NoMemory;
+use super::place::ValuePlace;
+use super::{Listed, Response, Value};
+use crate::{Key, NoMemory};
 use bytes::Bytes;
 use itoa::Buffer;
 use tko_bytes::append;
@@ -20,6 +22,7 @@ pub(crate) fn append_response(response: &Response, out: &mut Vec<u8>) -> Result<
     match response {
         Response::Values(None) => append(out, &[b"END\r\n"]),
         Response::Values(Some(value)) => append_value(value, b"\r\nEND\r\n", out),
+        Response::Listed(listed) => append_listed(listed, out),
         Response::Stored => append(out, &[b"STORED\r\n"]),
         Response::NotStored => append(out, &[b"NOT_STORED\r\n"]),
         Response::Exists => append(out, &[b"EXISTS\r\n"]),
@@ -48,6 +51,55 @@ fn append_number(n: u64, out: &mut Vec<u8>) -> Result<(), NoMemory>
     append(out, &[digits.format(n).as_bytes(), b"\r\n"])
 }
 
+/// Puts the values of a list and the line `END` at the end.
+#[tactic(auto, unfolding(crate::specs::Responses::response_text))]
+fn append_listed(listed: &Listed, out: &mut Vec<u8>) -> Result<(), NoMemory>
+    ensures ok { OnOk result
+        (out.new.items ≡ out.old.items ++ response_text (Response.Listed listed.now)) }
+    ensures err { OnErr result (out.new.items ≡ out.old.items) }
+{
+    let len = out.len();
+    if listed.append_to(out).is_ok() && append(out, &[b"END\r\n"]).is_ok() {
+        return Ok(());
+    }
+    out.truncate(len);
+    Err(NoMemory)
+}
+
+/// Puts the written form of the values at these places of a text at the end. At an `Err` a part of
+/// it may be there.
+pub(super) fn append_places(
+    text: &[u8],
+    places: &[ValuePlace],
+    out: &mut Vec<u8>,
+) -> Result<(), NoMemory>
+    requires { All (IsPlaceIn text.now) places.now }
+    ensures ok { OnOk result
+        (out.new.items ≡ out.old.items ++ flat_map value_text (values_in text.now places.now)) }
+    ensures err { OnErr result (take (length out.old.items) out.new.items ≡ out.old.items) }
+{
+    for place in places {
+        append_place(text, place, out)?;
+    }
+    Ok(())
+}
+
+/// Puts the written form of the value at this place of a text at the end.
+fn append_place<'a>(
+    text: &'a [u8],
+    place: &'a ValuePlace,
+    out: &mut Vec<u8>,
+) -> Result<(), NoMemory>
+    requires { IsPlaceIn text.now place.now }
+    ensures ok { OnOk result
+        (out.new.items ≡ out.old.items ++ value_text (value_at text.now place.now)) }
+    ensures err { OnErr result (out.new.items ≡ out.old.items) }
+{
+    let head = place.head;
+    let bytes = &text[place.begin..place.begin + head.size];
+    append_parts(&place.key, head.flags, bytes, head.unique, b"\r\n", out)
+}
+
 /// Puts the written form of a value at the end, and what follows it: `last` is that after the CR LF
 /// of the data.
 pub(crate) fn append_value<'a>(
@@ -59,29 +111,58 @@ pub(crate) fn append_value<'a>(
         → out.new.items ≡ out.old.items ++ value_text value.now ++ end) }
     ensures err { OnErr result (out.new.items ≡ out.old.items) }
 {
-    match value.unique {
-        None => append_plain(value, last, out),
-        Some(unique) => append_unique(value, unique, last, out),
+    append_parts(
+        &value.key,
+        value.flags,
+        value.data.as_bytes(),
+        value.unique,
+        last,
+        out,
+    )
+}
+
+/// The same, of a value's parts.
+fn append_parts<'a>(
+    key: &'a Key,
+    flags: u32,
+    bytes: &'a [u8],
+    unique: Option<u64>,
+    last: &'a [u8],
+    out: &mut Vec<u8>,
+) -> Result<(), NoMemory>
+    ensures ok { OnOk result ((end : List ℕ) → last.now ≡ codes "\r\n" ++ end
+        → out.new.items ≡ out.old.items ++ value_text (parts key.now flags bytes.now unique) ++ end) }
+    ensures err { OnErr result (out.new.items ≡ out.old.items) }
+{
+    match unique {
+        None => append_plain(key, flags, bytes, last, out),
+        Some(unique) => append_unique(key, flags, bytes, unique, last, out),
     }
 }
 
 /// The same for a value without a cas number.
-fn append_plain<'a>(value: &'a Value, last: &'a [u8], out: &mut Vec<u8>) -> Result<(), NoMemory>
+fn append_plain<'a>(
+    key: &'a Key,
+    flags: u32,
+    bytes: &'a [u8],
+    last: &'a [u8],
+    out: &mut Vec<u8>,
+) -> Result<(), NoMemory>
     ensures ok { OnOk result ((end : List ℕ) → last.now ≡ codes "\r\n" ++ end
-        → out.new.items ≡ out.old.items ++ found_text value.now [] ++ end) }
+        → out.new.items
+        ≡ out.old.items ++ found_text (parts key.now flags bytes.now None) [] ++ end) }
     ensures err { OnErr result (out.new.items ≡ out.old.items) }
 {
-    let data = value.data.as_bytes();
-    let (mut flags, mut size) = (Buffer::new(), Buffer::new());
+    let (mut flag_digits, mut size) = (Buffer::new(), Buffer::new());
     let pieces = [
         b"VALUE ",
-        value.key.as_bytes(),
+        key.as_bytes(),
         b" ",
-        flags.format(value.flags).as_bytes(),
+        flag_digits.format(flags).as_bytes(),
         b" ",
-        size.format(data.len()).as_bytes(),
+        size.format(bytes.len()).as_bytes(),
         b"\r\n",
-        data,
+        bytes,
         last,
     ];
     append(out, &pieces)
@@ -89,50 +170,53 @@ fn append_plain<'a>(value: &'a Value, last: &'a [u8], out: &mut Vec<u8>) -> Resu
 
 /// The same for one with this cas number.
 fn append_unique<'a>(
-    value: &'a Value,
+    key: &'a Key,
+    flags: u32,
+    bytes: &'a [u8],
     unique: u64,
     last: &'a [u8],
     out: &mut Vec<u8>,
 ) -> Result<(), NoMemory>
-    ensures ok { OnOk result ((end : List ℕ) → last.now ≡ codes "\r\n" ++ end → out.new.items
-        ≡ out.old.items ++ found_text value.now (codes " " ++ decimal unique) ++ end) }
+    ensures ok { OnOk result ((end : List ℕ) → last.now ≡ codes "\r\n" ++ end
+        → out.new.items ≡ out.old.items ++ found_text
+        (parts key.now flags bytes.now (Some unique)) (codes " " ++ decimal unique) ++ end) }
     ensures err { OnErr result (out.new.items ≡ out.old.items) }
 {
-    let data = value.data.as_bytes();
-    let (mut flags, mut size, mut cas) = (Buffer::new(), Buffer::new(), Buffer::new());
+    let (mut flag_digits, mut size, mut cas) = (Buffer::new(), Buffer::new(), Buffer::new());
     let pieces = [
         b"VALUE ",
-        value.key.as_bytes(),
+        key.as_bytes(),
         b" ",
-        flags.format(value.flags).as_bytes(),
+        flag_digits.format(flags).as_bytes(),
         b" ",
-        size.format(data.len()).as_bytes(),
+        size.format(bytes.len()).as_bytes(),
         b" ",
         cas.format(unique).as_bytes(),
         b"\r\n",
-        data,
+        bytes,
         last,
     ];
     append(out, &pieces)
 }
 
-/// The written form of a value and the line `END`, if the value shares the text that it was read
-/// from and that is the written form.
-#[tactic(auto, unfolding(crate::specs::Responses::response_text))]
-pub(crate) fn shared_text(value: &Value) -> Option<Bytes>
-    ensures { IfSome result (λ text. text ≡ response_text (Response.Values (Some value.now))) }
+/// The written form of a value and what follows it, without a copy, if the value shares the text
+/// that it was read from and they are there: `last` is that after the data, from their CR LF on.
+pub(crate) fn shared_text(value: &Value, last: &[u8]) -> Option<Bytes>
+    ensures { IfSome result (λ text. (end : List ℕ) → last.now ≡ codes "\r\n" ++ end
+        → text ≡ value_text value.now ++ end) }
 {
     let part = value.data.part()?;
     match value.unique {
-        None => shared_plain(value, part),
-        Some(unique) => shared_unique(value, part, unique),
+        None => shared_plain(value, part, last),
+        Some(unique) => shared_unique(value, part, unique, last),
     }
 }
 
 /// The same for a value without a cas number, whose data is this part of a text.
-fn shared_plain(value: &Value, part: &Part) -> Option<Bytes>
+fn shared_plain(value: &Value, part: &Part, last: &[u8]) -> Option<Bytes>
     requires { part_bytes part.now ≡ value.now.data }
-    ensures { IfSome result (λ text. text ≡ value_with value.now []) }
+    ensures { IfSome result (λ text. (end : List ℕ) → last.now ≡ codes "\r\n" ++ end
+        → text ≡ found_text value.now [] ++ end) }
 {
     let (mut flags, mut size) = (Buffer::new(), Buffer::new());
     let front = [
@@ -144,13 +228,14 @@ fn shared_plain(value: &Value, part: &Part) -> Option<Bytes>
         size.format(value.data.as_bytes().len()).as_bytes(),
         b"\r\n",
     ];
-    part.text_around(&front, b"\r\nEND\r\n")
+    part.text_around(&front, last)
 }
 
 /// The same for one with this cas number.
-fn shared_unique(value: &Value, part: &Part, unique: u64) -> Option<Bytes>
+fn shared_unique(value: &Value, part: &Part, unique: u64, last: &[u8]) -> Option<Bytes>
     requires { part_bytes part.now ≡ value.now.data }
-    ensures { IfSome result (λ text. text ≡ value_with value.now (codes " " ++ decimal unique)) }
+    ensures { IfSome result (λ text. (end : List ℕ) → last.now ≡ codes "\r\n" ++ end
+        → text ≡ found_text value.now (codes " " ++ decimal unique) ++ end) }
 {
     let (mut flags, mut size, mut cas) = (Buffer::new(), Buffer::new(), Buffer::new());
     let front = [
@@ -164,5 +249,5 @@ fn shared_unique(value: &Value, part: &Part, unique: u64) -> Option<Bytes>
         cas.format(unique).as_bytes(),
         b"\r\n",
     ];
-    part.text_around(&front, b"\r\nEND\r\n")
+    part.text_around(&front, last)
 }

@@ -26,7 +26,7 @@ pub returns-in-Some : goal.returns-in-Some
 returns-in-Some c =
     let same = (bytes_eq-Decides _ _).0 (sym c.if-eq.ensures) ∙ c.as_slice.ensures in
     let split = value_split c.args.bytes.now c.in-Ok.word.now c.in-Ok.arguments.now c.in-Ok.rest.now same c.in-Ok.ensures in
-    least_value (Retrieval c.args.key.now c.args.unique) c.args.bytes.now c.in-Ok.arguments.now c.in-Ok.rest.now c.as_bytes.result.now
+    least_value (Retrieval c.args.key.now c.args.unique) tt c.args.bytes.now c.in-Ok.arguments.now c.in-Ok.rest.now c.as_bytes.result.now
     c.in-Some.head.flags c.in-Some.head.size c.in-Some.head.unique split c.in-Some.ensures.1
 
 pub returns-in-None : goal.returns-in-None

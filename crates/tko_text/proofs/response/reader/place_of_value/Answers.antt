@@ -14,7 +14,7 @@ pub returns-in_err-head : goal.returns-in_err-head
 returns-in_err-head c =
     let p = err_from_is_err_and c.from_residual-in_err-head.result c.from_residual-in_err-head.ensures.1 in
     let same = (bytes_eq-Decides _ _).0 (sym c.if-eq.ensures) ∙ c.as_slice.ensures in
-    rw (p.1, p.2) (value_fault (Retrieval c.args.key.now c.args.unique) c.args.bytes.now c.in_ok-word.arguments.now c.in_ok-word.rest.now
+    rw (p.1, p.2) (value_fault (Retrieval c.args.key.now c.args.unique) tt c.args.bytes.now c.in_ok-word.arguments.now c.in_ok-word.rest.now
     (value_split c.args.bytes.now c.in_ok-word.word.now c.in_ok-word.arguments.now c.in_ok-word.rest.now same c.in_ok-word.ensures)
     c.in_err-head.field-0.0 c.in_err-head.ensures.found)
 
@@ -45,5 +45,5 @@ returns-then-eq c =
       );
       few = subst (λ (xs : List ℕ). IsData xs) is c.in_ok-head.ensures.few;
       reads = subst (λ (xs : List ℕ). ReadsOf kind bytes (Ok (Values (Some (value_of c.args.key.now head xs)), length bytes - length more))) is
-          (reads_value kind bytes arguments rest split more (value_of c.args.key.now head stored) goes);
+          (reads_value kind tt bytes arguments rest split more (value_of c.args.key.now head stored) goes);
     }
