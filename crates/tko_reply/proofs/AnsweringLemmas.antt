@@ -55,6 +55,7 @@ unfolding response_text
 values_or_not None = inr (λ some. cc)
 values_or_not (Some (response.Values None)) = inl (refl, refl)
 values_or_not (Some (response.Values (Some found))) = inl (refl, refl)
+values_or_not (Some (response.Listed values)) = inr (λ some. cc)
 values_or_not (Some response.Stored) = inr (λ some. cc)
 values_or_not (Some response.NotStored) = inr (λ some. cc)
 values_or_not (Some response.Exists) = inr (λ some. cc)

@@ -83,21 +83,21 @@ module _ {H : Type 0} {steps : H → HealthItem → H → Type 0} {old new : H} 
         is = tried (λ key keys. subst (λ ts. EndsBy ts form (map Told on.items) trail) (aims key keys) (ends_by to trail (on.is form) is));
       }
 
-  -- what came of a send was recorded
+  -- what came of a send was recorded by these calls, before those that are its own
   pub answered_goes : {outbox outbox' : List ℕ} {at : Stage} {one : OneKey} (config : Configuration) (to : Stage) (it : Asking) (targets : List ℕ)
-      (got : Outcome) (exptime' : ℕ) (request' : Request) → exptime' ≡ config.failover_exptime
+      (got : Outcome) (told : List Call) (exptime' : ℕ) (request' : Request) → exptime' ≡ config.failover_exptime
       → ((r : Request) → it.key.request ≡ form_at exptime' r (length it.waiting.attempts) → request' ≡ form_at exptime' r (last_place to))
       → GoesOn steps old (λ more. (form : ℕ → Request) (calls : List Call) → FindsUp form calls it.waiting.attempts it.waiting.server
-      → Reached targets form (calls ++ came_of form it.waiting got ∷ more) to) new
+      → Reached targets form (calls ++ came_of form it.waiting got ∷ (told ++ more)) to) new
       → at ≡ to → Settles to (record { request = request'; share = it.key.share }) outbox one outbox'
-      → GoesOn steps old (λ more. AfterSend config it got (λ original calls. Goes (course_of config targets it.key original) (calls more) outbox at one outbox')) new
-  answered_goes {outbox} {outbox'} {at} {one} config to it targets got exptime' request' alike then on same settles =
-      subst (λ s. GoesOn steps old (λ more. AfterSend config it got (λ original calls. Goes (course_of config targets it.key original) (calls more) outbox s one outbox')) new) (sym same) (record {
+      → GoesOn steps old (λ more. AfterSend config it got (λ original calls. Goes (course_of config targets it.key original) (calls (told ++ more)) outbox at one outbox')) new
+  answered_goes {outbox} {outbox'} {at} {one} config to it targets got told exptime' request' alike then on same settles =
+      subst (λ s. GoesOn steps old (λ more. AfterSend config it got (λ original calls. Goes (course_of config targets it.key original) (calls (told ++ more)) outbox s one outbox')) new) (sym same) (record {
         items = on.items;
         gains = on.gains;
         is = λ original calls is up. record {
           reached =
-              subst (λ r. Reached targets (form_at config.failover_exptime original) (calls ++ came it.waiting.server r (Ok got) ∷ map Told on.items) to) (sym is)
+              subst (λ r. Reached targets (form_at config.failover_exptime original) (calls ++ came it.waiting.server r (Ok got) ∷ (told ++ map Told on.items)) to) (sym is)
               (on.is (form_at config.failover_exptime original) calls up);
           settles =
               subst (λ r. Settles to (record { request = r; share = it.key.share }) outbox one outbox')
@@ -106,17 +106,17 @@ module _ {H : Type 0} {steps : H → HealthItem → H → Type 0} {old new : H} 
       })
 
   -- memory ran out there
-  pub answered_lost : (config : Configuration) (to : Stage) (it : Asking) (targets : List ℕ) (got : Outcome) (trail : List Attempt)
+  pub answered_lost : (config : Configuration) (to : Stage) (it : Asking) (targets : List ℕ) (got : Outcome) (told : List Call) (trail : List Attempt)
       → GoesOn steps old (λ more. (form : ℕ → Request) (calls : List Call) → FindsUp form calls it.waiting.attempts it.waiting.server
-      → Reached targets form (calls ++ came_of form it.waiting got ∷ more) to) new
+      → Reached targets form (calls ++ came_of form it.waiting got ∷ (told ++ more)) to) new
       → IsEndOf to trail
-      → GoesOn steps old (λ more. AfterSend config it got (λ original calls. EndsBy targets (form_at config.failover_exptime original) (calls more) trail)) new
-  answered_lost config to it targets got trail on is = record {
+      → GoesOn steps old (λ more. AfterSend config it got (λ original calls. EndsBy targets (form_at config.failover_exptime original) (calls (told ++ more)) trail)) new
+  answered_lost config to it targets got told trail on is = record {
     items = on.items;
     gains = on.gains;
     is = λ original calls same up.
         ends_by to trail
-        (subst (λ r. Reached targets (form_at config.failover_exptime original) (calls ++ came it.waiting.server r (Ok got) ∷ map Told on.items) to) (sym same)
+        (subst (λ r. Reached targets (form_at config.failover_exptime original) (calls ++ came it.waiting.server r (Ok got) ∷ (told ++ map Told on.items)) to) (sym same)
         (on.is (form_at config.failover_exptime original) calls up)) is;
   }
 

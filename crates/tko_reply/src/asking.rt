@@ -26,6 +26,7 @@ use tko_text::Request;
 
 mod handing;
 mod joining;
+mod recorded;
 
 /// The reply to `version`.
 const VERSION: &[u8] = b"VERSION tkoproxy 1\r\n";

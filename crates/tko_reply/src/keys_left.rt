@@ -1,5 +1,5 @@
 //! The keys of a request that are still to be asked for.
-ghost use Rattle.std.specs.Prelude.{◌≡◌, ◌↔◌, ◌∷◌, [], IsTrue, MatchOption};
+ghost use Rattle.std.specs.Prelude.{◌≡◌, ◌↔◌, ◌∷◌, [], IsTrue, MatchOption, length};
 ghost use Rattle.std.specs.Vec.Iter.{into_iter_items};
 
 use std::alloc::Global;
@@ -43,6 +43,13 @@ impl KeysLeft {
             (λ key. self.old ≡ key ∷ self.new) }
     {
         self.keys.next()
+    }
+
+    /// How many are left.
+    pub fn len(&self) -> usize
+        ensures { result ≡ length self.now }
+    {
+        self.keys.len()
     }
 
     /// Whether none is left.

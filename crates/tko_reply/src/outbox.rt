@@ -15,6 +15,9 @@ mod replies;
 /// This number of bytes of replies is enough to be written. A single reply may be longer.
 const REPLY_BOUND: usize = 65_536;
 
+/// A shorter text is copied behind the others, since a piece of its own costs one more write.
+const LONG_TEXT: usize = 16_384;
+
 /// The room that an empty outbox keeps at most.
 const KEPT_ROOM: usize = 4_096;
 
@@ -125,7 +128,19 @@ impl Outbox {
         Ok(())
     }
 
-    /// Appends all of another outbox. Its long text is not copied, unless another one follows.
+    /// Appends a text that is not copied where it is long.
+    fn append_shared(&mut self, text: Bytes) -> Result<(), NoMemory>
+        ensures ok { OnOk result (self.new ≡ self.old ++ text) }
+        ensures err { OnErr result (self.new ≡ self.old) }
+    {
+        if text.len() < LONG_TEXT {
+            return self.append(&text);
+        }
+        self.append_long(text)
+    }
+
+    /// Appends all of another outbox. Its long text is not copied, unless another one follows or it
+    /// is not that long.
     pub fn append_all(&mut self, other: Outbox) -> Result<(), NoMemory>
         ensures ok { OnOk result (self.new ≡ self.old ++ other) }
         ensures err { OnErr result (Extends self.old self.new) }
@@ -137,7 +152,7 @@ impl Outbox {
         } = other;
         self.append(&before)?;
         if let Some(text) = long {
-            self.append_long(text)?;
+            self.append_shared(text)?;
         }
         self.append(&bytes)
     }

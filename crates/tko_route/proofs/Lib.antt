@@ -1,3 +1,4 @@
 pub mod MadeLemmas
+pub mod RecordedLemmas
 pub mod RoutingLemmas
 pub mod TrailLemmas

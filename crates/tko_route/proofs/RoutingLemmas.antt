@@ -1,5 +1,5 @@
--- Laws of a routing: what look-ups and outcomes add to its attempts, and to those of a whole route.
-use Rattle.std.proofs.Common.{◌≡◌, ℕ, ◌-◌, ◌<◌, List, [], ◌∷◌, ◌++◌, length, Option, Some, None, Ok, refl, sym, ap, subst, arith, ◌∙◌, ◌⊎◌, inl, inr, IsSome, get_or, slice_get, map, take}
+-- Laws of a routing: what look-ups add to its attempts, and what one attempt more is.
+use Rattle.std.proofs.Common.{◌≡◌, ℕ, ◌-◌, ◌<◌, List, [], ◌∷◌, ◌++◌, length, Option, Some, None, refl, sym, ap, subst, arith, ◌∙◌, ◌⊎◌, inl, inr, IsSome, get_or, slice_get, map, take}
 use Rattle.std.proofs.lemmas.List.{append_assoc, map-append}
 use Rattle.std.proofs.Math.Seq.{get_or-append_seam}
 use Rattle.std.proofs.lemmas.Bool.{false≢true}
@@ -11,17 +11,14 @@ use Rattle.tko_model.specs.declared.mark.Mark.{Mark}
 use Rattle.tko_model.specs.declared.mark.Op.TheVariants.{LookUp}
 use Rattle.tko_model.specs.declared.mark.Reply.TheVariants as reply
 use Rattle.tko_model.specs.Records.{HealthItem, Called}
-use Rattle.tko_model.proofs.RecordLemmas.{gains_append, gains_none, gains_one, gains_push}
+use Rattle.tko_model.proofs.RecordLemmas.{gains_push}
 use Rattle.tko_text.specs.declared.request.Request.{Request}
-use Rattle.tko_links.specs.declared.links.Outcome.{Outcome}
-use Rattle.tko_links.specs.declared.links.Outcome.TheVariants as outcome
 use Rattle.tko_route.specs.declared.attempt.Attempt.{Attempt}
 use Rattle.tko_route.specs.declared.attempt.Attempt.TheVariants as attempt
-use Rattle.tko_route.specs.Calls.{Call, Told, came, look_up}
-use Rattle.tko_route.specs.Routing.{FindsUp, GoesOn, IsAwaited, IsConcluded, IsTried, Reached, came_of}
-use Rattle.tko_route.specs.Trail.{Ends, IsAnswer, IsAttempt, IsTrail, LastAnswered, Makes, NoneAnswered, answer_of, next_target, outcome_of, response_of, server_of}
+use Rattle.tko_route.specs.Calls.{Call, Told}
+use Rattle.tko_route.specs.Routing.{GoesOn, IsAwaited, IsConcluded, IsTried, Reached}
+use Rattle.tko_route.specs.Trail.{IsAnswer, IsTrail, LastAnswered, Makes, NoneAnswered, answer_of, next_target, response_of, server_of}
 use Rattle.tko_route.proofs.TrailLemmas.{makes_pushed}
-use Rattle.tko_route.specs.declared.routing.Stage.{Stage}
 use Rattle.tko_route.specs.declared.routing.Stage.TheVariants as stage
 use Rattle.tko_route.specs.Underway.{Awaited}
 
@@ -163,89 +160,4 @@ module _ {H : Type 0} {steps : H → HealthItem → H → Type 0} where
     items = on.items;
     gains = on.gains;
     is = λ form calls make. (whole, subst (Makes form (calls ++ map Told on.items)) (sym e) (on.is form calls make));
-  }
-
-  -- the calls of an attempt whose outcome is not recorded
-  unrecorded : (old new : H) (it : Attempt) (at server : ℕ) (none got : Outcome)
-      → ((request : Request) (count : ℕ) → IsAttempt request (look_up at (reply.Up count) ∷ came at request (Ok none) ∷ []) it)
-      → new ≡ old → none ≡ got → at ≡ server
-      → GoesOn steps old (λ more. (request : Request) (count : ℕ) → IsAttempt request (look_up server (reply.Up count) ∷ came server request (Ok got) ∷ more) it) new
-  unrecorded old new it at server none got tried same is at_is =
-      let P : ℕ → Outcome → H → Type 0 =
-      λ n o h. GoesOn steps old (λ more. (request : Request) (count : ℕ) → IsAttempt request (look_up n (reply.Up count) ∷ came n request (Ok o) ∷ more) it) h in
-      subst (λ (n : ℕ). P n got new) at_is (subst (λ (o : Outcome). P at o new) is (subst (λ (h : H). P at none h) (sym same) (record {
-        items = [];
-        gains = gains_none old;
-        is = tried;
-      })))
-
-  -- the calls of an attempt that ended so, after a look-up that found the server up
-  ended : (old new : H) (it : Attempt) (server : ℕ) (got : Outcome)
-      → Ends steps old it new → outcome_of it ≡ Some got → server_of it ≡ server
-      → GoesOn steps old (λ more. (request : Request) (count : ℕ) → IsAttempt request (look_up server (reply.Up count) ∷ came server request (Ok got) ∷ more) it) new
-  ended old new (attempt.Skipped at mark) server got ends is at_is = absurd ends
-  ended old new (attempt.Sent at it answer) server got (op, known, step) is at_is =
-      let same : it ≡ got = cc in
-      let P : ℕ → Outcome → Type 0 =
-      λ n o. GoesOn steps old (λ more. (request : Request) (count : ℕ) → IsAttempt request (look_up n (reply.Up count) ∷ came n request (Ok o) ∷ more) (attempt.Sent at it answer)) new in
-      subst (λ (n : ℕ). P n got) at_is (subst (λ (o : Outcome). P at o) same (record {
-        items = Called op at answer ∷ [];
-        gains = gains_one step;
-        is = λ request count. (count, op, known, refl);
-      }))
-  ended old new (attempt.Aborted at) server got same is at_is =
-      let none : outcome.Aborted ≡ got = cc in
-      unrecorded old new (attempt.Aborted at) at server outcome.Aborted got (λ request count. (count, refl)) same none at_is
-  ended old new (attempt.Spent at) server got same is at_is =
-      let none : outcome.Spent ≡ got = cc in
-      unrecorded old new (attempt.Spent at) at server outcome.Spent got (λ request count. (count, refl)) same none at_is
-
-  -- what came of a send, and the call that recorded it, make the attempt
-  pub recorded : {old new : H} (waiting : Awaited) {all : List Attempt}
-      (it : Attempt) (got : Outcome)
-      → Ends steps old it new → outcome_of it ≡ Some got → server_of it ≡ waiting.server
-      → all ≡ waiting.attempts ++ it ∷ []
-      → GoesOn steps old (λ more. (form : ℕ → Request) (calls : List Call) → FindsUp form calls waiting.attempts waiting.server
-      → Makes form (calls ++ came waiting.server (form (length waiting.attempts)) (Ok got) ∷ more) all) new
-  recorded {old} {new} waiting it got ends is at e =
-      let on = ended old new it waiting.server got ends is at in
-      record {
-        items = on.items;
-        gains = on.gains;
-        is = λ form calls up.
-            let item = came waiting.server (form (length waiting.attempts)) (Ok got) in
-            let look = look_up waiting.server (reply.Up up.count) in
-            makes_pushed it (look ∷ item ∷ map Told on.items) up.make (on.is (form (length waiting.attempts)) up.count)
-            (ap (λ list. list ++ item ∷ map Told on.items) up.is ∙ append_assoc up.before (look ∷ []) (item ∷ map Told on.items)) e;
-      }
-
-  -- what came of a send was an answer
-  pub done_then : {old new : H} {attempts trail : List Attempt} (targets : List ℕ) (waiting : Awaited) (got : Outcome)
-      → IsTrail targets trail → trail ≡ attempts
-      → GoesOn steps old (λ more. (form : ℕ → Request) (calls : List Call) → FindsUp form calls waiting.attempts waiting.server
-      → Makes form (calls ++ came_of form waiting got ∷ more) attempts) new
-      → GoesOn steps old (λ more. (form : ℕ → Request) (calls : List Call) → FindsUp form calls waiting.attempts waiting.server
-      → Reached targets form (calls ++ came_of form waiting got ∷ more) (stage.Done trail)) new
-  done_then targets waiting got whole e on = record {
-    items = on.items;
-    gains = on.gains;
-    is = λ form calls up. (whole, subst (Makes form (calls ++ came_of form waiting got ∷ map Told on.items)) (sym e) (on.is form calls up));
-  }
-
-  -- what came of a send was recorded, and then health was asked more
-  pub then_on : {old mid new : H} {attempts : List Attempt} (targets : List ℕ) (waiting : Awaited) (got : Outcome) (to : Stage)
-      → GoesOn steps old (λ more. (form : ℕ → Request) (calls : List Call) → FindsUp form calls waiting.attempts waiting.server
-      → Makes form (calls ++ came_of form waiting got ∷ more) attempts) mid
-      → GoesOn steps mid (λ more. (form : ℕ → Request) (calls : List Call) → Makes form calls attempts → Reached targets form (calls ++ more) to) new
-      → GoesOn steps old (λ more. (form : ℕ → Request) (calls : List Call) → FindsUp form calls waiting.attempts waiting.server
-      → Reached targets form (calls ++ came_of form waiting got ∷ more) to) new
-  then_on targets waiting got to first on = record {
-    items = first.items ++ on.items;
-    gains = gains_append first.gains on.gains;
-    is = λ form calls up.
-        let item = came_of form waiting got in
-        subst (λ list. Reached targets form list to)
-        (append_assoc calls (item ∷ map Told first.items) (map Told on.items)
-        ∙ ap (λ told. calls ++ item ∷ told) (sym (map-append Told first.items on.items)))
-        (on.is form (calls ++ item ∷ map Told first.items) (first.is form calls up));
   }

@@ -2,7 +2,8 @@
 -- attempt at a server that is up has two halves: its look-up, and what came of the send with the
 -- call that records it. The other calls of the servers' health may stand between the halves, so
 -- each half is told over whatever calls of the request stood before.
-use Rattle.std.specs.Prelude.{◌≡◌, ℕ, ◌≤◌, ◌-◌, ◌⊎◌, List, [], ◌∷◌, ◌++◌, length, map, take, Ok}
+use Rattle.std.specs.Prelude.{◌≡◌, ℕ, ◌≤◌, ◌-◌, ◌⊎◌, List, [], ◌∷◌, ◌++◌, length, map, take, Ok, Option}
+use Rattle.tko_model.specs.declared.mark.Reply.{Reply}
 use Rattle.tko_model.specs.declared.mark.Reply.TheVariants as reply
 use Rattle.tko_model.specs.Records.{Gains, HealthItem}
 use Rattle.tko_text.specs.declared.request.Request.{Request}
@@ -11,7 +12,7 @@ use Rattle.tko_route.specs.Calls.{Call, Told, came, look_up}
 use Rattle.tko_route.specs.declared.attempt.Attempt.{Attempt}
 use Rattle.tko_route.specs.declared.routing.Stage.{Stage}
 use Rattle.tko_route.specs.declared.routing.Stage.TheVariants as stage
-use Rattle.tko_route.specs.Trail.{IsCutTrail, IsTrail, LastAnswered, Makes, NoneAnswered, form_at, next_target, server_of}
+use Rattle.tko_route.specs.Trail.{IsCutTrail, IsTrail, LastAnswered, Makes, NoneAnswered, form_at, next_target, op_of, record_of, server_of}
 use Rattle.tko_route.specs.Underway.{Awaited}
 
 -- the attempts are at targets in order, and none but the last was answered
@@ -49,6 +50,11 @@ pub record GoesOn {H : Type 0} (steps : H → HealthItem → H → Type 0) (old 
 abbrev pub came_of : (ℕ → Request) → Awaited → Outcome → Call
 came_of form waiting outcome =
     came waiting.server (form (length waiting.attempts)) (Ok outcome)
+
+-- the call that recorded what came of a send that was out, with its reply, if the table of outcomes
+-- names one
+abbrev pub told_of : Awaited → Outcome → Option Reply → List Call
+told_of waiting outcome reply = map Told (record_of waiting.server (op_of outcome) reply)
 
 -- a request that had the form of one place has that of another
 abbrev pub IsBrought : ℕ → Request × ℕ → Request × ℕ → Type 0

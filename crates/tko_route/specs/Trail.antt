@@ -55,6 +55,13 @@ outcome_of (attempt.Sent server got answer) = Some got
 outcome_of (attempt.Aborted server) = Some outcome.Aborted
 outcome_of (attempt.Spent server) = Some outcome.Spent
 
+-- the reply to the call that recorded what came of an attempt
+abbrev pub recorded_reply : Attempt → Option Reply
+recorded_reply (attempt.Skipped server mark) = None
+recorded_reply (attempt.Sent server got answer) = Some answer
+recorded_reply (attempt.Aborted server) = None
+recorded_reply (attempt.Spent server) = None
+
 -- an attempt that got a response
 abbrev pub IsAnswer : Attempt → Type 0
 IsAnswer it = IsSome (response_of it)
@@ -110,14 +117,12 @@ IsRecorded steps old server op reply new =
     (λ called. (answer : Reply) × (reply ≡ Some answer)
     × steps old (Called called server answer) new)
 
--- an attempt ended so: what came of its exchange was recorded, by the table of outcomes, which
--- records nothing of an aborted exchange and of one that sent nothing
-abbrev pub Ends : {H : Type 0} → (H → HealthItem → H → Type 0) → H → Attempt → H → Type 0
-Ends steps old (attempt.Skipped server mark) new = ⊥
-Ends steps old (attempt.Sent server got answer) new =
-    (op : Op) × (op_of got ≡ Some op) × steps old (Called op server answer) new
-Ends steps old (attempt.Aborted server) new = new ≡ old
-Ends steps old (attempt.Spent server) new = new ≡ old
+-- the calls that record an operation of a server, which got this reply: that one; or none, where
+-- there is no operation
+abbrev pub record_of : ℕ → Option Op → Option Reply → List HealthItem
+record_of server (Some op) (Some answer) = Called op server answer ∷ []
+record_of server (Some op) None = []
+record_of server None reply = []
 
 -- the calls of one attempt: a look-up that found that mark; or one that found the server up, then
 -- the exchange, then the call that the table of outcomes names; or one that found the server up,

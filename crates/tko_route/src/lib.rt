@@ -5,6 +5,7 @@
 //! - `Attempt` and `Trail`: what was done at one target, and at all of them in order.
 //! - `Stage`: how far a routed request came: what it sends next, or its trail; `Waiting`, the same
 //!   while that send is out.
+//! - `record_outcome`: records what came of a send, once for all requests that share it.
 //! - `route`: makes the trail of a request, as a `Routed` or, out of memory, a `RouteFault`.
 #![tactic(auto)]
 
@@ -16,6 +17,7 @@ mod routing;
 
 pub use attempt::{Attempt, Trail};
 pub use failover::route;
+pub use recording::record_outcome;
 pub use routed::{RouteFault, Routed};
 pub use routing::{Stage, Waiting};
 pub use tko_health::{Health, LockedHealth, PlainHealth};

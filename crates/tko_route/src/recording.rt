@@ -1,6 +1,6 @@
 //! What came of a send is recorded.
 ghost use Rattle.std.specs.Prelude.{◌≡◌, ◌↔◌, ◌<◌, IsSome, IsTrue, Some};
-ghost use Rattle.tko_route.specs.Trail.{Ends, IsRecorded, answer_of, op_of, outcome_of, server_of};
+ghost use Rattle.tko_route.specs.Trail.{IsRecorded, answer_of, op_of, outcome_of, recorded_reply, server_of};
 
 use crate::attempt::Attempt;
 use std::sync::Wait;
@@ -16,7 +16,7 @@ pub(crate) fn is_answered(attempts: &[Attempt]) -> bool
 }
 
 /// Records the outcome of a send at the tracker. This is the table of outcomes.
-fn record_outcome<R: Wait, H: Health>(
+pub fn record_outcome<R: Wait, H: Health>(
     rt: &R,
     health: &mut H,
     server: usize,
@@ -35,20 +35,14 @@ fn record_outcome<R: Wait, H: Health>(
     }
 }
 
-/// Records what came of a send, which makes this attempt.
-pub(crate) fn conclude<R: Wait, H: Health>(
-    rt: &R,
-    health: &mut H,
-    server: usize,
-    outcome: Outcome,
-) -> Attempt
-    requires { server < H.servers health.old }
-    ensures ends { Ends H.steps health.old result health.new }
+/// The attempt of a send of which this came, with the reply to the call that recorded it.
+pub(crate) fn conclude(server: usize, outcome: Outcome, reply: Option<Reply>) -> Attempt
+    requires { IsSome reply ↔ IsSome (op_of outcome) }
     ensures outcome { outcome_of result ≡ Some outcome }
+    ensures reply { recorded_reply result ≡ reply }
     ensures server { server_of result ≡ server }
-    ensures servers { H.servers health.new ≡ H.servers health.old }
 {
-    match record_outcome(rt, health, server, &outcome) {
+    match reply {
         Some(reply) => Attempt::Sent(server, outcome, reply),
         None if matches!(outcome, Outcome::Aborted) => Attempt::Aborted(server),
         None => Attempt::Spent(server),

@@ -2,16 +2,17 @@
 //! a record of an outcome may wait for a lock of the health.
 //!
 //! - `Stage`: how far a routing came. `begin` looks for the first server that is up.
-//! - `Waiting`: a request was sent. `answered` takes what came of it, and goes on.
+//! - `Waiting`: a request was sent. `answered` records what came of it, and goes on; `recorded` goes
+//!   on where a call that other requests share recorded it.
 ghost use Rattle.std.specs.Prelude.{◌≡◌, ◌+◌, ◌-◌, ◌<◌, ◌≤◌, ◌∷◌, ◌++◌, ℕ, All, IfOk, List, OnErr, length, vec_capacity};
 ghost use Rattle.tko_route.specs.Calls.{Call};
-ghost use Rattle.tko_route.specs.Routing.{FindsUp, GoesOn, IsAwaited, IsBrought, IsConcluded, IsTried, Reached, came_of, last_place, tries};
+ghost use Rattle.tko_route.specs.Routing.{FindsUp, GoesOn, IsAwaited, IsBrought, IsTried, Reached, came_of, last_place, tries};
 ghost use Rattle.tko_route.specs.Trail.{Makes, form_at};
 ghost use Rattle.tko_text.specs.SentRequests.{without_noreply};
 ghost use Rattle.tko_text.specs.declared.request.Request.{Request};
 
 use crate::attempt::{Attempt, Trail};
-use crate::recording::{conclude, is_answered};
+use crate::recording::record_outcome;
 use crate::routed::RouteFault;
 use std::alloc::Global;
 use std::marker::Model;
@@ -21,6 +22,8 @@ use tko_health::Health;
 use tko_links::Outcome;
 use tko_model::{Clear, Look};
 use tko_text::Request;
+
+mod recorded;
 
 /// A routed request that was sent to a server, until its outcome is recorded.
 #[derive(Debug, Drop)]
@@ -94,23 +97,6 @@ impl Waiting {
         self.attempts.as_slice()
     }
 
-    /// Records what came of the send, which makes one attempt more.
-    fn record<R: Wait, H: Health>(self, rt: &R, health: &mut H, outcome: Outcome) -> Vec<Attempt>
-        requires { self.server < H.servers health.old }
-        ensures calls { GoesOn H.steps health.old (λ more. (form : ℕ → Request) (calls : List Call)
-            → FindsUp form calls self.attempts self.server
-            → Makes form (calls ++ came_of form self outcome ∷ more) result.items) health.new }
-        ensures one { length result.items ≡ length self.attempts + 1 }
-        ensures room { vec_capacity result ≡ self.room }
-        ensures concluded { (targets : List ℕ) → IsAwaited targets self
-            → IsConcluded targets result.items }
-        ensures servers { H.servers health.new ≡ H.servers health.old }
-    {
-        let mut attempts = self.attempts;
-        attempts.push_reserved(conclude(rt, health, self.server, outcome));
-        attempts
-    }
-
     /// Records what came of the send, and goes on to the next target unless it was answered.
     pub fn answered<R: Wait, H: Health>(
         self,
@@ -132,11 +118,8 @@ impl Waiting {
         ensures grown { length self.attempts < tries result }
         ensures servers { H.servers health.new ≡ H.servers health.old }
     {
-        let attempts = self.record(rt, health, outcome);
-        if is_answered(&attempts) {
-            return Stage::Done(Trail::of(attempts));
-        }
-        look_on(rt, health, targets, request, exptime, attempts)
+        let reply = record_outcome(rt, health, self.server, &outcome);
+        self.recorded(rt, health, targets, request, exptime, outcome, reply)
     }
 
     /// Ends the routing where memory ran out at the send.

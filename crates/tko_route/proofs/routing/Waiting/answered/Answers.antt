@@ -1,20 +1,18 @@
-use Rattle.std.proofs.Common.{rules}
-use Rattle.std.specs.Option.{IsSome}
-use Rattle.tko_route.specs.Trail.{answer_of}
-use Rattle.tko_route.proofs.RoutingLemmas.{done_then, is_done, is_tried, then_on}
+use Rattle.std.proofs.Common.{◌≡◌, ℕ, ap, subst}
+use Rattle.tko_route.specs.Trail.{IsRecorded, op_of}
+use Rattle.tko_route.specs.Underway.{Awaited}
+use Rattle.tko_route.proofs.RecordedLemmas.{is_replied, record_then}
 use Rattle.tko_route.proofs.routing.Waiting.answered.Goals as goal
 
-pub returns-then-is_answered-clause-calls : goal.returns-then-is_answered-clause-calls
-returns-then-is_answered-clause-calls g c =
-    let targets = c.args.targets.now in
-    let answered : IsSome (answer_of c.record-attempts.result.items) = search rules in
-    let whole = is_done (c.record-attempts.ensures.concluded targets c.requires.awaited) answered c.of.ensures in
-    done_then targets c.args.self c.args.outcome whole c.of.ensures c.record-attempts.ensures.calls
-
-pub look_on-requires-clause-tried : goal.look_on-requires-clause-tried
-look_on-requires-clause-tried g c =
-    let none : ¬ IsSome (answer_of c.record-attempts.result.items) = search rules in
-    is_tried (c.record-attempts.ensures.concluded c.args.targets.now c.requires.awaited) none
+pub recorded-requires-clause-replied : goal.recorded-requires-clause-replied
+recorded-requires-clause-replied g c =
+    is_replied g.H.Health.steps c.args.health.now c.self.inside.server (op_of c.args.outcome) c.record_outcome-reply.result c.record_outcome-reply.new.health
+    c.record_outcome-reply.ensures.recorded
 
 pub returns-clause-calls : goal.returns-clause-calls
-returns-clause-calls g c = then_on c.args.targets.now c.args.self c.args.outcome c.look_on.result c.record-attempts.ensures.calls c.look_on.ensures.calls
+returns-clause-calls g c =
+    let at : c.self.inside.server ≡ c.args.self.server = ap (λ (it : Awaited). it.server) c.self.view_is in
+    let P : ℕ → Type 0 =
+    λ n. IsRecorded g.H.Health.steps c.args.health.now n (op_of c.args.outcome) c.record_outcome-reply.result c.record_outcome-reply.new.health in
+    record_then c.args.targets.now c.args.self c.args.outcome c.record_outcome-reply.result c.recorded.result
+    (subst P at c.record_outcome-reply.ensures.recorded) c.recorded.ensures.calls

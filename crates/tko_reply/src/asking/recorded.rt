@@ -1,0 +1,56 @@
+//! A key goes on where a call that other keys share recorded what came of its send.
+ghost use Rattle.std.specs.Prelude.{◌≡◌, ◌↔◌, ◌++◌, IfErr, IfOk, IsSome, OnErr, length};
+ghost use Rattle.tko_pools.specs.Configs.{AreServers};
+ghost use Rattle.tko_reply.specs.Answering.{Extends};
+ghost use Rattle.tko_reply.specs.Asking.{Goes, HasFront, course_of, front_of};
+ghost use Rattle.tko_reply.specs.Cuts.{EndsBy};
+ghost use Rattle.tko_reply.specs.Sends.{AfterSend, IsOutTo};
+ghost use Rattle.tko_reply.specs.Standing.{asking};
+ghost use Rattle.tko_route.specs.Routing.{GoesOn, told_of};
+ghost use Rattle.tko_route.specs.Trail.{form_at, op_of};
+
+use crate::asking::OneKey;
+use crate::dropped::Dropped;
+use crate::outbox::Outbox;
+use std::sync::Wait;
+use tko_links::Outcome;
+use tko_model::Reply;
+use tko_pools::Config;
+use tko_route::{Health, Stage, Waiting};
+
+impl OneKey {
+    /// Makes the attempt of a send of which this came, where a call that other keys may share
+    /// recorded it already and got this reply. Goes on to the next target unless it was answered.
+    pub fn recorded<R: Wait, H: Health>(
+        &mut self,
+        rt: &R,
+        health: &mut H,
+        config: &Config,
+        targets: &[usize],
+        outbox: &mut Outbox,
+        waiting: Waiting,
+        outcome: Outcome,
+        reply: Option<Reply>,
+    ) -> Result<Stage, Dropped>
+        requires servers { H.servers health.old ≡ length config.now.addresses }
+        requires front { HasFront self.old.share outbox.old }
+        requires out { IsOutTo config.now targets.now waiting }
+        requires replied { IsSome reply ↔ IsSome (op_of outcome) }
+        ensures ok { IfOk result (λ stage. GoesOn H.steps health.old
+            (λ more. AfterSend config.now (asking waiting self.old) outcome (λ original calls.
+            Goes (course_of config.now targets.now self.old original)
+            (calls (told_of waiting outcome reply ++ more)) outbox.old
+            stage self.new outbox.new)) health.new) }
+        ensures err { OnErr result (Extends (front_of self.old.share outbox.old) outbox.new) }
+        ensures lost { IfErr result (λ trail. GoesOn H.steps health.old
+            (λ more. AfterSend config.now (asking waiting self.old) outcome (λ original calls.
+            EndsBy targets.now (form_at config.now.failover_exptime original)
+            (calls (told_of waiting outcome reply ++ more)) trail)) health.new) }
+        ensures servers { H.servers health.new ≡ H.servers health.old }
+    {
+        let exptime = config.failover_exptime();
+        let request = &mut self.request;
+        let stage = waiting.recorded(rt, health, targets, request, exptime, outcome, reply);
+        self.settle(outbox, stage)
+    }
+}
