@@ -15,8 +15,10 @@ use Rattle.tko_port.specs.declared.guest.Guest.{Guest}
 use Rattle.tko_port.specs.declared.guest.Shared.{Shared}
 use Rattle.tko_port.specs.declared.guest.Turned.{Turned}
 use Rattle.tko_port.specs.Guests.{IsGuestCall}
-use Rattle.tko_worker.specs.Workers.{IsIn, IsListedFor, NobodyForgotten, OthersStayFor, RestAt, Rests, Sight}
-use Rattle.tko_worker.proofs.RestLemmas.{made_others, one_listed}
+use Rattle.tko_worker.specs.Workers.{IsIn, IsListedFor, NobodyForgotten, OthersStayFor, RestAt}
+use Rattle.tko_worker.specs.Workers.{Rests, Sight}
+use Rattle.tko_worker.proofs.RestLemmas.{made_others}
+use Rattle.tko_worker.proofs.ListedLemmas.{one_listed}
 
 -- nobody else's session changes by what came
 pub delivered_others : {L T P : Type 0} (sight : Sight L T)
@@ -76,7 +78,8 @@ leave_others {L} {T} {P} sight asks_for old new server due delivery result ends 
 pub read_others : {L T P : Type 0} (sight : Sight L T) (asks_for : Guest L T → Option Request)
     (mid new : MuxState (Guest L T) (Shared P)) (server due : ℕ) (delivery : Delivery Turned)
     (taken : Result (Option (Asker × Response)) ShutCause)
-    → Reaches (IsGuestCall sight.0 sight.1 sight.2) (λ guest. sight.0 guest.talk) asks_for mid server
+    → Reaches (IsGuestCall sight.0 sight.1 sight.2)
+    (λ guest. sight.0 guest.talk) asks_for mid server
     taken due (Ok (Some delivery)) new
     → OthersStayFor delivery mid.roster.slots new.roster.slots
 read_others sight asks_for mid new server due delivery (Ok None) reaches =
@@ -93,7 +96,8 @@ pub unread_roster : {L T P : Type 0} (sight : Sight L T) (asks_for : Guest L T �
     (mid new : MuxState (Guest L T) (Shared P)) (server due : ℕ)
     (taken : Result (Option (Asker × Response)) ShutCause)
     (result : Result (Option (Delivery Turned)) ShutCause)
-    → Reaches (IsGuestCall sight.0 sight.1 sight.2) (λ guest. sight.0 guest.talk) asks_for mid server
+    → Reaches (IsGuestCall sight.0 sight.1 sight.2)
+    (λ guest. sight.0 guest.talk) asks_for mid server
     taken due result new
     → ((delivery : Delivery Turned) → result ≡ Ok (Some delivery) → ⊥)
     → new.roster ≡ mid.roster
@@ -105,7 +109,8 @@ unread_roster sight asks_for mid new server due (Ok (Some found)) result reaches
     absurd (none reaches.0 reaches.1)
 
 pub take_others : {L T P : Type 0} (sight : Sight L T) (asks_for : Guest L T → Option Request)
-    (waits_for : WaitsFor (Guest L T)) (old new : MuxState (Guest L T) (Shared P)) (server due : ℕ) (delivery : Delivery Turned)
+    (waits_for : WaitsFor (Guest L T)) (old new : MuxState (Guest L T) (Shared P)) (server due : ℕ)
+    (delivery : Delivery Turned)
     (result : Result (Option (Delivery Turned)) ShutCause)
     → IsRead (IsGuestCall sight.0 sight.1 sight.2) (λ guest. sight.0 guest.talk) asks_for
     waits_for old server due result new
@@ -120,7 +125,8 @@ take_others sight asks_for waits_for old new server due delivery result read is 
 
 -- where no response came, nobody is forgotten
 pub unread_nobody : {L T P : Type 0} (sight : Sight L T) (asks_for : Guest L T → Option Request)
-    (waits_for : WaitsFor (Guest L T)) (old new : MuxState (Guest L T) (Shared P)) (server due : ℕ) (touched spent : List ℕ)
+    (waits_for : WaitsFor (Guest L T)) (old new : MuxState (Guest L T) (Shared P)) (server due : ℕ)
+    (touched spent : List ℕ)
     (result : Result (Option (Delivery Turned)) ShutCause)
     → IsRead (IsGuestCall sight.0 sight.1 sight.2) (λ guest. sight.0 guest.talk) asks_for
     waits_for old server due result new

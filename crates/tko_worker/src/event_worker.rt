@@ -1,11 +1,12 @@
 //! A worker as a whole, from one turn of events to the next.
-ghost use Rattle.std.specs.Prelude.{◌≡◌, ◌≢◌, ◌<◌, [], None, Some, IfErr, IfOk, length, option_copied, option_map};
+ghost use Rattle.std.specs.Prelude.{◌≡◌, ◌≢◌, ◌<◌, [], None, Some, IfErr, IfOk, false, length, option_copied, option_map};
 ghost use Rattle.std.specs.Bool.{OnFalse, OnTrue};
 ghost use Rattle.std.specs.List.{count_by};
 ghost use Rattle.tko_mux.specs.Muxes.{line_at};
 ghost use Rattle.tko_port.specs.Guests.{noting};
 ghost use Rattle.tko_worker.specs.Acts.{HasActed};
 ghost use Rattle.tko_worker.specs.Connections.{has_socket};
+ghost use Rattle.tko_worker.specs.Taking.{AreTaken, is_set};
 ghost use Rattle.tko_worker.specs.Turns.{AreAhead, AreWritten, IsAhead, IsNextDue, IsWanted, NoneWanted, OtherPeers, ServersRest, probed_at, socket_at};
 ghost use Rattle.tko_port.specs.Wires.{CannotWriteTo, HasConnected, HasFailed, IsOpen, OtherLines, link_at};
 ghost use Rattle.tko_worker.specs.Workers.{IsInOrder};
@@ -14,9 +15,9 @@ use crate::resting::{is_quiet, is_wanted, none_is_left};
 use crate::{Outlook, Worker};
 use std::alloc::Global;
 use tko_bytes::NoMemory;
-use tko_mux::Came;
+use tko_mux::{Asking, Came};
 use tko_pipe::Link;
-use tko_port::{Event, Peer, Port, Shared, Talking, is_connecting};
+use tko_port::{Event, Guest, Peer, Port, Shared, Talking, is_connecting};
 
 /// The clients of a worker, and the sockets to its servers. A turn of events begins by
 /// `begin_turn`; then what came is noted, `serve` does what can be done for the clients, and
@@ -28,6 +29,8 @@ pub struct EventWorker<L, T, P> {
     /// Whether there may be something to do for a server: at the end of the last turn it was not at
     /// rest or a response was awaited, or something came for it since.
     awake: Vec<bool>,
+    /// Whether some of what came from a server may be left for the next turn.
+    is_behind: bool,
 }
 
 impl<P: Drop, L: Port + Drop, T: Talking<P> + Drop> EventWorker<L, T, P> {
@@ -54,6 +57,7 @@ impl<P: Drop, L: Port + Drop, T: Talking<P> + Drop> EventWorker<L, T, P> {
                 clients,
                 peers,
                 awake,
+                is_behind: false,
             }),
             Err(back) => Err(back),
         }
@@ -217,6 +221,7 @@ impl<P, L: Port + Drop, T: Talking<P> + Drop> EventWorker<L, T, P> {
             clients,
             peers,
             awake,
+            is_behind: _,
         } = self;
         drop((peers, awake));
         clients.into_parts()
@@ -239,13 +244,16 @@ impl<P, L: Port + Drop, T: Talking<P> + Drop> EventWorker<L, T, P> {
         requires room { 0 < length buffer.old }
         requires order { IsInOrder (T.awaited, T.talk, L.port) T.ready self.old.clients }
         ensures served { self.new.clients.touched ≡ [] }
+        ensures taken { OnFalse self.new.is_behind (AreTaken (T.awaited, T.talk, L.port)
+            ⟦<Guest<L, T> as Asking<Shared<P>>>⟧.waits_for self.old.awake.items
+            (length self.old.peers.items) self.old.clients self.new.clients) }
         ensures count { length self.new.peers.items ≡ length self.old.peers.items }
         ensures room { length buffer.new ≡ length buffer.old }
         ensures acted { HasActed (T.awaited, T.talk, L.port) self.old.clients self.new.clients }
         ensures order { IsInOrder (T.awaited, T.talk, L.port) T.ready self.new.clients }
     {
         let awake = self.awake.as_slice();
-        serve_all(
+        self.is_behind = !serve_all(
             &mut self.clients,
             &mut self.peers,
             awake,
@@ -258,13 +266,14 @@ impl<P, L: Port + Drop, T: Talking<P> + Drop> EventWorker<L, T, P> {
     }
 
     /// Writes to the servers what is asked of them, once, at the end of a turn. Returns what lies
-    /// ahead of them then. Where each rests and no client is left for the next turn, that is to
-    /// wait for events, until the first response is due.
+    /// ahead of them then. Where each rests, nothing that came is left, and no client is left for
+    /// the next turn, that is to wait for events, until the first response is due.
     pub fn finish(&mut self, now: u64) -> Outlook
         requires { IsInOrder (T.awaited, T.talk, L.port) T.ready self.old.clients }
         ensures rests { OnTrue result.rests (ServersRest L.port now self.new.clients.mux.lines
             self.new.peers.items (length self.new.peers.items)) }
         ensures none { OnTrue result.rests (self.new.clients.spent ≡ []) }
+        ensures taken { OnTrue result.rests (self.old.is_behind ≡ false) }
         ensures due { IsNextDue self.new.clients.mux.lines (length self.new.peers.items)
             result.due }
         ensures wants { OnFalse result.wants (NoneWanted L.port self.new.clients.mux.lines
@@ -279,7 +288,7 @@ impl<P, L: Port + Drop, T: Talking<P> + Drop> EventWorker<L, T, P> {
         ensures order { IsInOrder (T.awaited, T.talk, L.port) T.ready self.new.clients }
     {
         let ahead = finish_all(&mut self.clients, &mut self.peers, &mut self.awake, now);
-        if none_is_left(&self.clients) {
+        if none_is_left(&self.clients) && !self.is_behind {
             return ahead;
         }
         Outlook {
@@ -289,7 +298,8 @@ impl<P, L: Port + Drop, T: Talking<P> + Drop> EventWorker<L, T, P> {
     }
 }
 
-/// Serves each server for which there may be something to do.
+/// Serves each server for which there may be something to do. Returns whether nothing that came from
+/// them is left.
 fn serve_all<P, L: Port + Drop, T: Talking<P> + Drop>(
     clients: &mut Worker<L, T, P>,
     peers: &mut Vec<Peer<L>>,
@@ -298,20 +308,26 @@ fn serve_all<P, L: Port + Drop, T: Talking<P> + Drop>(
     buffer: &mut [u8],
     now: u64,
     due: u64,
-)
+) -> bool
     requires room { 0 < length buffer.old }
     requires order { IsInOrder (T.awaited, T.talk, L.port) T.ready clients.old }
+    ensures taken { OnTrue result (AreTaken (T.awaited, T.talk, L.port)
+        ⟦<Guest<L, T> as Asking<Shared<P>>>⟧.waits_for awake.now (length peers.old.items)
+        clients.old clients.new) }
     ensures count { length peers.new.items ≡ length peers.old.items }
     ensures room { length buffer.new ≡ length buffer.old }
     ensures acted { HasActed (T.awaited, T.talk, L.port) clients.old clients.new }
     ensures order { IsInOrder (T.awaited, T.talk, L.port) T.ready clients.new }
 {
+    let mut all = true;
     for server in 0..peers.len() {
         if !is_set(awake, server) {
             continue;
         }
-        clients.serve_server(alloc, &mut peers[server], server, now, due, buffer);
+        let its = clients.serve_server(alloc, &mut peers[server], server, now, due, buffer);
+        all = all && its;
     }
+    all
 }
 
 /// Writes to each server what is to be written, and finds what lies ahead of them then, and for
@@ -370,7 +386,9 @@ fn finish_one<P, L: Port + Drop, T: Talking<P> + Drop>(
 }
 
 /// Whether the flag of a server is set. One that has none counts as set.
-fn is_set(flags: &[bool], server: usize) -> bool {
+fn is_set(flags: &[bool], server: usize) -> bool
+    ensures { result ≡ is_set flags.now server }
+{
     match flags.get(server) {
         Some(flag) => *flag,
         None => true,

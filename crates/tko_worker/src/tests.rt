@@ -191,6 +191,8 @@ fn a_client_is_served_at_the_end_of_the_turn(rt: HostRuntime) -> Result<(), Fail
 struct LatePort {
     inner: MemoryPort,
     readable: bool,
+    /// How many bytes the other side still sends, if it goes on then; without it it ends.
+    stays_open_after: Option<usize>,
 }
 
 impl Port for LatePort {
@@ -220,6 +222,10 @@ impl Port for LatePort {
         self.inner.set_readable();
         let read = self.inner.read(buffer);
         self.readable = self.inner.is_readable();
+        if let (Some(left), Read::Bytes(count)) = (self.stays_open_after, &read) {
+            self.stays_open_after = Some(left - *count);
+            self.readable = left > *count;
+        }
         read
     }
 
@@ -369,6 +375,7 @@ fn new_port(alloc: Global, input: &[u8]) -> Result<LatePort, Fail> {
     Ok(LatePort {
         inner: MemoryPort::new(alloc, input.to_vec(alloc)?, 100),
         readable: false,
+        stays_open_after: None,
     })
 }
 
@@ -472,5 +479,36 @@ fn a_client_that_leaves_keeps_its_number_until_its_request_is_done(
         worker.clients.open(alloc, last, new_asker(alloc)?)?,
         number
     );
+    Ok(())
+}
+
+#[test]
+fn a_response_does_not_wait_for_the_next_event(rt: HostRuntime) -> Result<(), Fail> {
+    let alloc = rt.alloc();
+    let shared = Shared {
+        parts: (),
+        buffer: vec![in alloc; 0; 4]?,
+    };
+    let Ok(mut worker) = EventWorker::new(alloc, shared, 1, 100) else {
+        return Err("no memory".into());
+    };
+    let asker = new_asker(alloc)?;
+    let number = worker
+        .clients
+        .open(alloc, new_port(alloc, b"".as_slice())?, asker)?;
+    assert!(rt; end_turn(alloc, &mut worker, 1));
+    // (as many bytes as are read in one turn, four at a time)
+    let mut response = b"VERSION ".as_slice().to_vec(alloc)?;
+    response.extend_from_slice(vec![in alloc; b'1'; 54]?.as_slice())?;
+    response.extend_from_slice(b"\r\n".as_slice())?;
+    let mut port = new_port(alloc, response.as_slice())?;
+    port.stays_open_after = Some(response.len());
+    worker.connecting(0, port);
+    worker.connected(0);
+    assert!(rt; end_turn(alloc, &mut worker, 2));
+    worker.note_server(0, Event::Readable);
+    assert!(rt; !end_turn(alloc, &mut worker, 3));
+    assert!(rt; end_turn(alloc, &mut worker, 3));
+    assert!(rt; !worker.clients.has_client(number));
     Ok(())
 }

@@ -1,4 +1,4 @@
-use Rattle.std.proofs.Common.{refl, subst, ◌∙◌, ap}
+use Rattle.std.proofs.Common.{refl, subst}
 use Rattle.tko_mux.specs.Muxes.{MuxState}
 use Rattle.tko_port.specs.declared.guest.Event.TheVariants.{Leave}
 use Rattle.tko_worker.specs.Workers.{HasReached, IsHere, leaving}

@@ -1,6 +1,6 @@
 use Rattle.std.proofs.Common.{◌∙◌, ap}
 use Rattle.tko_worker.specs.Workers.{WorkerState}
-use Rattle.tko_worker.proofs.RestLemmas.{turn_begun}
+use Rattle.tko_worker.proofs.ListedLemmas.{turn_begun}
 use Rattle.tko_worker.proofs.worker.Worker.begin_turn.Goals as goal
 
 pub returns-clause-order : goal.returns-clause-order

@@ -1,6 +1,6 @@
 use Rattle.std.proofs.Common.{rules, arith, ◌≡◌, ◌+◌, [], ◌∷◌, ◌++◌, ap, ◌∙◌, length, length-append}
 use Rattle.tko_worker.proofs.ActedLemmas.{acted_on}
-use Rattle.tko_worker.proofs.RestLemmas.{one_served}
+use Rattle.tko_worker.proofs.ListedLemmas.{one_served}
 use Rattle.tko_worker.proofs.worker.Worker.end_turn.Goals as goal
 
 pub loop-preserved : goal.loop-preserved

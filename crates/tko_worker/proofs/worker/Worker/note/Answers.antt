@@ -3,7 +3,8 @@ use Rattle.tko_mux.specs.declared.asking.Given.TheVariants.{Input}
 use Rattle.tko_port.specs.Guests.{IsGuestCall}
 use Rattle.tko_worker.specs.Workers.{IsNoted, NobodyForgotten, WorkerState}
 use Rattle.tko_worker.proofs.NotedLemmas.{event_reached}
-use Rattle.tko_worker.proofs.RestLemmas.{act_others, one_listed}
+use Rattle.tko_worker.proofs.RestLemmas.{act_others}
+use Rattle.tko_worker.proofs.ListedLemmas.{one_listed}
 use Rattle.tko_worker.specs.Acts.{HasActed}
 use Rattle.tko_worker.proofs.ActedLemmas.{act_acted, acted_on, listed_acted}
 use Rattle.tko_worker.proofs.worker.Worker.note.Goals as goal

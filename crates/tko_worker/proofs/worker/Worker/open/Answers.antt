@@ -1,7 +1,8 @@
 use Rattle.std.proofs.Common.{rules, refl, subst, sym}
 use Rattle.tko_port.specs.declared.guest.Presence.TheVariants.{Here}
 use Rattle.tko_worker.specs.Workers.{IsOpened, NobodyForgotten, WorkerState}
-use Rattle.tko_worker.proofs.RestLemmas.{admitted_others, one_listed}
+use Rattle.tko_worker.proofs.RestLemmas.{admitted_others}
+use Rattle.tko_worker.proofs.ListedLemmas.{one_listed}
 use Rattle.tko_worker.proofs.ActedLemmas.{acted_same, opened_acted}
 use Rattle.tko_worker.proofs.worker.Worker.open.Goals as goal
 
