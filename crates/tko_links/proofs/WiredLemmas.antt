@@ -3,17 +3,17 @@ use Rattle.std.proofs.Common.{◌≡◌, ℕ, Bool, true, false, List, [], ◌�
 use Rattle.std.specs.List.{concat}
 use Rattle.std.proofs.lemmas.Grind.{flat_map-append}
 use Rattle.tko_model.specs.Records.{Gains, Lead}
-use Rattle.tko_model.proofs.RecordLemmas.{gains_append, gains_none, gains_one}
+use Rattle.tko_model.proofs.RecordLemmas.{gains_append, gains_none}
 use Rattle.tko_text.specs.declared.request.Request.{Request}
 use Rattle.tko_text.specs.Requests.{request_text}
 use Rattle.tko_links.specs.declared.links.Outcome.{Outcome}
 use Rattle.tko_links.specs.declared.links.Outcome.TheVariants as outcome
-use Rattle.tko_links.specs.Exchanges.{ConnectionFailed, Ended, Ends, IsBroken, IsExchange, IsFront, IsProbing, IsOpening, Unreadable, WriteTookNone, closing_of, given_up, got_all, tried, wrote_all}
+use Rattle.tko_links.specs.Exchanges.{ConnectionFailed, Ended, Ends, IsBroken, IsExchange, IsFront, IsOpening, Unreadable, WriteTookNone, closing_of, given_up, got_all, tried, wrote_all}
 use Rattle.tko_links.specs.declared.links.NoMemory.{NoMemory}
 use Rattle.tko_links.specs.Links.{LinksItem, Sent, Probed, outcome_in}
 use Rattle.tko_links.specs.Scripted.{probes_after_all, sends_after_all}
 use Rattle.tko_links.specs.WireRecords.{AreAt, IsDone, IsWireRecord, bytes_of, written_in}
-use Rattle.tko_links.specs.Wired.{IsOverWire, IsWired, WiredState, asked_in, server_of}
+use Rattle.tko_links.specs.Wired.{IsOverWire, IsWired, WiredState, asked_in}
 use Rattle.tko_links.specs.Wires.{WireItem, Checked, Failed, Limited, Shut}
 
 -- items at one server that wrote nothing

@@ -1,4 +1,5 @@
 pub mod AwaitsLemmas
+mod LeaveLemmas
 mod LineLemmas
 mod LinkingLemmas
 mod MuxLemmas

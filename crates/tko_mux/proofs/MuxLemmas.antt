@@ -1,5 +1,5 @@
 -- What each call on the sessions and the lines does.
-use Rattle.std.proofs.Common.{arith, ◌≡◌, ◌≢◌, ℕ, ◌<◌, List, [], ◌∷◌, ◌++◌, Bool, true, false, refl, sym, ap, subst, ◌∙◌, inl, inr, length, Option, Some, None}
+use Rattle.std.proofs.Common.{arith, ◌≡◌, ◌≢◌, ℕ, ◌<◌, List, [], ◌∷◌, ◌++◌, Bool, true, false, refl, sym, ap, subst, ◌∙◌, length, Option, Some, None}
 use Rattle.std.specs.Prelude.{IsSome, slice_set, slice_index_or}
 use Rattle.std.specs.Bool.{OnTrue}
 use Rattle.tko_text.specs.declared.request.Request.{Request}

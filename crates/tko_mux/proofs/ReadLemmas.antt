@@ -1,5 +1,6 @@
 -- What comes of reading from a server, and who waits after that.
-use Rattle.std.proofs.Common.{◌≡◌, ◌≢◌, ◌⊎◌, ℕ, ◌<◌, List, [], ◌∷◌, ◌++◌, refl, sym, ap, subst, ◌∙◌, inl, inr, length, Option, Some, None}
+use Rattle.std.proofs.Common.{◌≡◌, ◌⊎◌, ℕ, ◌<◌, List, [], ◌∷◌, ◌++◌, refl, sym, ap, subst, ◌∙◌, inl}
+use Rattle.std.proofs.Common.{inr, length, Option, Some, None}
 use Rattle.std.specs.Prelude.{slice_get, slice_set, slice_index_or}
 use Rattle.std.proofs.lemmas.Bool.{cases_eq}
 use Rattle.tko_text.specs.declared.request.Request.{Request}
@@ -9,18 +10,19 @@ use Rattle.tko_pipe.specs.declared.waiter.Waiter.{Waiter}
 use Rattle.tko_pipe.specs.Pipes.{PipeState, pushing}
 use Rattle.std.specs.Prelude.{IfSome, OnErr, OnOk, Result, Ok, Err}
 use Rattle.tko_text.specs.declared.response.Response.{Response}
-use Rattle.tko_pipe.specs.declared.fates.Fate.{Fate}
 use Rattle.tko_pipe.specs.declared.fates.ShutCause.{ShutCause}
 use Rattle.tko_pipe.specs.declared.waiter.Asker.{Asker}
-use Rattle.tko_roster.proofs.SlotLemmas.{at_index, get_set_same}
-use Rattle.tko_mux.specs.declared.asking.Came.TheVariants as came
+use Rattle.tko_roster.proofs.SlotLemmas.{at_index}
 use Rattle.tko_mux.specs.declared.mux.delivery.Delivery.{Delivery}
 use Rattle.tko_mux.specs.Asks.{AskingActs}
-use Rattle.tko_mux.specs.Lines.{IsLinePushed, LineLeaves, LineState, first_on, waiters, waiting_on}
-use Rattle.tko_mux.specs.Linking.{AreLinked, AwaitsBy, AwaitsFirst, IsFree, Linked, awaited_at, waiters_at, waiters_on}
-use Rattle.tko_mux.specs.Muxes.{HasNoneLeaving, IsDelivered, IsRead, IsTold, MuxState, Reaches, ReadsOn, WaitsFor}
-use Rattle.tko_mux.proofs.LinkingLemmas.{IsWithout, first_awaits, first_loose, first_without, last_without, probe_linked, probe_taken, same_linked}
-use Rattle.tko_mux.proofs.LineLemmas.{OneLeaves, TakeLeaves, left_leaves, others_wait, pushed_waits, read_leaves, set_waits}
+use Rattle.tko_mux.specs.Lines.{IsLinePushed, LineState, first_on, waiters, waiting_on}
+use Rattle.tko_mux.specs.Linking.{AreLinked, AwaitsBy, AwaitsFirst, IsFree, Linked, awaited_at}
+use Rattle.tko_mux.specs.Linking.{waiters_at, waiters_on}
+use Rattle.tko_mux.specs.Muxes.{HasNoneLeaving, IsRead, MuxState, Reaches, ReadsOn, WaitsFor}
+use Rattle.tko_mux.proofs.LinkingLemmas.{IsWithout, first_awaits, first_loose, first_without}
+use Rattle.tko_mux.proofs.LinkingLemmas.{last_without, probe_linked, probe_taken, same_linked}
+use Rattle.tko_mux.proofs.LineLemmas.{OneLeaves, TakeLeaves, others_wait, pushed_waits}
+use Rattle.tko_mux.proofs.LineLemmas.{read_leaves, set_waits}
 
 awaits_by : (aw : ℕ → List ℕ) (queue : ℕ → List Waiter) (server : ℕ) (by : Asker) (it : Waiter)
     (rest : List Waiter) → Linked aw queue → queue server ≡ it ∷ rest → it.by ≡ by
@@ -141,7 +143,8 @@ first_on_line {S} {P} awaited p old server was same below read linked left =
     (at ∙ all)
 
 -- one to whom a response came is free to take it
-pub read_free : {S P : Type 0} (awaited : S → List ℕ) (waits_for : WaitsFor S) (p old : MuxState S P)
+pub read_free : {S P : Type 0} (awaited : S → List ℕ) (waits_for : WaitsFor S)
+    (p old : MuxState S P)
     (server : ℕ) (by : Asker) (response : Response) (was now : LineState)
     (taken : Result (Option (Asker × Response)) ShutCause) → p ≡ old → server < length p.lines
     → was ≡ slice_index_or p.lines server was → AreLinked awaited old.roster.slots old.lines
@@ -169,7 +172,8 @@ pub unread_linked : {S P : Type 0} (awaited : S → List ℕ) (waits_for : Waits
 unread_linked {S} {P} awaited waits_for p old server was now taken same below read linked left reads
     none =
     let ended : was.ended ≡ None = none_leaving p old server was same below read left in
-    let leaves = read_leaves waits_for p.roster server (first_on was.pipe) was now taken ended reads in
+    let leaves = read_leaves waits_for p.roster server
+    (first_on was.pipe) was now taken ended reads in
     let Leaves : Result (Option (Asker × Response)) ShutCause → Type 0 =
     λ t. TakeLeaves t (waiters was) (waiters now) in
     let waits : waiters now ≡ waiters was =
@@ -190,8 +194,8 @@ pub reached : {S P I O : Type 0} (acts : AskingActs S P I O) (awaited : S → Li
     → Reaches acts awaited asks_for (record p { lines = slice_set p.lines server now }) server found
     due result new
     → IsRead acts awaited asks_for waits_for old server due result new
-reached {S} {P} {I} {O} acts awaited asks_for waits_for p old server due was now taken found result new same
-    below read reads is reaches =
+reached {S} {P} {I} {O} acts awaited asks_for waits_for p old server due was now taken found result
+    new same below read reads is reaches =
     let Read : MuxState S P → Type 0 = λ m.
     IsRead acts awaited asks_for waits_for m server due result new in
     subst Read same (record {
@@ -217,56 +221,6 @@ of_line {S} {P} holds p old server was same below read is =
     subst (λ (line : Option LineState). IfSome line holds) (at_index p.lines server was below read)
     (subst (λ (m : MuxState S P). IfSome (slice_get m.lines server) holds) (sym same) is)
 
--- one that left is free to take what became of its request
-pub left_free : {S P : Type 0} (awaited : S → List ℕ) (p old : MuxState S P) (server : ℕ)
-    (by : Asker) (fate : Fate) (was now : LineState) (left : Option (Asker × Fate)) → p ≡ old
-    → server < length p.lines → was ≡ slice_index_or p.lines server was
-    → AreLinked awaited old.roster.slots old.lines → LineLeaves was left now
-    → left ≡ Some (by, fate)
-    → IsFree (awaited_at awaited p.roster.slots) (waiters_at (slice_set p.lines server now)) server
-    by
-left_free {S} {P} awaited p old server by fate was now left same below read linked leaves is =
-    let step : LineLeaves was (Some (by, fate)) now =
-    subst (λ (l : Option (Asker × Fate)). LineLeaves was l now) is leaves in
-    one_free awaited p old server by was now same below read linked
-    (left_leaves was now by fate step)
-
--- the one that left was told
-pub left_told : {S P I O : Type 0} (acts : AskingActs S P I O) (awaited : S → List ℕ)
-    (asks_for : S → Option Request) (p old : MuxState S P) (server due : ℕ) (was now : LineState)
-    (by : Asker) (fate : Fate) (left : Option (Asker × Fate)) (delivery : Delivery O)
-    (new : MuxState S P) → p ≡ old → server < length p.lines
-    → was ≡ slice_index_or p.lines server was → LineLeaves was left now → left ≡ Some (by, fate)
-    → IsDelivered acts awaited asks_for (record p { lines = slice_set p.lines server now }) server
-    by (came.Fate fate) due delivery new
-    → IsTold acts awaited asks_for old server due delivery new
-left_told {S} {P} {I} {O} acts awaited asks_for p old server due was now by fate left delivery new
-    same below read leaves is reaches =
-    let Told : MuxState S P → Type 0 = λ m.
-    IsTold acts awaited asks_for m server due delivery new in
-    subst Told same (record {
-      by = by;
-      fate = fate;
-      lines = slice_set p.lines server now;
-      on = record {
-        was = was;
-        now = now;
-        from = at_index p.lines server was below read;
-        ends = subst (λ (l : Option (Asker × Fate)). LineLeaves was l now) is leaves;
-        to = refl;
-      };
-      reaches = reaches;
-    })
-
--- nobody left
-pub none_left : (was now : LineState) (left : Option (Asker × Fate)) → LineLeaves was left now
-    → left ≡ None → waiters now ≡ waiters was
-none_left was now left leaves is =
-    let none : LineLeaves was None now =
-    subst (λ (l : Option (Asker × Fate)). LineLeaves was l now) is leaves in
-    ap waiters none.1
-    ∙ ap (λ (w : List Waiter). w ++ waiting_on was.pipe) (sym none.0)
-
 -- a probe at the end of a line, or no memory for it
 pub probe_ends : {S P E : Type 0} (awaited : S → List ℕ) (p old : MuxState S P)
     (server limit due : ℕ) (was now : LineState) (result : Result Unit E) → p ≡ old
@@ -281,12 +235,3 @@ probe_ends awaited p old server limit due was now (Ok done) same below read link
     (pushed_waits limit was now it pushed)
 probe_ends awaited p old server limit due was now (Err fault) same below read linked pushed failed =
     line_linked awaited p old server was now same below read linked (ap waiters failed)
-
-pub none_leave_now : (lines : List LineState) (server : ℕ) (was now : LineState)
-    (left : Option (Asker × Fate)) → server < length lines → LineLeaves was left now → left ≡ None
-    → HasNoneLeaving (slice_get (slice_set lines server now) server)
-none_leave_now lines server was now left below leaves is =
-    let none : LineLeaves was None now =
-    subst (λ (l : Option (Asker × Fate)). LineLeaves was l now) is leaves in
-    subst HasNoneLeaving (sym (get_set_same lines server now below))
-    (ap (λ (line : LineState). line.ended) none.1)

@@ -1,3 +1,4 @@
+mod LeavingLemmas
 mod LifeLemmas
 mod PipeLemmas
 mod QueueLemmas

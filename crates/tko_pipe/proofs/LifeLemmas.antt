@@ -1,5 +1,6 @@
 -- What the items of a connection mean, by induction on them.
-use Rattle.std.proofs.Common.{◌≡◌, ℕ, ◌+◌, ◌≤◌, ◌⊎◌, inl, inr, List, [], ◌∷◌, ◌++◌, refl, sym, ap, subst, ◌∙◌, arith, length, length-append, append_assoc, append-nil, map, Some, None, sum_by}
+use Rattle.std.proofs.Common.{◌≡◌, ℕ, ◌+◌, ◌≤◌, ◌⊎◌, inl, inr, List, [], ◌∷◌, ◌++◌, sym, ap, subst}
+use Rattle.std.proofs.Common.{◌∙◌, arith, length, length-append, append_assoc, append-nil, map}
 use Rattle.std.specs.Prelude.{All, flat_map}
 use Rattle.std.proofs.lemmas.List.Sums.{sum_by-append, sum_by-cons}
 use Rattle.std.proofs.lemmas.List.Elements.{All-cons, All-nil}
@@ -7,88 +8,13 @@ use Rattle.tko_model.specs.Records.{Gains, Lead}
 use Rattle.tko_model.proofs.RecordLemmas.{gains_none}
 use Rattle.tko_text.specs.Requests.{request_text}
 use Rattle.tko_pipe.specs.declared.waiter.Waiter.{Waiter}
-use Rattle.tko_pipe.specs.declared.fates.Fates.{Fates}
-use Rattle.tko_pipe.specs.declared.link.Link.{Link}
-use Rattle.tko_pipe.specs.declared.link.Link.TheVariants.{Connected, Shut}
-use Rattle.tko_pipe.specs.Fates.{Leaving, fate_at, fates_of, leaving}
-use Rattle.tko_pipe.specs.Lives.{Got, IsAnswer, IsEnd, IsLife, IsPipeStep, Left, PipeItem, Pushed, Took, WasConnected, WasShut, Wrote, answered_in, asked_in, got_in, heard_after, leaving_in, left_in, pushed_in, read_in, responses_in, shut_in, texts_in, took_in, unanswered_in, unread_dropped, unwritten_dropped, written_in, wrote_in}
+use Rattle.tko_pipe.specs.Fates.{fates_of, leaving}
+use Rattle.tko_pipe.specs.Lives.{Got, IsAnswer, IsEnd, IsLife, IsPipeStep, Left, PipeItem, Pushed}
+use Rattle.tko_pipe.specs.Lives.{Took, WasConnected, WasShut, Wrote, answered_in, asked_in}
+use Rattle.tko_pipe.specs.Lives.{heard_after, left_in, read_in, responses_in, texts_in, took_in}
+use Rattle.tko_pipe.specs.Lives.{unanswered_in, unread_dropped, unwritten_dropped, written_in}
 use Rattle.tko_pipe.specs.Pipes.{IsLive, PipeState, begun, lengths_of}
-
--- the first of those that are left leaves, and then those that followed it
-leaving_first : (left : Fates) (waiter : Waiter) (others : List Waiter)
-    → leaving left (waiter ∷ others)
-    ≡ record { waiter = waiter; came = fate_at left waiter.due }
-    ∷ leaving (record left { first = None }) others
-leaving_first left waiter [] = refl
-leaving_first left waiter (next_one ∷ others) = refl
-
--- what the items lead to, from a connection that was shut: those that waited leave
-record Leaves (old : PipeState) (left : Fates) (items : List PipeItem) (new : PipeState) : Type 0
-  where
-    only : items ≡ map Left (flat_map left_in items)
-    pushed : flat_map pushed_in items ≡ []
-    took : flat_map took_in items ≡ []
-    was_shut : flat_map shut_in items ≡ []
-    wrote : flat_map wrote_in items ≡ []
-    got : flat_map got_in items ≡ []
-    queue : old.waiting ≡ unanswered_in items ++ new.waiting
-    unwritten : new.unwritten ≡ old.unwritten
-    unread : new.unread ≡ old.unread
-    heard : new.heard ≡ heard_after old.heard items
-    fates : leaving left old.waiting ≡ flat_map left_in items ++ leaving_in new.link new.waiting
-
-leaves : (old new : PipeState) (items : List PipeItem) (left : Fates) → old.link ≡ Shut left
-    → Lead IsPipeStep old items new → Leaves old left items new
-leaves old new [] left e same = record {
-  only = refl;
-  pushed = refl;
-  took = refl;
-  was_shut = refl;
-  wrote = refl;
-  got = refl;
-  queue = sym (ap (λ (s : PipeState). s.waiting) same);
-  unwritten = ap (λ (s : PipeState). s.unwritten) same;
-  unread = ap (λ (s : PipeState). s.unread) same;
-  heard = ap (λ (s : PipeState). s.heard) same;
-  fates = sym (ap (λ (s : PipeState). leaving_in s.link s.waiting) same
-      ∙ ap (λ (l : Link). leaving_in l old.waiting) e);
-}
-leaves old new (Left it ∷ items) left e (mid, step, more) =
-    let same : step.left ≡ left = let both : Shut step.left ≡ Shut left = sym step.shut ∙ e in cc in
-    let link : mid.link ≡ Shut (record left { first = None }) =
-    ap (λ (s : PipeState). s.link) step.state
-    ∙ ap (λ (l : Fates). Shut (record l { first = None })) same in
-    let rest = leaves mid new items (record left { first = None }) link more in
-    let came : it.came ≡ fate_at left it.waiter.due =
-    step.came ∙ ap (λ (l : Fates). fate_at l it.waiter.due) same in
-    let is_it : it ≡ record { waiter = it.waiter; came = fate_at left it.waiter.due } =
-    ap (λ fate. record { waiter = it.waiter; came = fate }) came in
-    record {
-      only = ap (λ (xs : List PipeItem). Left it ∷ xs) rest.only;
-      pushed = rest.pushed;
-      took = rest.took;
-      was_shut = rest.was_shut;
-      wrote = rest.wrote;
-      got = rest.got;
-      queue = step.first ∙ ap (λ (xs : List Waiter). it.waiter ∷ xs) rest.queue;
-      unwritten = rest.unwritten ∙ ap (λ (s : PipeState). s.unwritten) step.state;
-      unread = rest.unread ∙ ap (λ (s : PipeState). s.unread) step.state;
-      heard = rest.heard ∙ ap (λ (s : PipeState). heard_after s.heard items) step.state;
-      fates = ap (leaving left) step.first
-          ∙ leaving_first left it.waiter mid.waiting
-          ∙ ap (λ (l : Leaving). l ∷ leaving (record left { first = None }) mid.waiting) (sym is_it)
-          ∙ ap (λ (xs : List Leaving). it ∷ xs) rest.fates;
-    }
-leaves old new (WasConnected ∷ items) left e (mid, step, more) =
-    absurd (let f = sym step.was_connecting ∙ e in cc)
-leaves old new (Pushed it ∷ items) left e (mid, step, more) = absurd (subst IsLive e step.live)
-leaves old new (Wrote bytes ∷ items) left e (mid, step, more) =
-    absurd (let f = sym step.connected ∙ e in cc)
-leaves old new (Got bytes now ∷ items) left e (mid, step, more) =
-    absurd (let f = sym step.connected ∙ e in cc)
-leaves old new (Took it ∷ items) left e (mid, step, more) =
-    absurd (let f = sym step.connected ∙ e in cc)
-leaves old new (WasShut it ∷ items) left e (mid, step, more) = absurd (subst IsLive e step.live)
+use Rattle.tko_pipe.proofs.LeavingLemmas.{leaves}
 
 -- what the items lead to, from a connection that was not shut
 record Leads (old : PipeState) (items : List PipeItem) (new : PipeState) : Type 0 where

@@ -1,9 +1,8 @@
 -- A response is taken from the front of a queue of bytes.
-use Rattle.std.proofs.Common.{◌≡◌, ◌≤◌, ◌-◌, ◌+◌, ℕ, List, [], ◌++◌, refl, sym, ap, subst, ◌∙◌, arith, length, append-nil, take, drop, Ok, Err, Result, IfErr}
+use Rattle.std.proofs.Common.{◌≡◌, ◌≤◌, ◌-◌, ◌+◌, ℕ, List, [], ◌++◌, sym, ap, subst, ◌∙◌, arith, length, append-nil, take, drop, Ok, Err}
 use Rattle.std.proofs.lemmas.List.{take-append-drop, drop-drop, length-drop, take_all}
 use Rattle.tko_text.specs.declared.request.Request.{Request}
 use Rattle.tko_text.specs.declared.response.Response.{Response}
-use Rattle.tko_text.specs.declared.response.fault.ReadFault.{ReadFault}
 use Rattle.tko_text.specs.declared.response.fault.ReadFault.TheVariants.{Memory}
 use Rattle.tko_text.specs.ResponseLengths.{IsLeastLength}
 use Rattle.tko_text.specs.Responses.{IsResponse, ReadsResponse}

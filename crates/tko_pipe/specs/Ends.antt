@@ -8,7 +8,7 @@ use Rattle.tko_pipe.specs.declared.waiter.Asker.{Asker}
 use Rattle.tko_pipe.specs.declared.waiter.Waiter.{Waiter}
 use Rattle.tko_pipe.specs.declared.fates.Fate.{Fate}
 use Rattle.tko_pipe.specs.declared.fates.ShutCause.{ShutCause}
-use Rattle.tko_pipe.specs.declared.fates.ShutCause.TheVariants.{EndOfInput, Fault, Silent, Late, Unreadable, Unasked, Memory}
+use Rattle.tko_pipe.specs.declared.fates.ShutCause.TheVariants.{Silent, Late, Unreadable, Unasked, Memory}
 use Rattle.tko_pipe.specs.Fates.{Leaving}
 use Rattle.tko_pipe.specs.Lives.{leaving_in}
 use Rattle.tko_pipe.specs.Pipes.{IsGot, IsLeft, IsShut, IsTaken, PipeState, is_asked, is_first_written, is_late, shutting}

@@ -1,5 +1,5 @@
 -- What becomes of the requests whose responses had not come when their connection was shut.
-use Rattle.std.specs.Prelude.{ℕ, nat_le, if◌then◌else◌, Option, Some, None, List, [], ◌∷◌, map, unwrap_or}
+use Rattle.std.specs.Prelude.{ℕ, nat_le, if◌then◌else◌, Some, List, [], ◌∷◌, map, unwrap_or}
 use Rattle.tko_pipe.specs.declared.waiter.Waiter.{Waiter}
 use Rattle.tko_pipe.specs.declared.fates.Behind.{Behind}
 use Rattle.tko_pipe.specs.declared.fates.Behind.TheVariants.{Each, LateAt}
@@ -9,7 +9,7 @@ use Rattle.tko_pipe.specs.declared.fates.Fates.{Fates}
 use Rattle.tko_pipe.specs.declared.fates.ShutCause.{ShutCause}
 use Rattle.tko_pipe.specs.declared.fates.ShutCause.TheVariants.{EndOfInput, Fault, Silent, Late, Unreadable, Unasked, Memory}
 use Rattle.tko_pipe.specs.declared.link.Link.{Link}
-use Rattle.tko_pipe.specs.declared.link.Link.TheVariants.{Connecting, Connected, Shut}
+use Rattle.tko_pipe.specs.declared.link.Link.TheVariants.{Connecting}
 
 -- the fate of one of those that follow the first, whose response is due at this moment
 abbrev pub fate_behind : Behind → ℕ → Fate

@@ -1,66 +1,58 @@
 -- Run lines: the steps of a thread until it has no call.
-use Rattle.std.proofs.Common.{◌≡◌, ℕ, zero, suc, ◌+◌, ◌-◌, ◌*◌, ◌<◌, ◌≤◌, Bool, true, false, cond, eqb, length, replicate, ◌⊎◌, inl, inr, refl, sym, ap, ◌∙◌, subst, arith}
-use Rattle.std.proofs.lemmas.Bool.{cases_Bool, cases_lt, cond_both, lt-ltb}
+use Rattle.std.proofs.Common.{◌≡◌, ℕ, zero, suc, ◌+◌, ◌-◌, ◌<◌, ◌≤◌, Bool, true, false, cond}
+use Rattle.std.proofs.Common.{length, replicate, ◌⊎◌, inl, inr, refl, sym, ap, ◌∙◌, subst, arith}
+use Rattle.std.proofs.lemmas.Bool.{cases_Bool, cases_lt, lt-ltb}
 use Rattle.std.proofs.lemmas.List.{get_or-set_same, get_or_past}
-use Rattle.tko_model.specs.declared.mark.Mark.TheVariants.{Soft}
-use Rattle.tko_model.specs.declared.mark.Reply.{Reply}
-use Rattle.tko_model.specs.declared.mark.Reply.TheVariants as reply
-use Rattle.tko_model.specs.declared.mark.Reply.TheVariants.{Contended}
-use Rattle.tko_model.specs.Settings.{Settings}
-use Rattle.tko_model.specs.declared.state.ServerState.{ServerState}
 use Rattle.tko_model.specs.Ranges.{IsWithinRanges}
-use Rattle.tko_model.specs.Tracker.{server_at}
 use Rattle.tko_runs.specs.declared.schedule.command.Command.TheVariants as command
 use Rattle.tko_runs.specs.Limits.{max_steps}
-use Rattle.tko_runs.specs.Plays.{Played, RunsToAnswers, after_all, after_commands, after_turn, enrolled, steps_to_answer}
+use Rattle.tko_runs.specs.Plays.{Played, RunsToAnswers, after_all, after_commands, after_turn}
+use Rattle.tko_runs.specs.Plays.{enrolled, steps_to_answer}
 use Rattle.tko_runs.specs.Schedules.{Plan}
 use Rattle.tko_runs.proofs.PlayLemmas.{IsRun-played, after_commands-push}
-use Rattle.tko_steps.specs.declared.phase.Call.{Call}
-use Rattle.tko_steps.specs.declared.phase.Phase.{Phase}
-use Rattle.tko_steps.specs.declared.phase.Phase.TheVariants.{Start, Read, AtThreshold, Limit, Reserving, Holding, Firming, Losing, Loosening, Loosened, Emptied}
-use Rattle.tko_steps.specs.declared.phase.Slots.{Slots}
 use Rattle.tko_steps.specs.declared.phase.ThreadState.{ThreadState}
 use Rattle.tko_steps.specs.declared.phase.ThreadState.TheVariants.{NotEnrolled, Idle, InCall}
-use Rattle.tko_steps.specs.declared.table.Action.TheVariants.{Exchange, Reserve}
-use Rattle.tko_steps.specs.declared.table.Decision.{Decision}
-use Rattle.tko_steps.specs.declared.table.Decision.TheVariants.{Goes, Answers}
-use Rattle.tko_steps.specs.Core.{CoreState, Shared, after_act, after_step, after_step_from, follows, has_call, seen_by, thread_at, slots_at}
-use Rattle.tko_steps.specs.Steps.{state_after, writes}
-use Rattle.tko_steps.specs.declared.step.Word.TheVariants as word
+use Rattle.tko_steps.specs.Core.{CoreState, after_act, after_step, after_step_from, follows}
+use Rattle.tko_steps.specs.Core.{has_call, thread_at}
+use Rattle.tko_steps.specs.Steps.{state_after}
 use Rattle.tko_steps.specs.Invariant.{IsCore}
-use Rattle.tko_steps.specs.Table.{action_of, at_threshold, from_start, goes, lost_try, next_of, same_server}
 use Rattle.tko_steps.specs.Runs.{Step}
-use Rattle.tko_steps.proofs.CostLemmas.{depth}
 use Rattle.tko_steps.proofs.PhaseStepLemmas.{IsCore-after_act, knows_at}
 use Rattle.tko_steps.proofs.RunLemmas.{Holds-run}
-use Rattle.tko_steps.proofs.StartLemmas.{from_start-is}
-use Rattle.tko_model.specs.Groups.{group_of, limit_at}
+use Rattle.tko_runs.proofs.StepsLeftLemmas.{left_of, most-left, nearer, some-left}
 
 -- a thread without a call takes no steps
-pub steps_to_answer-none : (most : ℕ) (core : CoreState) (thread : ℕ) → has_call (thread_at core thread) ≡ false
+pub steps_to_answer-none : (most : ℕ) (core : CoreState) (thread : ℕ)
+    → has_call (thread_at core thread) ≡ false
     → steps_to_answer most core thread ≡ 0
 unfolding steps_to_answer
 steps_to_answer-none zero core thread none = refl
 steps_to_answer-none (suc most) core thread none = rw none refl
 
 -- one with a call takes a step, and then those that are left
-pub steps_to_answer-more : (most : ℕ) (core : CoreState) (thread : ℕ) → has_call (thread_at core thread) ≡ true
-    → steps_to_answer (suc most) core thread ≡ suc (steps_to_answer most (after_step core thread) thread)
+pub steps_to_answer-more : (most : ℕ) (core : CoreState) (thread : ℕ)
+    → has_call (thread_at core thread) ≡ true
+    → steps_to_answer (suc most) core thread
+    ≡ suc (steps_to_answer most (after_step core thread) thread)
 unfolding steps_to_answer
 steps_to_answer-more most core thread calls = rw calls refl
 
 -- The loop over the steps of a run line.
 
 -- `p` is what is known of the player `q` by its parts
-pub sees_call : (p q : Played) (thread : ℕ) {result test : Bool} → p ≡ q → result ≡ has_call (thread_at p.core thread)
+pub sees_call : (p q : Played) (thread : ℕ) {result test : Bool} → p ≡ q → result
+    ≡ has_call (thread_at p.core thread)
     → result ≡ test → has_call (thread_at q.core thread) ≡ test
-sees_call p q thread is found tested = sym (ap (λ (r : Played). has_call (thread_at r.core thread)) is) ∙ sym found ∙ tested
+sees_call p q thread is found tested =
+    sym (ap (λ (r : Played). has_call (thread_at r.core thread)) is) ∙ sym found ∙ tested
 
 -- a step of a thread with a call
-pub run-more : (p new all : Played) (thread k : ℕ) → k < max_steps → has_call (thread_at p.core thread) ≡ true
+pub run-more : (p new all : Played) (thread k : ℕ) → k < max_steps
+    → has_call (thread_at p.core thread) ≡ true
     → new ≡ after_all p (replicate 1 (Step thread))
     → after_all p (replicate (steps_to_answer (max_steps - k) p.core thread) (Step thread)) ≡ all
-    → after_all new (replicate (steps_to_answer (max_steps - (k + 1)) new.core thread) (Step thread)) ≡ all
+    → after_all new (replicate (steps_to_answer (max_steps - (k + 1)) new.core thread)
+    (Step thread)) ≡ all
 run-more p new all thread k low calls stepped is =
     let one : max_steps - k ≡ suc (max_steps - (k + 1)) = omega (arith, low) in
     let steps = ap (λ most. steps_to_answer most p.core thread) one
@@ -75,112 +67,18 @@ run-more p new all thread k low calls stepped is =
 pub run-answered : (p all : Played) (thread most : ℕ) → has_call (thread_at p.core thread) ≡ false
     → after_all p (replicate (steps_to_answer most p.core thread) (Step thread)) ≡ all → p ≡ all
 run-answered p all thread most none is =
-    sym (ap (λ n. after_all p (replicate n (Step thread))) (steps_to_answer-none most p.core thread none)) ∙ is
+    sym (ap (λ n. after_all p (replicate n (Step thread)))
+    (steps_to_answer-none most p.core thread none)) ∙ is
 
 -- as many steps as there may be
 pub run-most : (p all : Played) (thread k : ℕ) → max_steps ≤ k
-    → after_all p (replicate (steps_to_answer (max_steps - k) p.core thread) (Step thread)) ≡ all → p ≡ all
+    → after_all p (replicate (steps_to_answer (max_steps - k) p.core thread) (Step thread)) ≡ all
+    → p ≡ all
 unfolding steps_to_answer
 run-most p all thread k high is =
     let none : max_steps - k ≡ 0 = omega (arith, high) in
-    sym (ap (λ most. after_all p (replicate (steps_to_answer most p.core thread) (Step thread))) none) ∙ is
-
--- The most steps of a run line are enough.
-
--- at most so many steps are left of a call
-abbrev left_of : Settings → ThreadState → ℕ
-left_of s NotEnrolled = 0
-left_of s (Idle number) = 0
-left_of s (InCall call phase) = 5 * (s.tries - call.lost) - depth phase
-
-module _ (s : Settings) (call : Call) (left : call.lost < s.tries) where
-  -- what follows a step leaves fewer
-  abbrev IsNearer : ℕ → Decision → Type 0
-  IsNearer before decision = left_of s (state_after call decision) < before
-
-  nearer-lost : (before : ℕ) → 5 * (s.tries - call.lost) < before + 5 → IsNearer before (lost_try s call)
-  nearer-lost before less =
-      cond_both (eqb s.tries (call.lost + 1)) (Answers Contended) (Goes (call.lost + 1) Start) (IsNearer before)
-      (λ e. omega (arith, left, less))
-      (λ e. omega (arith, left, less))
-
-  nearer-won : (before : ℕ) (won : Bool) (wins : Decision) → IsNearer before wins → 5 * (s.tries - call.lost) < before + 5
-      → IsNearer before (cond won wins (lost_try s call))
-  nearer-won before won wins near less =
-      cond_both won wins (lost_try s call) (IsNearer before) (λ e. near) (λ e. nearer-lost before less)
-
-  -- what follows the look that begins a try
-  abbrev IsBegun : Decision → Type 0
-  IsBegun decision = IsNearer (5 * (s.tries - call.lost)) decision
-
-  begun-answers : (answer : Reply) → IsBegun (Answers answer)
-  begun-answers answer = omega (arith, left)
-
-  begun-goes : (phase : Phase) → 1 ≤ depth phase → IsBegun (goes call phase)
-  begun-goes phase low = omega (arith, left, low)
-
-  begun-from_start : (found : ServerState) → IsBegun (from_start s call found)
-  begun-from_start found =
-      from_start-is s call found IsBegun
-      (λ answer is_answer is. begun-answers answer)
-      (λ soft fresh is. begun-goes (AtThreshold found) (omega arith))
-      (λ mark answer put can by is. begun-goes (Read found mark answer) (omega arith))
-      (λ mark answer put can own is. begun-goes (Loosening found mark answer) (omega arith))
-
-  nearer-at_threshold : (found : ServerState) (slots : Slots)
-      → IsNearer (5 * (s.tries - call.lost) - 1) (at_threshold s call found slots)
-  nearer-at_threshold found slots =
-      let before = 5 * (s.tries - call.lost) - 1 in
-      let full = eqb (slots.firm + slots.held) (limit_at s call.server) in
-      cond_both (eqb slots.firm (limit_at s call.server)) (goes call (Limit found)) (cond full (lost_try s call) (goes call (Reserving found slots))) (IsNearer before)
-      (λ e. omega (arith, left))
-      (λ e. cond_both full (lost_try s call) (goes call (Reserving found slots)) (IsNearer before)
-      (λ none. nearer-lost before (omega (arith, left)))
-      (λ room. omega (arith, left)))
-
-  -- each step of a call leaves fewer
-  nearer : (shared : Shared) (phase : Phase)
-      → IsNearer (5 * (s.tries - call.lost) - depth phase) (next_of s call phase (seen_by s shared call.server (action_of call.number phase)))
-  nearer shared Start =
-      let found = server_at shared.servers call.server in
-      let all : 5 * (s.tries - call.lost) ≡ 5 * (s.tries - call.lost) - 0 = omega arith in
-      let P : ℕ → Type 0 = λ before. IsNearer before (from_start s call found) in
-      subst P all (begun-from_start found)
-  nearer shared (Read found mark answer) =
-      nearer-won _ (writes (Exchange found mark) (word.Server (server_at shared.servers call.server))) (Answers answer) (omega (arith, left)) (omega (arith, left))
-  nearer shared (AtThreshold found) = nearer-at_threshold found (slots_at shared.slots (group_of s call.server))
-  nearer shared (Limit found) =
-      nearer-won _ (same_server found (server_at shared.servers call.server)) (Answers reply.Full) (omega (arith, left)) (omega (arith, left))
-  nearer shared (Reserving found slots) =
-      nearer-won _ (writes (Reserve slots) (word.Soft (slots_at shared.slots (group_of s call.server)))) (goes call (Holding found)) (omega (arith, left)) (omega (arith, left))
-  nearer shared (Holding found) =
-      let before = 5 * (s.tries - call.lost) - 3 in
-      cond_both (writes (Exchange found (Soft call.number)) (word.Server (server_at shared.servers call.server))) (goes call Firming) (goes call Losing) (IsNearer before)
-      (λ e. omega (arith, left)) (λ e. omega (arith, left))
-  nearer shared Firming = omega (arith, left)
-  nearer shared Losing = nearer-lost _ (omega (arith, left))
-  nearer shared (Loosening found mark answer) = omega (arith, left)
-  nearer shared (Loosened found mark answer) = omega (arith, left)
-  nearer shared (Emptied answer) = omega (arith, left)
-
-  -- a call has a step left, and no more than five for each try
-  some-left : (phase : Phase) → 1 ≤ left_of s (InCall call phase)
-  some-left Start = omega (arith, left)
-  some-left (Read found mark answer) = omega (arith, left)
-  some-left (AtThreshold found) = omega (arith, left)
-  some-left (Limit found) = omega (arith, left)
-  some-left (Reserving found slots) = omega (arith, left)
-  some-left (Holding found) = omega (arith, left)
-  some-left Firming = omega (arith, left)
-  some-left Losing = omega (arith, left)
-  some-left (Loosening found mark answer) = omega (arith, left)
-  some-left (Loosened found mark answer) = omega (arith, left)
-  some-left (Emptied answer) = omega (arith, left)
-
-most-left : (s : Settings) (state : ThreadState) → IsWithinRanges s → left_of s state ≤ max_steps
-most-left s NotEnrolled ranges = omega arith
-most-left s (Idle number) ranges = omega arith
-most-left s (InCall call phase) ranges = omega (arith, ranges.tries.1)
+    sym (ap (λ most. after_all p (replicate (steps_to_answer most p.core thread)
+    (Step thread))) none) ∙ is
 
 -- A thread that takes steps until its call is answered.
 
@@ -197,10 +95,13 @@ is_inside core thread calls (inr high) =
 record IsAhead (core new : CoreState) (thread : ℕ) : Type 0 where
   is : IsCore new
   settings : new.settings ≡ core.settings
-  fewer : left_of core.settings (thread_at new thread) < left_of core.settings (thread_at core thread)
+  fewer : left_of core.settings (thread_at new thread) < left_of core.settings
+      (thread_at core thread)
 
-ahead-from : (core : CoreState) (thread : ℕ) (state : ThreadState) → IsCore core → thread < length core.threads
-    → thread_at core thread ≡ state → has_call state ≡ true → IsAhead core (after_step_from core thread state) thread
+ahead-from : (core : CoreState) (thread : ℕ) (state : ThreadState) → IsCore core
+    → thread < length core.threads
+    → thread_at core thread ≡ state → has_call state ≡ true
+    → IsAhead core (after_step_from core thread state) thread
 ahead-from core thread NotEnrolled is inside stands calls = cc
 ahead-from core thread (Idle number) is inside stands calls = cc
 ahead-from core thread (InCall call phase) is inside stands calls =
@@ -224,12 +125,14 @@ ahead core thread is calls =
     (ahead-from core thread (thread_at core thread) is low refl calls)
 
 -- a thread with no step left has no call
-none-left : (core : CoreState) (thread : ℕ) (state : ThreadState) → IsCore core → thread_at core thread ≡ state
+none-left : (core : CoreState) (thread : ℕ) (state : ThreadState) → IsCore core
+    → thread_at core thread ≡ state
     → left_of core.settings state ≤ 0 → has_call state ≡ false
 none-left core thread NotEnrolled is stands none = refl
 none-left core thread (Idle number) is stands none = refl
 none-left core thread (InCall call phase) is stands none =
-    let inside = is_inside core thread (ap has_call stands) (cases_lt thread (length core.threads)) in
+    let inside = is_inside core thread (ap has_call stands)
+    (cases_lt thread (length core.threads)) in
     let tries = (knows_at core thread call is inside phase stands).1 in
     absurd (omega (arith, none, some-left core.settings call tries phase))
 
@@ -238,13 +141,16 @@ after_steps : ℕ → CoreState → ℕ → CoreState
 after_steps zero core thread = core
 after_steps (suc n) core thread = after_steps n (after_step core thread) thread
 
-core-after_all : (p : Played) (thread n : ℕ) → (after_all p (replicate n (Step thread))).core ≡ after_steps n p.core thread
+core-after_all : (p : Played) (thread n : ℕ) → (after_all p (replicate n (Step thread))).core
+    ≡ after_steps n p.core thread
 unfolding after_steps
 core-after_all p thread zero = refl
 core-after_all p thread (suc n) = core-after_all (after_turn p (Step thread)) thread n
 
-answered-steps : (most : ℕ) (core : CoreState) (thread : ℕ) → IsCore core → left_of core.settings (thread_at core thread) ≤ most
-    → has_call (thread_at (after_steps (steps_to_answer most core thread) core thread) thread) ≡ false
+answered-steps : (most : ℕ) (core : CoreState) (thread : ℕ) → IsCore core
+    → left_of core.settings (thread_at core thread) ≤ most
+    → has_call (thread_at (after_steps (steps_to_answer most core thread) core thread) thread)
+    ≡ false
 unfolding steps_to_answer after_steps
 answered-steps zero core thread is few = none-left core thread (thread_at core thread) is refl few
 answered-steps (suc most) core thread is few =
@@ -254,8 +160,10 @@ answered-steps (suc most) core thread is few =
           let new = after_step core thread in
           let on = ahead core thread is calls in
           let fewer : left_of new.settings (thread_at new thread) ≤ most =
-          subst (λ s. left_of s (thread_at new thread) ≤ most) (sym on.settings) (omega (arith, on.fewer, few)) in
-          subst P (sym (steps_to_answer-more most core thread calls)) (answered-steps most new thread on.is fewer)
+          subst (λ s. left_of s (thread_at new thread) ≤ most) (sym on.settings)
+          (omega (arith, on.fewer, few)) in
+          subst P (sym (steps_to_answer-more most core thread calls))
+          (answered-steps most new thread on.is fewer)
       | inr none ↦ subst P (sym (steps_to_answer-none (suc most) core thread none)) none
     ]
 
@@ -268,6 +176,8 @@ runs_to_answers plan ranges before others thread split =
     let core : IsCore p.core = subst IsCore (sym is.core) holds.core in
     let n = steps_to_answer max_steps p.core thread in
     let P : CoreState → Type 0 = λ it. has_call (thread_at it thread) ≡ false in
-    ap (λ (p : Played). has_call (thread_at p.core thread)) (after_commands-push opened before (command.Run thread))
+    ap (λ (p : Played). has_call (thread_at p.core thread))
+    (after_commands-push opened before (command.Run thread))
     ∙ subst P (sym (core-after_all p thread n))
-    (answered-steps max_steps p.core thread core (most-left p.core.settings (thread_at p.core thread) core.settings))
+    (answered-steps max_steps p.core thread core
+    (most-left p.core.settings (thread_at p.core thread) core.settings))

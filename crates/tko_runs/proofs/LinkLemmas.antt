@@ -28,7 +28,8 @@ use Rattle.tko_steps.specs.Runs.{Turn, Moment, World, run, start}
 use Rattle.tko_steps.specs.Core.{CoreState, abstract_of, follows, thread_at, word_at}
 use Rattle.tko_steps.specs.Steps.{answer_of, kind_of, place_of, state_after, word_after}
 use Rattle.tko_steps.specs.Table.{action_of}
-use Rattle.tko_runs.proofs.ActLemmas.{Acts, acts}
+use Rattle.tko_runs.proofs.ActLemmas.{acts}
+use Rattle.tko_runs.proofs.WordActLemmas.{Acts}
 use Rattle.tko_runs.proofs.EventLemmas.{AllFollow-push, claimed_after_all-push}
 use Rattle.tko_model.specs.Tracker.{server_at}
 use Rattle.tko_steps.proofs.EveryTurnLemmas.{HoldsBoth, along}

@@ -1,6 +1,8 @@
 -- The text of a run, in the form of a version: a line for each event and skipped turn, then one for
 -- each call, each server and each soft word, and `ok`.
-use Rattle.std.specs.Prelude.{ℕ, ◌+◌, ◌-◌, List, [], ◌∷◌, ◌++◌, take, drop, codes, decimal, if◌then◌else◌, Option, Some, None}
+use Rattle.std.specs.Prelude.{ℕ, ◌+◌, ◌-◌, List, [], ◌∷◌, ◌++◌, take, drop, codes, decimal}
+use Rattle.std.specs.Prelude.{if◌then◌else◌, Option, Some, None}
+use Rattle.tko_bytes.specs.Lines.{line_feed}
 use Rattle.tko_model.specs.declared.mark.Op.{Op}
 use Rattle.tko_model.specs.declared.mark.Reply.{Reply}
 use Rattle.tko_model.specs.declared.state.ServerState.{ServerState}
@@ -28,7 +30,7 @@ use Rattle.tko_steps.specs.Core.{is_call_step}
 use Rattle.tko_steps.specs.Runs.{count_of}
 
 abbrev pub line : List ℕ → List ℕ
-line text = text ++ 10 ∷ []
+line text = text ++ line_feed ∷ []
 
 abbrev pub begin_text : ℕ → Op → ℕ → List ℕ
 begin_text thread op server =

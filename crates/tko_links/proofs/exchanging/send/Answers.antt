@@ -1,5 +1,7 @@
 use Rattle.std.proofs.Common.{◌-◌, ◌∙◌, length, take, drop, arith, rules}
-use Rattle.tko_links.proofs.ExchangeLemmas.{left_is_some, left_within, part_failed, sends_failed, sends_stuck, sent_more, wrote_none}
+use Rattle.tko_links.proofs.ConnectLemmas.{part_failed}
+use Rattle.tko_links.proofs.SendLemmas.{left_is_some, left_within, sends_failed, sends_stuck}
+use Rattle.tko_links.proofs.SendLemmas.{sent_more, wrote_none}
 use Rattle.tko_links.proofs.PartLemmas.{part_as, part_kept, refusals_are}
 use Rattle.tko_links.proofs.exchanging.send.Goals as goal
 
@@ -12,7 +14,9 @@ returns-in-Ok-eq0 g c =
     sends_stuck sent
     (part_as (wrote_none c.args.server piece c.in-Ok-eq0.field-0 (search rules))
     (part_kept called.record sent.part.connection called.kept
-    (omega (arith, called.failures, refusals_are c.args.server piece c.in-Ok-eq0.field-0 some)) called.servers))
+    (omega
+    (arith, called.failures, refusals_are c.args.server piece c.in-Ok-eq0.field-0 some))
+    called.servers))
 
 pub loop-at-preserved : goal.loop-at-preserved
 loop-at-preserved g c =
@@ -24,7 +28,9 @@ loop-at-preserved g c =
       called.servers ∙ c.loop-at.invariant.1,
       sent_more c.in-Ok.count sent
           (part_kept called.record sent.part.connection called.kept
-          (omega (arith, called.failures, refusals_are c.args.server piece c.in-Ok.count some)) called.servers),
+          (omega
+          (arith, called.failures, refusals_are c.args.server piece c.in-Ok.count some))
+          called.servers),
     )
 
 pub returns-in-Err : goal.returns-in-Err
@@ -33,4 +39,5 @@ returns-in-Err g c =
     let called = c.in-Err.ensures in
     rw c.of.ensures
     (sends_failed c.in-Err.fault sent
-    (part_failed c.in-Err.fault called.record sent.part.connection called.kept called.failures called.servers))
+    (part_failed c.in-Err.fault called.record sent.part.connection called.kept called.failures
+    called.servers))

@@ -1,4 +1,4 @@
-use Rattle.std.proofs.Common.{◌≡◌, Err, ℕ, List, rules, subst, sym}
+use Rattle.std.proofs.Common.{Err, ℕ, List, rules, subst, sym}
 use Rattle.tko_text.specs.Responses.{ReadsResponse}
 use Rattle.tko_text.specs.declared.response.fault.ReadFault.TheVariants as read_fault
 use Rattle.tko_links.specs.Incoming.{arrival}

@@ -1,5 +1,6 @@
 use Rattle.std.proofs.Common.{rules}
-use Rattle.tko_mux.proofs.ReadLemmas.{left_free, left_told, line_linked, none_leave_now, none_left}
+use Rattle.tko_mux.proofs.ReadLemmas.{line_linked}
+use Rattle.tko_mux.proofs.LeaveLemmas.{left_free, left_told, none_leave_now, none_left}
 use Rattle.tko_mux.proofs.mux.Mux.leave.Goals as goal
 
 pub deliver-requires-clause-free : goal.deliver-requires-clause-free

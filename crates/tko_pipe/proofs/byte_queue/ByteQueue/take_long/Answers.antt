@@ -1,4 +1,4 @@
-use Rattle.std.proofs.Common.{rules, ◌≡◌, drop, length, Ok}
+use Rattle.std.proofs.Common.{rules, Ok}
 use Rattle.std.proofs.lemmas.Result.{err_from_is_err_and}
 use Rattle.tko_text.specs.Responses.{ReadsResponse}
 use Rattle.tko_pipe.proofs.QueueLemmas.{behind_least, least_reached, long_read, memory_read}
