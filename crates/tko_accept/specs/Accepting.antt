@@ -1,5 +1,6 @@
--- What an accept came to, and why accepting ends.
-use Rattle.std.specs.Prelude.{◌≡◌, ◌≤◌, ◌<◌, ◌⊎◌, ◌+◌, ◌-◌, ◌^◌, ◌↔◌, ℕ, ℤ, pos, min, Bool, true, false, Result, Ok, Err, Some}
+-- The result of an accept, and why accepting ends.
+use Rattle.std.specs.Prelude.{◌≡◌, ◌≤◌, ◌<◌, ◌⊎◌, ◌+◌, ◌-◌, ◌^◌, ◌↔◌, ℕ, ℤ, pos, min, Bool, true}
+use Rattle.std.specs.Prelude.{false, Result, Ok, Err, Some}
 use Rattle.std.specs.IoError.{raw_os_error}
 use Rattle.std.specs.declared.io.Error.{Error}
 use Rattle.std.specs.declared.io.ErrorKind.{ErrorKind}
@@ -11,29 +12,31 @@ use Rattle.tko_accept.specs.declared.listening.AcceptStop.{AcceptStop}
 use Rattle.tko_accept.specs.declared.listening.AcceptStop.TheVariants as stop
 use Rattle.tko_accept.specs.declared.listening.Listening.{Listening}
 
--- the errors that Linux calls EBADF, EINVAL and ENOTSOCK: no open descriptor, a socket that does not
--- listen, and no socket
+-- Linux' error number EBADF: the descriptor is not open
 abbrev pub bad_descriptor : ℤ
 bad_descriptor = pos 9
 
+-- Linux' error number EINVAL, here: the socket does not listen
 abbrev pub does_not_listen : ℤ
 does_not_listen = pos 22
 
+-- Linux' error number ENOTSOCK: the descriptor is not a socket
 abbrev pub no_socket : ℤ
 no_socket = pos 88
 
--- the error of an accept at what is no listener
+-- the error says that the descriptor is not an open, listening socket
 abbrev pub IsBroken : Error → Type 0
 IsBroken error = (raw_os_error error ≡ Some bad_descriptor)
     ⊎ (raw_os_error error ≡ Some does_not_listen) ⊎ (raw_os_error error ≡ Some no_socket)
 
--- what any other error of an accept is
+-- why an accept failed with any other error
 abbrev pub stop_of_kind : ErrorKind → AcceptStop
 stop_of_kind kind.WouldBlock = stop.Nobody
 stop_of_kind kind.ConnectionAborted = stop.Aborted
 stop_of_kind _ = stop.Failed
 
--- how many connections there are after an accept, if there were `count`; it stays at 2^64 - 1
+-- how many connections were accepted after this accept, of which `count` were before it; at most
+-- 2^64 - 1
 abbrev pub count_after : {S : Type 0} → ℕ → Result S AcceptStop → ℕ
 count_after count (Ok stream) = min (2 ^ 64 - 1) (count + 1)
 count_after count (Err stop) = count
@@ -48,10 +51,10 @@ is_broken (Err _) = false
 pub record HasAccepted {W : Type 0} (connections : ℕ) (listening : Listening)
     (entrance : Entrance W) (ended : AcceptEnd) : Type 0
   where
-    -- all of them were accepted, and none more
+    -- it ends with `Enough` only once that many were accepted, and never accepts more
     pub enough : ended ≡ Enough → (0 < connections) × (listening.accepted ≡ connections)
     pub within : 0 < connections → listening.accepted ≤ connections
-    -- it ends for want of a worker exactly where there was none for a connection
+    -- it ends with `NoWorker` exactly if no worker took one of the connections
     pub no_worker : (ended ≡ NoWorker) ↔ (entrance.has_worker ≡ false)
-    -- it ends by a fault of its own exactly where the listener is broken
+    -- it ends with `Broken` exactly if the listener is broken
     pub broken : (ended ≡ Broken) ↔ (listening.is_broken ≡ true)

@@ -11,16 +11,34 @@ other_files = 16
 abbrev pub most_waiting : ℕ
 most_waiting = 64
 
--- each worker has a connection to each server, a client, and two more while it looks up the name of
--- a host; and some clients wait
+-- the descriptors that the system's resolver opens for a worker while it looks up a host's name
+abbrev pub look_up_files : ℕ
+look_up_files = 2
+
+-- the descriptors of an event-driven worker beside its connections to the servers: its poll, its
+-- waker, and a new connection that is about to replace another
+abbrev pub event_files : ℕ
+event_files = 3
+
+-- how many clients an event-driven server may have where nothing limits them
+abbrev pub clients_without_limit : ℕ
+clients_without_limit = 2 ^ 32 - 1
+
+-- the most descriptors that one worker may need, so that no sum of them overflows
+abbrev pub most_of_worker : ℕ
+most_of_worker = 2 ^ 33
+
+-- each worker has a connection to each server, the descriptors of a look-up, and a client; beside
+-- that, some clients wait for a worker
 abbrev pub needed_files : ℕ → ℕ → ℕ
 needed_files threads servers =
-    min (2 ^ 64 - 1) (threads * (servers + 3) + (other_files + most_waiting))
+    min (2 ^ 64 - 1)
+    (threads * (servers + look_up_files + 1) + (other_files + most_waiting))
 
--- each event-driven worker has a connection to each server, a poll, a waker and one to spare
+-- each event-driven worker has a connection to each server beside its own descriptors
 abbrev pub needed_by_events : ℕ → ℕ → ℕ → ℕ
 needed_by_events threads servers clients =
-    min (2 ^ 64 - 1) (threads * (servers + 3) + other_files + clients)
+    min (2 ^ 64 - 1) (threads * (servers + event_files) + other_files + clients)
 
 -- `workers` workers, each with `each` descriptors beside its client's, and `clients` clients
 pub record Fits (limit threads each workers clients : ℕ) : Type 0 where

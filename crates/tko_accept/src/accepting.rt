@@ -23,7 +23,7 @@ pub enum AcceptEnd {
     Broken,
 }
 
-/// Where connections come in, each of which gets a place and goes on to the workers by this way.
+/// Gives each accepted connection a place in the room, and hands it to the workers by `way`.
 #[derive(Drop)]
 pub struct Entrance<W> {
     room: Arc<Room, Global>,
@@ -34,9 +34,10 @@ pub struct Entrance<W> {
     has_worker: bool,
 }
 
-/// Accepts connections while there is room for them, and sends each to the workers, until there
-/// were `connections` of them, where 0 is no limit, or until no worker is left. An accept that
-/// failed is made again once a client has left, or after a tenth of a second.
+/// Accepts connections while there is room for them, and hands each to the workers. It ends after
+/// `connections` of them, where 0 is no limit, when no worker is left, or when the listener is
+/// broken. Any other accept that fails is tried again, after a lack of descriptors or memory once a
+/// client has left or a tenth of a second has passed.
 pub fn accept_all<R: Wait, W: Way>(
     rt: &R,
     alloc: Global,
@@ -75,7 +76,7 @@ pub fn accept_all<R: Wait, W: Way>(
 }
 
 impl<W: Way> Entrance<W> {
-    /// The entrance to this room, from which clients go on by this way.
+    /// An entrance to this room, which hands clients to the workers by `way`.
     pub fn new(room: Arc<Room, Global>, way: W, patience: Patience, log: Log) -> Entrance<W>
         ensures worker { result.has_worker ≡ true }
         ensures patience { result.patience ≡ patience }
@@ -89,8 +90,8 @@ impl<W: Way> Entrance<W> {
         }
     }
 
-    /// Sends a connection to the workers, and returns whether there is one. A connection whose
-    /// socket cannot be set up, or for which there is no memory, is closed at once. That is counted
+    /// Hands a connection to the workers, and returns whether a worker is left. A connection whose
+    /// socket cannot be set up, or for which there is no memory, is closed at once. It is counted
     /// as a session that ended by a fault.
     fn admit<R: Wait>(&mut self, rt: &R, alloc: Global, stream: TcpStream) -> bool
         ensures worker { self.new.has_worker ≡ (self.old.has_worker && result) }
@@ -109,7 +110,7 @@ impl<W: Way> Entrance<W> {
         }
     }
 
-    /// Sends a client to the workers, and returns whether there is one.
+    /// Hands a client to the workers, and returns whether a worker takes it.
     fn send<R: Wait>(&mut self, rt: &R, client: W::Client) -> bool
         ensures worker { self.new.has_worker ≡ (self.old.has_worker && result) }
         ensures closed { OnFalse result (W.is_closed self.new.way) }
@@ -119,7 +120,8 @@ impl<W: Way> Entrance<W> {
         is_sent
     }
 
-    /// The client at the other end of a connection, which has its place in the room.
+    /// Makes the client of a connection, with a place in the room; `None` if its socket cannot be
+    /// set up.
     fn client(&self, alloc: Global, stream: TcpStream) -> Result<Option<W::Client>, AllocError> {
         if self.patience.set(&stream).is_err() {
             return Ok(None);

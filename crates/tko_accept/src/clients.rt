@@ -13,27 +13,27 @@ use std::time::Duration;
 use tko_io::{IoRuntime, MonotonicClock, Piped};
 use tko_threads::{IDLE, Next, Patience, Source};
 
-/// A client's connection, which both its ends share, so that it has one descriptor. The socket is
-/// closed before the place is given back.
+/// A client's connection. Both its ends share it, so that a client takes one descriptor. The socket
+/// is closed before the place is freed.
 #[derive(Drop)]
 struct Connection {
     stream: TcpStream,
     place: ClientPlace,
 }
 
-/// What a client sends.
+/// The end of a connection from which the client's bytes are read.
 #[derive(Drop)]
 pub struct Incoming {
     connection: Arc<Connection, Global>,
 }
 
-/// What is sent to a client.
+/// The end of a connection to which the client's replies are written.
 #[derive(Drop)]
 pub struct Outgoing {
     connection: Arc<Connection, Global>,
 }
 
-/// A client: the two ends of its connection, and how long it is waited for.
+/// A client: the two ends of its connection, and its time limits.
 #[derive(Drop)]
 pub struct Client {
     reader: Piped<Incoming>,
@@ -42,7 +42,7 @@ pub struct Client {
 }
 
 impl Client {
-    /// The client whose socket was set up with this patience.
+    /// The client of a connection whose socket was set up with these time limits.
     pub(crate) fn new(
         alloc: Global,
         stream: TcpStream,
@@ -68,8 +68,8 @@ impl Read for Incoming {
     }
 }
 
-/// A write that waited for its turn in vain is to be made again. How long a client may keep its
-/// worker so is judged by `Paced`.
+/// A write that times out fails with `Interrupted`, so that its caller tries it again. `Paced`
+/// decides how often a client may have its worker do so.
 impl Write for Outgoing {
     fn write(&mut self, buf: &[u8]) -> io::Result<usize> {
         match (&self.connection.stream).write(buf) {
@@ -85,11 +85,11 @@ impl Write for Outgoing {
     }
 }
 
-/// The clients that were accepted, from a channel. A worker for which the process has no
-/// descriptors has none.
+/// The accepted clients, received from a channel. A worker for which the process has no descriptors
+/// has no channel, and gets no clients.
 #[derive(Drop)]
 pub struct Clients {
-    /// Until the first one was asked for.
+    /// Present until the worker has asked for its first client.
     pub first_ask: Option<FirstAsk>,
     pub accepted: Option<Receiver<Client>>,
 }

@@ -6,13 +6,13 @@ use crossbeam_channel::{Receiver, Sender, bounded};
 use std::alloc::{AllocError, Global};
 use std::sync::Wait;
 
-/// With whom a worker reports that it asks for its first connection.
+/// Lets one worker report that it asks for its first connection.
 #[derive(Drop)]
 pub struct FirstAsk {
     reports: Sender<()>,
 }
 
-/// The reports of all workers.
+/// Receives the reports of all workers.
 #[derive(Drop)]
 pub struct FirstAsks {
     reports: Receiver<()>,
@@ -20,7 +20,7 @@ pub struct FirstAsks {
     pub missing: u32,
 }
 
-/// The reports of so many workers, and the means of one of them to report.
+/// The receiver of the reports of `workers` workers, and what one of them reports by.
 pub fn first_asks_of(alloc: Global, workers: u32) -> Result<(FirstAsk, FirstAsks), AllocError>
     ensures { IfOk result (λ both. both.1.missing ≡ workers) }
 {
@@ -33,21 +33,21 @@ pub fn first_asks_of(alloc: Global, workers: u32) -> Result<(FirstAsk, FirstAsks
 }
 
 impl FirstAsk {
-    /// The means of another worker.
+    /// What another worker reports by.
     pub fn another(&self) -> Result<FirstAsk, AllocError> {
         let reports = self.reports.clone()?;
         Ok(FirstAsk { reports })
     }
 
-    /// The worker asks. Where nobody waits for the report any more, it is lost.
+    /// Reports that the worker asks. If nobody waits for reports any more, this one is lost.
     pub fn report<R: Wait>(self, rt: &R) {
         let _ = self.reports.send(rt, ());
     }
 }
 
 impl FirstAsks {
-    /// Waits until each worker has reported. Returns whether all did: a worker that ends before
-    /// never does.
+    /// Waits until each worker has reported, and returns whether all did: a worker that ends before
+    /// its report never does.
     pub fn hear_all<R: Wait>(&mut self, rt: &R) -> bool
         ensures { result ≡ true → HaveAllAsked self.new }
     {
@@ -59,7 +59,7 @@ impl FirstAsks {
         true
     }
 
-    /// Waits until another worker has reported. Returns whether it did.
+    /// Waits for one more worker's report, and returns whether it came.
     fn hear<R: Wait>(&mut self, rt: &R) -> bool
         requires { 0 < self.old.missing }
         ensures { result ≡ true → self.new.missing + 1 ≡ self.old.missing }

@@ -1,12 +1,13 @@
-//! The clients that come: a thread accepts their connections and hands them to workers.
+//! Accepting clients: a thread accepts their connections and hands them to workers.
 //!
-//! - `Listening`: the listener, and what its accepts came to. `accept_all` accepts from it, and an
-//!   `AcceptEnd` says why it ended.
-//! - `Entrance`: where a connection comes in; a `Room` has places for so many clients, and a
-//!   client keeps its `ClientPlace` until it is closed.
-//! - `Way`: how clients go on to the workers; `OneQueue` is that of workers that serve one client
-//!   after another.
-//! - `Client`: a client's two ends over TCP; `Clients` is the source of a worker's.
+//! - `Listening`: the listener, and the results of its accepts. `accept_all` accepts from it, and
+//!   an `AcceptEnd` says why it ended.
+//! - `Entrance`: gives each connection a place and hands it to the workers. A `Room` has a limited
+//!   number of places, and a client keeps its `ClientPlace` until it is closed.
+//! - `Way`: how a client is handed to a worker; `OneQueue` does so for workers that serve one
+//!   client after another.
+//! - `Client`: the two ends of a client's connection over TCP; `Clients` is a worker's source of
+//!   them.
 //! - `FirstAsks`: whether each worker has asked for its first connection, which it reports by its
 //!   `FirstAsk`.
 //! - `Allotment`: how many workers and clients the process has descriptors for.

@@ -1,4 +1,4 @@
-//! The listener, and what its accepts came to.
+//! The listener, and the results of its accepts.
 ghost use Rattle.std.specs.Prelude.{◌≡◌, ◌⊎◌, ◌↔◌, ◌||◌, false, IsTrue};
 ghost use Rattle.std.specs.IoError.{error_kind};
 ghost use Rattle.tko_accept.specs.Accepting.{IsBroken, count_after, is_broken, stop_of_kind};
@@ -10,35 +10,35 @@ use std::net::{TcpListener, TcpStream};
 use std::os::fd::{AsRawFd, OwnedFd};
 use std::time::Duration;
 
-/// The system's number of a descriptor that is not open.
+/// Linux' error number EBADF: the descriptor is not open.
 const BAD_DESCRIPTOR: i32 = 9;
 
-/// The system's number of a socket that does not listen.
+/// Linux' error number EINVAL, here: the socket does not listen.
 const INVALID: i32 = 22;
 
-/// The system's number of a descriptor that is no socket.
+/// Linux' error number ENOTSOCK: the descriptor is not a socket.
 const NO_SOCKET: i32 = 88;
 
-/// How many milliseconds an accept waits for a connection.
+/// For how many milliseconds an accept waits for a connection.
 const PATIENCE: u64 = 100;
 
-/// How many connections may wait to be accepted, where the system has no lower limit.
+/// How many connections may wait to be accepted, unless the system has a lower limit.
 const BACKLOG: i32 = 1_024;
 
 /// Why an accept gave no connection.
 #[derive(Clone, Copy, Debug, PartialEq, Eq)]
 pub(crate) enum AcceptStop {
-    /// No connection came for a while.
+    /// No connection came within `PATIENCE`.
     Nobody,
-    /// A client gave its connection up before it was accepted.
+    /// A client closed its connection before it was accepted.
     Aborted,
-    /// It failed for a cause that can pass, as a lack of descriptors or of memory.
+    /// It failed for a cause that may pass, such as a lack of descriptors or of memory.
     Failed,
-    /// The listener is broken: each accept will fail.
+    /// The listener is broken: every later accept fails too.
     Broken,
 }
 
-/// A listener, and what its accepts came to.
+/// A listener, and the results of its accepts.
 #[derive(Drop)]
 pub struct Listening<'a> {
     listener: &'a TcpListener,
@@ -49,9 +49,9 @@ pub struct Listening<'a> {
 }
 
 impl<'a> Listening<'a> {
-    /// So many connections wait to be accepted as `BACKLOG` says, or as the listener was made for
-    /// where the system refuses. An accept waits for a connection for a tenth of a second; where
-    /// the system does not take this limit, it waits until one comes.
+    /// Lets `BACKLOG` connections wait to be accepted, and limits how long an accept waits for one
+    /// to `PATIENCE`. A setting that the system refuses stays as it was: an accept without that
+    /// limit waits until a connection comes.
     pub fn new(listener: &'a TcpListener) -> Listening<'a>
         ensures { (result.accepted ≡ 0) × (result.is_broken ≡ false) }
     {
@@ -71,7 +71,7 @@ impl<'a> Listening<'a> {
         self.accepted
     }
 
-    /// The next connection.
+    /// Accepts the next connection.
     pub(crate) fn accept(&mut self) -> Result<TcpStream, AcceptStop>
         ensures accepted { self.new.accepted ≡ count_after self.old.accepted result }
         ensures broken { self.new.is_broken ≡ (self.old.is_broken || is_broken result) }
@@ -90,8 +90,8 @@ impl<'a> Listening<'a> {
     }
 }
 
-/// Limits how long an accept waits. The limit of reads is that of accepts too, and belongs to the
-/// socket, which a second handle shares.
+/// Limits how long an accept waits. A socket's read timeout also limits its accepts. It belongs to
+/// the socket, so that it can be set through a second handle.
 fn limit_accepts(listener: &TcpListener) -> io::Result<()> {
     let handle = TcpStream::from(OwnedFd::from(listener.try_clone()?));
     handle.set_read_timeout(Some(Duration::from_millis(PATIENCE)))
@@ -112,7 +112,7 @@ fn stop_of(error: &io::Error) -> AcceptStop
     }
 }
 
-/// Whether the error is that of a listener which is none.
+/// Whether the error says that the descriptor is not an open, listening socket.
 fn is_broken(error: &io::Error) -> bool
     ensures { IsTrue result ↔ IsBroken error.now }
 {

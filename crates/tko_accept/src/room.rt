@@ -6,8 +6,11 @@ use std::sync::{Arc, Wait};
 use std::time::Duration;
 use tko_metrics::Meter;
 
-/// How many milliseconds the thread that accepts waits for a client to leave.
+/// For how many milliseconds the thread that accepts waits for a client to leave.
 const PAUSE: u64 = 100;
+
+/// How many values the low half of the counter of clients has, on which a thread waits.
+const LOW_HALF: u64 = 1 << 32;
 
 /// How many clients may be connected at once, and how many are. Only the thread that accepts lets
 /// clients in; any thread lets them out.
@@ -29,8 +32,8 @@ impl Room {
         Ok(Arc::new(alloc, room)?)
     }
 
-    /// Whether one more client may be connected. Where none may, it waits until a client leaves, or
-    /// a tenth of a second.
+    /// Returns whether one more client may be connected. If not, it first waits until a client
+    /// leaves, but at most `PAUSE`.
     pub(crate) fn has_place<R: Wait>(&self, rt: &R) -> bool {
         let connected = self.connected.load(Ordering::SeqCst);
         if connected < self.most {
@@ -40,26 +43,26 @@ impl Room {
         false
     }
 
-    /// Waits until a client leaves, or a tenth of a second.
+    /// Waits until a client leaves, but at most `PAUSE`.
     pub(crate) fn wait<R: Wait>(&self, rt: &R) {
         self.wait_while(rt, self.connected.load(Ordering::SeqCst));
     }
 
-    /// Waits while the number of clients is still `connected`, or a tenth of a second.
+    /// Waits while the number of clients is still `connected`, but at most `PAUSE`.
     fn wait_while<R: Wait>(&self, rt: &R, connected: u64) {
         let pause = Duration::from_millis(PAUSE);
-        let low = connected % (1 << 32);
+        let low = connected % LOW_HALF;
         self.connected.park_timeout(rt, low as u32, pause);
     }
 }
 
-/// One client's place in a room, which is given back when it is dropped.
+/// One client's place in a room. Dropping it frees the place.
 pub struct ClientPlace {
     room: Arc<Room, Global>,
 }
 
 impl ClientPlace {
-    /// Takes a place.
+    /// Takes a place, also where the room has none left: `has_place` says whether it has.
     pub(crate) fn take(room: &Arc<Room, Global>) -> Result<ClientPlace, AllocError> {
         let room = Arc::try_clone(room)?;
         room.connected.fetch_add(1, Ordering::SeqCst);

@@ -1,4 +1,4 @@
-//! How clients get to the workers.
+//! How accepted clients are handed to the workers.
 
 use crate::clients::Client;
 use crate::room::ClientPlace;
@@ -8,17 +8,17 @@ use std::net::TcpStream;
 use std::sync::Wait;
 use tko_threads::Patience;
 
-/// The way of clients to the workers.
+/// How an accepted client is handed to a worker.
 pub trait Way {
     ghost use Rattle.std.specs.Bool.{OnFalse};
 
-    /// A client, as the workers take it.
+    /// The form in which a worker receives a client.
     type Client: Drop;
 
-    /// What is known once no worker takes clients any more.
+    /// What holds once no worker takes clients any more.
     ghost is_closed: { Self → Type 0 };
 
-    /// The client at the other end of a connection, whose socket was set up with this patience.
+    /// Makes the client of a connection, whose socket was set up with these time limits.
     fn client(
         alloc: Global,
         stream: TcpStream,
@@ -26,20 +26,20 @@ pub trait Way {
         patience: Patience,
     ) -> Result<Self::Client, AllocError>;
 
-    /// Hands a client to a worker. Returns whether there was one that took it; where no worker is
-    /// left, the client is closed.
+    /// Hands a client to a worker, and returns whether a worker takes it. If no worker is left, the
+    /// client's connection is closed.
     fn send<R: Wait>(&mut self, rt: &R, client: Self::Client) -> bool
         ensures closed { OnFalse result (is_closed self.new) };
 }
 
-/// One queue, from which every worker takes the next client.
+/// One queue, from which each worker takes its next client.
 #[derive(Drop)]
 pub struct OneQueue {
     clients: Sender<Client>,
 }
 
 impl OneQueue {
-    /// The queue of the workers that take from this channel.
+    /// The queue whose workers receive from this channel.
     pub fn new(clients: Sender<Client>) -> OneQueue {
         OneQueue { clients }
     }

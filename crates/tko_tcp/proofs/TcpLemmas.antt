@@ -1,22 +1,30 @@
 -- Connections over TCP: what a call on one server changes.
-use Rattle.std.proofs.Common.{◌≡◌, ◌≢◌, ℕ, zero, suc, ◌+◌, ◌<◌, Bool, true, false, List, [], ◌∷◌, length, map, get_or, slice_set, Option, Some, None, Result, Ok, Err, OnOk, refl, ap, sym, ◌∙◌, arith, rules, tests, get_or-set_same, get_or-set_other}
+use Rattle.std.proofs.Common.{◌≡◌, ◌≢◌, ℕ, zero, suc, ◌+◌, ◌<◌, Bool, true, false, List, [], ◌∷◌}
+use Rattle.std.proofs.Common.{length, map, get_or, slice_set, Option, Some, None, Result, Ok, Err}
+use Rattle.std.proofs.Common.{OnOk, refl, ap, sym, ◌∙◌, arith, rules, tests}
+use Rattle.std.proofs.Common.{get_or-set_same, get_or-set_other}
 use Rattle.std.proofs.lemmas.List.{get_or-map, length-map, map-set}
 use Rattle.std.proofs.lemmas.List.Sums.{sum_by-cons}
 use Rattle.std.proofs.Math.Seq.{map-set_same}
 use Rattle.tko_model.specs.Records.{Gains, Lead}
 use Rattle.tko_tcp.specs.declared.tcp_server.TcpServer.{TcpServer}
 use Rattle.tko_links.specs.declared.wire.WireFault.{WireFault}
-use Rattle.tko_tcp.specs.TcpWires.{IsTcpRecord, IsTcpStep, TcpState, address_of, connected_after_all, is_open, least_failures, limit_of, most_failures}
-use Rattle.tko_links.specs.Wires.{WireItem, connect_item, faults_in, is_ok, read_item, refusals_in, write_item}
+use Rattle.tko_tcp.specs.TcpWires.{IsTcpRecord, IsTcpStep, TcpState, address_of}
+use Rattle.tko_tcp.specs.TcpWires.{connected_after_all, is_open, least_failures}
+use Rattle.tko_tcp.specs.TcpWires.{limit_of, most_failures}
+use Rattle.tko_links.specs.Wires.{WireItem, connect_item, faults_in, is_ok, read_item}
+use Rattle.tko_links.specs.Wires.{refusals_in, write_item}
 
 -- what is seen of each server, after a call that changed one of them
-pub set_seen : {A : Type 0} (f : TcpServer → A) (servers : List TcpServer) (seen : List A) (place : ℕ)
+pub set_seen : {A : Type 0} (f : TcpServer → A) (servers : List TcpServer) (seen : List A)
+    (place : ℕ)
     (server : TcpServer) (now : A) → map f servers ≡ seen → f server ≡ now
     → map f (slice_set servers place server) ≡ slice_set seen place now
 set_seen f servers seen place server now was is = map-set f servers place server ∙ rw (was, is) refl
 
 -- the same after a call that leaves it
-pub keep_seen : {A : Type 0} (f : TcpServer → A) (servers : List TcpServer) (seen : List A) (place : ℕ)
+pub keep_seen : {A : Type 0} (f : TcpServer → A) (servers : List TcpServer) (seen : List A)
+    (place : ℕ)
     (before after : TcpServer) → map f servers ≡ seen
     → before ≡ get_or servers place before → f after ≡ f before
     → map f (slice_set servers place after) ≡ seen
@@ -24,8 +32,10 @@ keep_seen f servers seen place before after was at same =
     map-set_same f servers place after before (same ∙ ap f at) ∙ was
 
 -- the time limit of the exchange that a call began at one of them
-pub limit_there : (servers : List TcpServer) (connected : List Bool) (place : ℕ) (server : TcpServer)
-    (limit : Option ℕ) → map is_open servers ≡ connected → place < length connected → limit_of server ≡ limit
+pub limit_there : (servers : List TcpServer) (connected : List Bool) (place : ℕ)
+    (server : TcpServer)
+    (limit : Option ℕ) → map is_open servers ≡ connected → place < length connected
+    → limit_of server ≡ limit
     → get_or (map limit_of (slice_set servers place server)) place None ≡ limit
 limit_there servers connected place server limit was within is =
     let same : length connected ≡ length (map is_open servers) = ap length (sym was) in
@@ -36,7 +46,8 @@ limit_there servers connected place server limit was within is =
 
 -- the same where a connection was made
 pub limit_made : (servers : List TcpServer) (connected : List Bool) (place : ℕ) (server : TcpServer)
-    (limit now : ℕ) (result : Result Unit WireFault) → map is_open servers ≡ connected → place < length connected
+    (limit now : ℕ) (result : Result Unit WireFault) → map is_open servers ≡ connected
+    → place < length connected
     → OnOk result (limit_of server ≡ Some limit) → limit ≡ now
     → OnOk result (get_or (map limit_of (slice_set servers place server)) place None ≡ Some now)
 limit_made servers connected place server limit now (Ok done) was within is same =
@@ -45,7 +56,8 @@ limit_made servers connected place server limit now (Err fault) was within is sa
 
 -- a server is connected where it is seen so
 pub open_there : (servers : List TcpServer) (connected : List Bool) (place : ℕ) (before : TcpServer)
-    → map is_open servers ≡ connected → place < length connected → before ≡ get_or servers place before
+    → map is_open servers ≡ connected → place < length connected
+    → before ≡ get_or servers place before
     → get_or connected place false ≡ true → is_open before ≡ true
 open_there servers connected place before was within at seen =
     let same : length connected ≡ length (map is_open servers) = ap length (sym was) in
@@ -146,7 +158,8 @@ write_step old new server [] (Ok (suc n)) stays connected failures =
       most = omega arith;
     }
 write_step old new server (byte ∷ bytes) (Ok zero) stays connected failures =
-    let one : new.failures ≡ old.failures + 1 = failures ∙ ap (λ n. old.failures + n) (search (rules, tests)) in
+    let one : new.failures ≡ old.failures + 1 = failures
+    ∙ ap (λ n. old.failures + n) (search (rules, tests)) in
     record {
       addresses = stays.addresses;
       whole = stays.whole;
@@ -156,7 +169,8 @@ write_step old new server (byte ∷ bytes) (Ok zero) stays connected failures =
       most = omega arith;
     }
 write_step old new server (byte ∷ bytes) (Ok (suc n)) stays connected failures =
-    let none : new.failures ≡ old.failures + 0 = failures ∙ ap (λ n. old.failures + n) (search (rules, tests)) in
+    let none : new.failures ≡ old.failures + 0 = failures
+    ∙ ap (λ n. old.failures + n) (search (rules, tests)) in
     record {
       addresses = stays.addresses;
       whole = stays.whole;

@@ -1,20 +1,20 @@
--- The time of an exchange, by a clock that may not be readable.
+-- The time of an exchange, by a clock that may fail.
 use Rattle.std.specs.Prelude.{ℕ, ◌-◌, ◌/◌, max, Option, Some, None, unwrap_or}
 use Rattle.std.specs.declared.time.Instant.{Instant}
 use Rattle.std.specs.Duration.{as_nanos}
 use Rattle.std.specs.Time.{instant_nanos}
 use Rattle.tko_tcp.specs.declared.exchange_time.ExchangeTime.{ExchangeTime}
 
--- how many nanoseconds passed between two readings of the clock, where both are there
+-- how many nanoseconds passed between two readings of the clock, if both succeeded
 abbrev pub passed : Option Instant → Option Instant → Option ℕ
 passed (Some from) (Some to) = Some (instant_nanos to - instant_nanos from)
 passed _ _ = None
 
--- how many nanoseconds of an exchange are left at a moment; where it is unknown how many passed,
--- none did
+-- how many nanoseconds of an exchange are left at a time; if it is not known how many passed, none
+-- did
 abbrev pub left_at : ExchangeTime → Option Instant → ℕ
 left_at time now = as_nanos time.limit - unwrap_or (passed time.begun now) 0
 
--- one of so many equal parts of a time; of no parts, all of it
+-- one of `parts` equal parts of a time; all of it if `parts` is 0
 abbrev pub share_of : ℕ → ℕ → ℕ
 share_of left parts = left / max parts 1

@@ -1,22 +1,22 @@
--- What is known of a host that is looked up, and what a connect does with it.
+-- The addresses that are known for a host with a name, and what a connect does with them.
 use Rattle.std.specs.Prelude.{◌≡◌, ◌≢◌, ℕ, true, false, List, [], Option, Some, None}
 use Rattle.std.specs.declared.net.socket_addr.SocketAddr.{SocketAddr}
 use Rattle.tko_tcp.specs.declared.host_state.HostState.{HostState}
 use Rattle.tko_tcp.specs.declared.host_state.Step.{Step}
 use Rattle.tko_tcp.specs.declared.host_state.Step.TheVariants as step
 
--- no look-up has ended since so many had, or the connect has not waited yet
+-- no look-up has ended since `since` of them had, or the connect has not waited yet
 abbrev pub IsStill : Option ℕ → ℕ → Type 0
 IsStill (Some since) ended = since ≡ ended
 IsStill None ended = Unit {0}
 
--- a look-up has ended since so many had
+-- a look-up has ended since `since` of them had
 abbrev pub HasEnded : Option ℕ → ℕ → Type 0
 HasEnded (Some since) ended = since ≢ ended
 HasEnded None ended = ⊥
 
--- A connect takes the addresses that are known. Where none are, it asks for a look-up and waits for
--- one to end, and where one ended since it began to wait, it gives up.
+-- A connect tries the addresses that are known. If none are, it requests a look-up and waits until
+-- one has ended; if one has ended since it began to wait, it gives up.
 abbrev pub IsNext : HostState → Option ℕ → Step → HostState → Type 0
 IsNext old since (step.Try addresses) new =
     (addresses ≡ old.known) × (old.known ≢ []) × (new ≡ old)
@@ -25,8 +25,8 @@ IsNext old since (step.Wait ended) new =
     × (new ≡ record old { is_asked = true })
 IsNext old since step.GiveUp new = (old.known ≡ []) × HasEnded since old.ended × (new ≡ old)
 
--- A look-up has ended that found these addresses: they are known from now on, or, where it found
--- none, those that were known stay.
+-- A look-up ends that found these addresses. They replace those that were known, unless it found
+-- none.
 pub record IsAnswered (old : HostState) (found : List SocketAddr) (new : HostState) : Type 0 where
   pub found_some : found ≢ [] → new.known ≡ found
   pub found_none : found ≡ [] → new.known ≡ old.known

@@ -15,12 +15,11 @@ use Rattle.tko_tcp.specs.declared.server_host.ServerHost.TheVariants as at
 use Rattle.tko_tcp.specs.Hosts.{IsNext}
 use Rattle.tko_tcp.specs.TcpAddresses.{IsParted}
 
--- the name of the host at a place
+-- the name of the host with this index
 abbrev pub name_at : List Host → ℕ → Option (List ℕ)
 name_at hosts place = option_map (λ (it : Host). string_bytes it.name) (slice_get hosts place)
 
--- an address leads to one of the host's: to that of the IP address that it has, or to the host of
--- that name, at the port
+-- where an address leads: to its IP address and port, or to a port of the host with its name
 abbrev pub LeadsTo : List ℕ → ServerHost → Type 0
 LeadsTo address at.Nowhere = Unit {0}
 LeadsTo address (at.Fixed one) =
@@ -29,18 +28,18 @@ LeadsTo address (at.Named it) =
     (host : List ℕ) × IsParted address host it.port
     × (name_at (arc_value it.names.shared).hosts.items it.place ≡ Some host)
 
--- what is learned where a connect does this next
+-- what a caller learns if a connect would do this next
 abbrev pub known_by : Step → Known
 known_by (step.Try addresses) = known.Addresses
 known_by (step.Wait ended) = known.Asked ended
 known_by step.GiveUp = known.Nothing
 
--- the addresses that are known then, where these were
+-- the caller's addresses after that, if it had these before
 abbrev pub addresses_by : Step → List SocketAddr → List SocketAddr
 addresses_by (step.Try addresses) old = addresses
 addresses_by _ old = old
 
--- a caller learns what a connect does next, which found the host in some state
+-- a caller learns what a connect does next, for some state of the host
 pub record IsLearned (since : Option ℕ) (old : List SocketAddr) (result : Known)
     (new : List SocketAddr) : Type 0 where
   pub before : HostState

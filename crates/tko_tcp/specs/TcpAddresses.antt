@@ -2,24 +2,32 @@
 use Rattle.std.specs.Prelude.{◌≡◌, ℕ, List, [], ◌∷◌, ◌++◌, Some}
 use Rattle.tko_bytes.specs.Numbers.{number_of}
 
+-- the byte `:`
 abbrev pub colon : ℕ
 colon = 58
 
+-- the byte `[`
 abbrev pub open_bracket : ℕ
 open_bracket = 91
 
+-- the byte `]`
 abbrev pub close_bracket : ℕ
 close_bracket = 93
 
+-- the greatest port
 abbrev pub max_port : ℕ
 max_port = 65535
 
--- a host as it is looked up: the written one, or what its brackets hold
+-- the most addresses of one host that are kept
+abbrev pub most_addresses : ℕ
+most_addresses = 32
+
+-- a host as it is looked up: as it is written, or without its brackets
 pub data IsBare (written : List ℕ) (bare : List ℕ) : Type 0 where
   Plain : bare ≡ written → IsBare written bare
   Bracketed : written ≡ open_bracket ∷ bare ++ close_bracket ∷ [] → IsBare written bare
 
--- a host, a colon and the digits of a port, which hold no colon, make the address
+-- the address is a host, a colon, and the digits of a port
 pub record IsParted (address : List ℕ) (host : List ℕ) (port : ℕ) : Type 0 where
   pub written : List ℕ
   pub digits : List ℕ

@@ -1,13 +1,15 @@
--- Connections over TCP: whose they are, which servers are connected, how often calls failed, and
--- the time limits of exchanges.
-use Rattle.std.specs.Prelude.{◌≡◌, ◌≤◌, ℕ, ◌+◌, Bool, true, false, List, [], ◌∷◌, get_or, string_bytes, sum_by, Option, Some, None}
+-- Connections over TCP: the servers' addresses, which servers are connected, how often calls
+-- failed, and the time limits of exchanges.
+use Rattle.std.specs.Prelude.{◌≡◌, ◌≤◌, ℕ, ◌+◌, Bool, true, false, List, [], ◌∷◌, get_or}
+use Rattle.std.specs.Prelude.{string_bytes, sum_by, Option, Some, None}
 use Rattle.std.specs.Duration.{as_nanos}
 use Rattle.tko_tcp.specs.declared.tcp_server.TcpServer.{TcpServer}
-use Rattle.tko_links.specs.Wires.{WireItem, Connected, Unconnected, Wrote, Failed, Checked, Limited, connected_after}
+use Rattle.tko_links.specs.Wires.{WireItem, Connected, Unconnected, Wrote, Failed, Checked}
+use Rattle.tko_links.specs.Wires.{Limited, connected_after}
 
 -- The servers' addresses, which servers are connected, the time limit of the last exchange on each
--- connection, and how often calls failed. The next exchange has a limit, and one that is no probe
--- the whole one. Limits are in nanoseconds.
+-- connection, how often calls failed, the time limit of the next exchange, and that of an exchange
+-- that is no probe (`whole`). Limits are in nanoseconds.
 pub record TcpState : Type 0 where
   pub addresses : List (List ℕ)
   pub connected : List Bool
@@ -31,8 +33,8 @@ limit_of server = elim server.connection [
   | None ↦ None
 ]
 
--- the least and the most failures of an item; whether a piece was empty of which no byte was taken,
--- the item does not say
+-- the least and the most failures that an item counts as: an item that no byte was written does not
+-- say whether there was any to write
 abbrev pub least_failures : WireItem → ℕ
 least_failures (Unconnected server) = 1
 least_failures (Failed server fault) = 1
@@ -42,8 +44,8 @@ abbrev pub most_failures : WireItem → ℕ
 most_failures (Wrote server []) = 1
 most_failures it = least_failures it
 
--- An exchange that begins, by connecting or on the connection that is there, has the limit of the
--- next one. That limit stays until a probe begins, and after the probe it is the whole one.
+-- An exchange that begins, by connecting or on an open connection, gets the limit that was set for
+-- the next one. That limit stays until a probe begins; after the probe it is the whole one again.
 abbrev pub IsTimed : TcpState → WireItem → TcpState → Type 0
 IsTimed old (Connected server) new =
     (new.limit ≡ old.limit) × (get_or new.limits server None ≡ Some old.limit)
@@ -53,8 +55,8 @@ IsTimed old (Limited server true) new = new.limits ≡ old.limits
 IsTimed old (Limited server false) new = (new.limit ≡ new.whole) × (new.limits ≡ old.limits)
 IsTimed old _ new = new.limit ≡ old.limit
 
--- one call: the server that it connected or shut is so, all others are as before, and its failure
--- is counted; whose the connections are stays
+-- one call: it changes only the connection of the server that it connects or shuts, and its failure
+-- is counted; the addresses stay as they were
 pub record IsTcpStep (old : TcpState) (it : WireItem) (new : TcpState) : Type 0 where
   pub addresses : new.addresses ≡ old.addresses
   pub whole : new.whole ≡ old.whole
@@ -69,8 +71,8 @@ connected_after_all connected [] = connected
 connected_after_all connected (it ∷ items) =
     connected_after_all (connected_after connected it) items
 
--- over these items a server is connected where it was connected last and not shut since, each
--- failure is counted, and the addresses and the whole limit are as before
+-- after these items a server is connected if it was connected last and not shut since, each failure
+-- is counted, and the addresses and the whole limit are as before
 pub record IsTcpRecord (old : TcpState) (items : List WireItem) (new : TcpState) : Type 0 where
   pub addresses : new.addresses ≡ old.addresses
   pub whole : new.whole ≡ old.whole

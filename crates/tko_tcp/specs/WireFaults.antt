@@ -1,10 +1,10 @@
--- Which fault of a wire an error of a socket is.
+-- The fault of a wire that an error of a socket counts as.
 use Rattle.std.specs.declared.io.ErrorKind.{ErrorKind}
 use Rattle.std.specs.declared.io.ErrorKind.TheVariants as kind
 use Rattle.tko_links.specs.declared.wire.WireFault.{WireFault}
 use Rattle.tko_links.specs.declared.wire.WireFault.TheVariants as fault
 
--- a call that would have had to wait longer took too long, and one that the system timed out
+-- a call timed out if it would have had to wait longer than its limit, or if the system says so
 abbrev pub fault_of_kind : ErrorKind → WireFault
 fault_of_kind kind.WouldBlock = fault.TimedOut
 fault_of_kind kind.TimedOut = fault.TimedOut

@@ -8,8 +8,8 @@ use std::net::{Ipv4Addr, Net, SocketAddr};
 /// The most addresses of one host that are kept.
 const MOST: usize = 32;
 
-/// The addresses of a host, in the order that the resolver gave them, with no port. There are at
-/// most 32. Contracts see their list.
+/// The addresses of a host, without ports, in the order in which the resolver returned them; at
+/// most `MOST`. In contracts they are a list.
 #[derive(Drop)]
 pub(crate) struct Addresses {
     all: [SocketAddr; MOST],
@@ -19,12 +19,13 @@ pub(crate) struct Addresses {
 impl Model for Addresses {
     ghost use Rattle.std.specs.Prelude.{◌≤◌, List, take};
     ghost use Rattle.std.specs.declared.net.socket_addr.SocketAddr.{SocketAddr};
+    ghost use Rattle.tko_tcp.specs.TcpAddresses.{most_addresses};
 
     ghost Value = { List SocketAddr };
 
     ghost view = { λ addresses. take addresses.count addresses.all };
 
-    ghost invariant = { λ addresses. addresses.count ≤ 32 };
+    ghost invariant = { λ addresses. addresses.count ≤ most_addresses };
 }
 
 impl Addresses {
@@ -37,7 +38,7 @@ impl Addresses {
         }
     }
 
-    /// Asks the system's resolver for the addresses of a host, which takes as long as it takes.
+    /// Asks the system's resolver for the addresses of a host. Nothing limits how long that takes.
     pub(crate) fn look_up<N: Net>(net: &N, host: &str) -> Result<Addresses> {
         let mut all = [SocketAddr::from((Ipv4Addr::UNSPECIFIED, 0)); MOST];
         let count = net.lookup_host(host, 0, &mut all)?;

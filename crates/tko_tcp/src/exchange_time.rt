@@ -5,8 +5,8 @@ ghost use Rattle.tko_tcp.specs.ExchangeTimes.{left_at, passed, share_of};
 
 use std::time::{Clock, Duration, Instant};
 
-/// When an exchange began, and how long it may take. None stands for a moment at which the clock
-/// could not be read.
+/// When an exchange began, and how long it may take. A time is None if the clock could not be read;
+/// then no time seems to pass.
 #[derive(Clone, Copy)]
 pub(crate) struct ExchangeTime {
     begun: Option<Instant>,
@@ -14,7 +14,7 @@ pub(crate) struct ExchangeTime {
 }
 
 impl ExchangeTime {
-    /// An exchange begins now.
+    /// The time of an exchange that begins now.
     pub(crate) fn begin<C: Clock>(clock: &C, limit: Duration) -> ExchangeTime
         ensures { result.limit ≡ limit }
     {
@@ -24,7 +24,7 @@ impl ExchangeTime {
         }
     }
 
-    /// What is left of it at this moment, or None where it is over.
+    /// How much time is left at `now`, or None if it is over.
     pub(crate) fn left(&self, now: Option<Instant>) -> Option<Duration>
         ensures { MatchOption result (left_at self.now now ≡ 0)
             (λ some. (0 < as_nanos some) × (as_nanos some ≡ left_at self.now now)) }
@@ -34,7 +34,7 @@ impl ExchangeTime {
         if left.is_zero() { None } else { Some(left) }
     }
 
-    /// One of `parts` equal parts of what is left of it at this moment, or None where it is over.
+    /// One of `parts` equal parts of the time left at `now`, or None if it is over.
     pub(crate) fn share(&self, now: Option<Instant>, parts: u32) -> Option<Duration>
         ensures { MatchOption result (left_at self.now now ≡ 0)
             (λ share. as_nanos share ≡ share_of (left_at self.now now) parts) }
@@ -46,7 +46,7 @@ impl ExchangeTime {
     }
 }
 
-/// One of `parts` equal parts of a time; of no parts, all of it.
+/// One of `parts` equal parts of a time; all of it if `parts` is 0.
 fn share_of(left: Duration, parts: u32) -> Duration
     ensures { as_nanos result ≡ share_of (as_nanos left) parts }
 {

@@ -1,13 +1,13 @@
-//! What is known of a host that has to be looked up, and what a connect does with it.
+//! The addresses that are known for a host with a name, and what a connect does with them.
 ghost use Rattle.std.specs.Prelude.{◌≡◌, ◌≢◌, [], true, false};
 ghost use Rattle.tko_tcp.specs.Hosts.{IsAnswered, IsNext};
 
 use crate::addresses::Addresses;
 
-/// What is known of a host's addresses, and whether they are to be looked up.
+/// The addresses that are known for a host, and whether its look-up is requested.
 #[derive(Drop)]
 pub(crate) struct HostState {
-    /// What the last look-up found that found any.
+    /// What the last successful look-up found.
     known: Addresses,
     is_asked: bool,
     /// Changes whenever a look-up has ended.
@@ -17,16 +17,16 @@ pub(crate) struct HostState {
 /// What a connect does next.
 #[derive(Drop)]
 pub(crate) enum Step {
-    /// It tries these addresses.
+    /// Try these addresses.
     Try(Addresses),
-    /// It waits until the number of the look-ups that have ended is no longer this one.
+    /// Wait until the number of ended look-ups differs from this one.
     Wait(u64),
-    /// A look-up has ended, and no address is known.
+    /// Give up: a look-up has ended, and still no address is known.
     GiveUp,
 }
 
 impl HostState {
-    /// Nothing is known yet, and a look-up is asked for.
+    /// A host of which no address is known yet, and whose look-up is requested.
     pub(crate) fn new() -> HostState
         ensures known { result.known ≡ [] }
         ensures asked { result.is_asked ≡ true }
@@ -44,14 +44,15 @@ impl HostState {
         self.is_asked
     }
 
-    /// Asks for a look-up. One that is on its way will do.
+    /// Requests a look-up. One that has begun already counts as it.
     pub(crate) fn ask(&mut self)
         ensures { self.new ≡ record self.old { is_asked = true } }
     {
         self.is_asked = true;
     }
 
-    /// What a connect does that has waited since `since`, or has not waited yet.
+    /// What a connect does next. `since` is the number of ended look-ups when it began to wait;
+    /// None if it has not waited yet.
     pub(crate) fn next(&mut self, since: Option<u64>) -> Step
         ensures { IsNext self.old since result self.new }
     {
@@ -67,7 +68,7 @@ impl HostState {
         }
     }
 
-    /// A look-up has ended, which found these addresses.
+    /// Records that a look-up has ended and found these addresses.
     pub(crate) fn answer(&mut self, found: Addresses)
         ensures { IsAnswered self.old found self.new }
     {

@@ -2,9 +2,9 @@
 //!
 //! - `TcpWire`: the connections over the system's sockets, at most one to each server; `TcpLinks`:
 //!   links over them.
-//! - `Names`: the hosts of the servers, which one thread looks up for all workers.
-//! - `ServerHost`: where a server is, for a caller that may not wait; `NamedHost`: a server at a
-//!   host that is looked up, and `Known` what is known of its addresses.
+//! - `Names`: the servers' hosts that have a name, which one thread looks up for all workers.
+//! - `ServerHost`: where a server is, for a caller that must not wait; `NamedHost`: a server at a
+//!   host with a name, and `Known` whether its addresses are known.
 #![tactic(auto)]
 
 mod addresses;

@@ -1,4 +1,4 @@
-//! A socket that is given its time limit with each read and write.
+//! A socket with a time limit for each read and write.
 ghost use Rattle.std.specs.Prelude.{◌≡◌, ◌≤◌, IfOk, length};
 
 use libc::net::{POLLIN, poll};
@@ -8,8 +8,8 @@ use std::net::TcpStream;
 use std::os::fd::AsRawFd;
 use std::time::Duration;
 
-/// A socket, and the limits that were last set on it. A read or a write sets its limit first, by
-/// one more system call, unless the socket has it already.
+/// A socket, and the time limits that were last set on it. A read or write first sets its own
+/// limit, by one more system call, unless the socket already has that limit.
 #[derive(Drop)]
 pub(crate) struct LimitedStream {
     stream: TcpStream,
@@ -18,7 +18,7 @@ pub(crate) struct LimitedStream {
 }
 
 impl LimitedStream {
-    /// Sets both limits of the socket.
+    /// Sets both limits of the socket to `limit`.
     pub(crate) fn new(stream: TcpStream, limit: Duration) -> Result<LimitedStream>
         ensures reads { IfOk result (λ socket. socket.read_limit ≡ limit) }
         ensures writes { IfOk result (λ socket. socket.write_limit ≡ limit) }
@@ -32,7 +32,7 @@ impl LimitedStream {
         })
     }
 
-    /// Writes from the front of the piece, and returns how many bytes.
+    /// Writes from the front of `bytes`, and returns how many bytes were written.
     pub(crate) fn write(&mut self, limit: Duration, bytes: &[u8]) -> Result<usize>
         ensures count { IfOk result (λ count. count ≤ length bytes.now) }
         ensures limited { IfOk result (λ count. self.new.write_limit ≡ limit) }
@@ -44,7 +44,7 @@ impl LimitedStream {
         self.stream.write(bytes)
     }
 
-    /// Reads to the front of the buffer, and returns how many bytes.
+    /// Reads into the front of `buffer`, and returns how many bytes were read.
     pub(crate) fn read(&mut self, limit: Duration, buffer: &mut [u8]) -> Result<usize>
         ensures count { IfOk result (λ count. count ≤ length buffer.new) }
         ensures limited { IfOk result (λ count. self.new.read_limit ≡ limit) }
@@ -56,8 +56,8 @@ impl LimitedStream {
         self.stream.read(buffer)
     }
 
-    /// Whether the peer has neither closed the connection nor sent bytes that are still unread. It
-    /// is one system call, and does not wait.
+    /// Whether the peer has neither closed the connection nor sent bytes that are still unread.
+    /// Makes one system call, and does not wait.
     pub(crate) fn is_quiet(&self) -> bool {
         let readable = pollfd {
             fd: self.stream.as_raw_fd(),

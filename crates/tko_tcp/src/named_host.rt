@@ -1,21 +1,21 @@
-//! A server at a host that is looked up.
+//! A server at a host with a name, which is looked up.
 ghost use Rattle.std.specs.Prelude.{◌≡◌, ◌<◌, length};
 ghost use Rattle.std.specs.Arc.{arc_value};
 
 use crate::names::Names;
 
-/// A host that is looked up, and the port of a server there.
+/// A host with a name, and the port of a server there.
 #[derive(Drop)]
 pub struct NamedHost {
     pub(crate) names: Names,
-    /// The host's place among them.
+    /// The index of the host in `names`.
     pub(crate) place: usize,
     port: u16,
     ghost within: { place < length (arc_value names.shared).hosts.items },
 }
 
 impl NamedHost {
-    /// A server at this port of the host at this place.
+    /// The server at this port of the host with this index.
     pub(crate) fn new(names: Names, place: usize, port: u16) -> NamedHost
         requires { place < length (arc_value names.shared).hosts.items }
         ensures names { result.names ≡ names }

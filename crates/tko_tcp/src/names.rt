@@ -1,4 +1,4 @@
-//! The hosts of the servers that have to be looked up.
+//! The servers' hosts whose names have to be looked up.
 ghost use Rattle.std.specs.Prelude.{◌≡◌, ◌<◌, IfOk, IfSome, Some, length, string_bytes};
 ghost use Rattle.std.specs.Arc.{arc_value};
 ghost use Rattle.std.specs.Bool.{OnTrue};
@@ -18,8 +18,12 @@ use std::time::Instant;
 use tko_bytes::NoMemory;
 use tko_io::IoRuntime;
 
-/// What is known of the hosts of the servers, which all workers share, and one thread that looks
-/// them up. A host that is an IP address is not among them.
+/// How many values the low half of a counter has.
+const LOW_HALF: u64 = 1 << 32;
+
+/// The servers' hosts that have a name, and the addresses known for each. All workers and the
+/// thread that looks the names up share them. A host that is given by its IP address is not among
+/// them.
 #[derive(Drop)]
 pub struct Names {
     shared: Arc<Shared, Global>,
@@ -28,14 +32,14 @@ pub struct Names {
 #[derive(Drop)]
 struct Shared {
     hosts: Vec<Host>,
-    /// Changes whenever a look-up is asked for, and at the end.
+    /// Changes whenever a look-up is requested, and by `end`.
     asks: AtomicU64,
     /// Changes whenever a look-up has ended.
     answers: AtomicU64,
     is_ended: AtomicBool,
 }
 
-/// A host, and what is known of it.
+/// A host with a name, and what is known of it.
 #[derive(Drop)]
 pub(crate) struct Host {
     name: String,
@@ -43,7 +47,7 @@ pub(crate) struct Host {
 }
 
 impl Names {
-    /// The hosts of these addresses, each once. A look-up of each is asked for.
+    /// The named hosts of these addresses, each once. Requests a look-up of each.
     pub fn open(alloc: Global, addresses: &[String]) -> Result<Names, NoMemory> {
         let mut hosts = Vec::new(alloc);
         for address in addresses {
@@ -61,7 +65,7 @@ impl Names {
         Ok(Names { shared })
     }
 
-    /// The same hosts, for another thread.
+    /// Another handle of the same hosts, for another thread.
     pub fn another(&self) -> Result<Names, AllocError>
         ensures { IfOk result (λ names. arc_value names.shared ≡ arc_value self.now.shared) }
     {
@@ -69,13 +73,13 @@ impl Names {
         Ok(Names { shared })
     }
 
-    /// Whether there is no host to look up.
+    /// Whether no host has to be looked up.
     pub fn is_empty(&self) -> bool {
         self.shared.hosts.is_empty()
     }
 
-    /// Looks up each host for which a look-up is asked, one after the other, until `end` is called.
-    /// A look-up that is on its way then comes to its end first.
+    /// Looks up each host whose look-up is requested, one after another, until `end` is called. A
+    /// look-up that has begun by then is finished first.
     pub fn look_up_all<R: IoRuntime>(&self, rt: &R) {
         for _ in rt.forever() {
             let asks = self.shared.asks.load(Ordering::SeqCst);
@@ -92,7 +96,7 @@ impl Names {
         }
     }
 
-    /// No host is looked up any more.
+    /// Ends `look_up_all`: no further host is looked up.
     pub fn end(&self) {
         self.shared.is_ended.store(true, Ordering::SeqCst);
         self.wake_resolver();
@@ -102,7 +106,7 @@ impl Names {
         self.shared.is_ended.load(Ordering::SeqCst)
     }
 
-    /// Looks up a host if that is asked for.
+    /// Looks up a host if its look-up is requested.
     fn look_up_asked<R: IoRuntime>(&self, rt: &R, host: &Host) {
         if !host.state.lock(rt).is_asked() {
             return;
@@ -124,7 +128,7 @@ impl Names {
             .find(|host| host.name.as_str() == name)
     }
 
-    /// The place of the host with this name.
+    /// The index of the host with this name.
     pub(crate) fn place(&self, name: &str) -> Option<usize>
         ensures { IfSome result (λ place.
             name_at (arc_value self.now.shared).hosts.items place ≡ Some name.now) }
@@ -137,8 +141,9 @@ impl Names {
         None
     }
 
-    /// What a connect to the host at a place does that does not wait. Where none of its addresses
-    /// is known, a look-up is asked for, unless one has ended since so many had.
+    /// What a connect to the host at `place` does next, for a caller that must not wait. If no
+    /// address is known, requests a look-up, unless one has ended since the caller last asked:
+    /// `since` is the number of ended look-ups at that time.
     pub(crate) fn next<R: Wait>(&self, rt: &R, place: usize, since: Option<u64>) -> Step
         requires { place < length (arc_value self.now.shared).hosts.items }
         ensures { (old new : HostState) × IsNext old since result new }
@@ -150,15 +155,15 @@ impl Names {
         step
     }
 
-    /// Asks for a look-up of the host at a place.
+    /// Requests a look-up of the host at `place`.
     pub(crate) fn ask_at<R: Wait>(&self, rt: &R, place: usize)
         requires { place < length (arc_value self.now.shared).hosts.items }
     {
         self.ask(rt, &self.shared.hosts[place]);
     }
 
-    /// The addresses of a host. Where none are known it waits for a look-up to end, as long as the
-    /// exchange has time; None stands for none found until then.
+    /// Returns the addresses of a host. If none are known, waits until a look-up has ended, but not
+    /// longer than the exchange has time; None if none were found by then.
     pub(crate) fn addresses<R: IoRuntime>(
         &self,
         rt: &R,
@@ -181,7 +186,7 @@ impl Names {
         unreachable!()
     }
 
-    /// Asks for a look-up of a host.
+    /// Requests a look-up of a host.
     pub(crate) fn ask<R: Wait>(&self, rt: &R, host: &Host) {
         host.state.lock(rt).ask();
         self.wake_resolver();
@@ -207,12 +212,12 @@ impl Host {
     }
 }
 
-/// The half of a number on which a thread sleeps.
+/// The low half of a counter, on which a thread waits.
 fn low_half(number: u64) -> u32 {
-    (number % (1 << 32)) as u32
+    (number % LOW_HALF) as u32
 }
 
-/// The host of an address that has to be looked up.
+/// The host of an address, if it is a name that has to be looked up.
 fn name_in(address: &str) -> Option<&str> {
     let (host, _) = host_and_port(address)?;
     if host.parse::<IpAddr>().is_ok() {
@@ -222,7 +227,7 @@ fn name_in(address: &str) -> Option<&str> {
     }
 }
 
-/// Adds a host with this name, where there is none.
+/// Adds a host with this name, unless there is one.
 fn add(alloc: Global, hosts: &mut Vec<Host>, name: &str) -> Result<(), NoMemory> {
     if hosts.iter().any(|host| host.name.as_str() == name) {
         return Ok(());

@@ -1,16 +1,17 @@
 //! The time that the probes of one worker may take.
 //!
 //! A worker probes one server after another while a client may wait, so its probes share a budget:
-//! the time limit of one exchange. It fills again while none is probed. A probe for which little is
-//! left still gets a sixteenth of the limit, so that a server that answers comes back also where
-//! many others do not.
+//! the time limit of one exchange. The budget refills while no server is probed. A probe always
+//! gets at least a sixteenth of the limit, so that a server that answers is unmarked even while
+//! many others do not answer.
 ghost use Rattle.std.specs.Prelude.{◌≡◌, ◌-◌, ◌*◌};
 ghost use Rattle.std.specs.Duration.{as_nanos};
-ghost use Rattle.tko_tcp.specs.ProbeTimes.{IsGiven, IsTaken, nanos_in_milli, refilled, shared_limit};
+ghost use Rattle.tko_tcp.specs.ProbeTimes.{IsGiven, IsTaken, nanos_in_milli};
+ghost use Rattle.tko_tcp.specs.ProbeTimes.{refilled, shared_limit};
 
 use std::time::{Clock, Duration, Instant};
 
-/// A probe gets at least this part of an exchange's time limit.
+/// A probe gets at least one part in this many of an exchange's time limit.
 const LEAST_PART: u64 = 16;
 
 /// The time limit of an exchange, and how much of it probes may still take, in milliseconds.
@@ -18,7 +19,7 @@ const LEAST_PART: u64 = 16;
 pub(crate) struct ProbeTime {
     whole: u64,
     left: u64,
-    /// When a probe last began or ended. None stands for no probe, or no clock.
+    /// When a probe last began or ended; None before the first, or if the clock could not be read.
     last: Option<Instant>,
 }
 
@@ -41,7 +42,7 @@ impl ProbeTime {
         Duration::from_millis(self.whole)
     }
 
-    /// A probe begins: its time limit.
+    /// Begins a probe, and returns its time limit.
     pub(crate) fn begin<C: Clock>(&mut self, clock: &C) -> Duration
         ensures { IsGiven self.old self.new result }
     {
@@ -49,7 +50,7 @@ impl ProbeTime {
         Duration::from_millis(self.give(passed))
     }
 
-    /// A probe ended.
+    /// Ends a probe: takes its time off the budget.
     pub(crate) fn end<C: Clock>(&mut self, clock: &C)
         ensures { IsTaken self.old self.new }
     {
@@ -67,7 +68,7 @@ impl ProbeTime {
         self.left.max(self.whole / LEAST_PART).max(1)
     }
 
-    /// Takes the time of a probe off.
+    /// Takes the time of a probe off the budget.
     fn take(&mut self, used: u64)
         ensures left { self.new.left ≡ self.old.left - used }
         ensures whole { self.new.whole ≡ self.old.whole }
@@ -75,7 +76,7 @@ impl ProbeTime {
         self.left = self.left.saturating_sub(used);
     }
 
-    /// How many milliseconds passed since a probe last began or ended.
+    /// Returns how many milliseconds passed since a probe last began or ended.
     fn passed<C: Clock>(&mut self, clock: &C) -> u64
         ensures left { self.new.left ≡ self.old.left }
         ensures whole { self.new.whole ≡ self.old.whole }

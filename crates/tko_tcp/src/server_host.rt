@@ -14,22 +14,22 @@ use tko_bytes::NoMemory;
 /// Where a server is.
 #[derive(Drop)]
 pub enum ServerHost {
-    /// Its address leads nowhere.
+    /// Nowhere: its address is malformed, or its host is not among the names.
     Nowhere,
-    /// It is at one IP address.
+    /// At one IP address.
     Fixed(SocketAddr),
-    /// It is at the addresses of a host that is looked up.
+    /// At the addresses of a host with a name, which is looked up.
     Named(NamedHost),
 }
 
 /// What is known of a host's addresses.
 #[derive(Clone, Copy, Debug, PartialEq, Eq)]
 pub enum Known {
-    /// Some are known.
+    /// Some addresses are known.
     Addresses,
-    /// None is, and a look-up is asked for. So many had ended.
+    /// None are known, and a look-up is requested. This many look-ups had ended.
     Asked(u64),
-    /// None is, although a look-up has ended meanwhile.
+    /// None are known, although a look-up has ended since the last request.
     Nothing,
 }
 
@@ -53,8 +53,8 @@ impl Names {
 }
 
 impl NamedHost {
-    /// What is known now, which takes the place of those addresses. Where none is known, a look-up
-    /// is asked for, unless one has ended since so many had.
+    /// Replaces `all` with the addresses that are known now, if any. If none are known, requests a
+    /// look-up, unless one has ended since `since` of them had.
     pub fn known<R: Wait>(
         &self,
         rt: &R,
@@ -75,13 +75,13 @@ impl NamedHost {
         }
     }
 
-    /// Asks for a look-up.
+    /// Requests a look-up.
     pub fn ask<R: Wait>(&self, rt: &R) {
         self.names.ask_at(rt, self.place);
     }
 }
 
-/// Puts these addresses in the place of others. Without memory those stay.
+/// Replaces `all` with these addresses. If memory runs out, `all` stays as it was.
 fn replace(all: &mut Vec<SocketAddr>, found: &[SocketAddr]) -> Result<(), NoMemory>
     ensures ok { OnOk result (all.new.items ≡ found.now) }
     ensures err { OnErr result (all.new.items ≡ all.old.items) }

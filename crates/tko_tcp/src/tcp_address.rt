@@ -6,8 +6,8 @@ use tko_bytes::number;
 
 const MAX_PORT: u64 = 65_535;
 
-/// The host and the port of an address, which is parted at its last colon. A host in brackets, as
-/// an IPv6 address is often written, loses them.
+/// The host and the port of an address, which the last colon separates. Brackets round the host, as
+/// they are often written round an IPv6 address, are removed.
 pub(crate) fn host_and_port(address: &str) -> Option<(&str, u16)>
     ensures { IfSome result (λ parts. IsParted address.now parts.0.now parts.1) }
 {

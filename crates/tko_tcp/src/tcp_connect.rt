@@ -8,8 +8,8 @@ use std::net::{IpAddr, SocketAddr, TcpStream};
 use std::time::Instant;
 use tko_io::IoRuntime;
 
-/// Connects to a server. A host that is a name is one of `names`. It waits for addresses of the
-/// name where none are known, and where it cannot connect to any, it asks for a look-up.
+/// Connects to a server. If its host is a name, it must be one of `names`: `connect` waits for its
+/// addresses if none are known, and requests a look-up if it cannot connect to any of them.
 pub(crate) fn connect<R: IoRuntime>(
     rt: &R,
     names: &Names,
@@ -35,8 +35,8 @@ pub(crate) fn connect<R: IoRuntime>(
     connected
 }
 
-/// Connects to one of these addresses, in order. Each has an equal part of the time that is left,
-/// so that one that does not answer leaves time for those after it.
+/// Connects to the first of these addresses that accepts. Each gets an equal part of the time that
+/// is left, so that one that does not answer leaves time for those after it.
 fn connect_any<R: IoRuntime>(
     rt: &R,
     addresses: &[SocketAddr],
@@ -57,7 +57,7 @@ fn connect_any<R: IoRuntime>(
     Err(last)
 }
 
-/// Connects to this address, in one of `parts` equal parts of the time that is left.
+/// Connects to this address, within one of `parts` equal parts of the time that is left.
 fn connect_one<R: IoRuntime>(
     rt: &R,
     address: SocketAddr,

@@ -1,8 +1,8 @@
 //! One connection to a server, and the time limit of the exchange on it.
 //!
-//! A call has the whole limit of an exchange as long as no call of the exchange can have waited,
-//! and then needs neither the clock nor another limit of the socket. Each later call has what is
-//! left.
+//! As long as no call of an exchange can have waited, each of its calls gets the whole time limit:
+//! that needs neither a look at the clock nor a new limit of the socket. Each later call gets the
+//! time that is left.
 ghost use Rattle.std.specs.Prelude.{◌≡◌, ◌≤◌, ◌↔◌, true, false, IfErr, IfOk, length};
 ghost use Rattle.std.specs.IoError.{error_kind};
 ghost use Rattle.tko_tcp.specs.ExchangeTimes.{left_at};
@@ -19,10 +19,10 @@ use std::time::{Duration, Instant};
 use tko_io::IoRuntime;
 use tko_links::WireFault;
 
-/// A write of up to this many bytes does not wait where nothing else is on its way.
+/// A write of up to this many bytes does not wait if no other bytes are unsent.
 const QUICK_WRITE: usize = 16_384;
 
-/// A connection.
+/// A connection to a server.
 #[derive(Drop)]
 pub(crate) struct TcpConnection {
     socket: LimitedStream,
@@ -32,7 +32,7 @@ pub(crate) struct TcpConnection {
 }
 
 impl TcpConnection {
-    /// Connects to a server, in an exchange that has begun: connecting takes its part of the time.
+    /// Connects to a server. The exchange with this time has begun: connecting uses part of it.
     pub(crate) fn open<R: IoRuntime>(
         rt: &R,
         names: &Names,
@@ -51,7 +51,8 @@ impl TcpConnection {
         })
     }
 
-    /// Begins an exchange with this time limit: whether the connection can be used for it.
+    /// Begins an exchange with this time limit, and returns whether the connection can be used for
+    /// it.
     pub(crate) fn begin<R: IoRuntime>(&mut self, rt: &R, limit: Duration) -> bool
         ensures { Begins limit self.old self.new }
     {
@@ -60,7 +61,7 @@ impl TcpConnection {
         self.socket.is_quiet()
     }
 
-    /// Writes from the front of the piece, and returns how many bytes.
+    /// Writes from the front of `bytes`, and returns how many bytes were written.
     pub(crate) fn write<R: IoRuntime>(&mut self, rt: &R, bytes: &[u8]) -> Result<usize, WireFault>
         ensures count { IfOk result (λ count. count ≤ length bytes.now) }
         ensures time { self.new.time ≡ self.old.time }
@@ -75,7 +76,7 @@ impl TcpConnection {
         unreachable!()
     }
 
-    /// Reads to the front of the buffer, and returns how many bytes.
+    /// Reads into the front of `buffer`, and returns how many bytes were read.
     pub(crate) fn read<R: IoRuntime>(
         &mut self,
         rt: &R,
@@ -94,7 +95,7 @@ impl TcpConnection {
         unreachable!()
     }
 
-    /// A write that begins at this moment, and that a signal may interrupt.
+    /// Tries a write that begins at `now`. A signal may interrupt it.
     fn try_write(&mut self, now: Option<Instant>, bytes: &[u8]) -> io::Result<usize>
         ensures count { IfOk result (λ count. count ≤ length bytes.now) }
         ensures limit { IfOk result (λ count. IsAllowed self.old now self.new.socket.write_limit) }
@@ -111,7 +112,7 @@ impl TcpConnection {
         Ok(count)
     }
 
-    /// A read that begins at this moment, and that a signal may interrupt.
+    /// Tries a read that begins at `now`. A signal may interrupt it.
     fn try_read(&mut self, now: Option<Instant>, buffer: &mut [u8]) -> io::Result<usize>
         ensures count { IfOk result (λ count. count ≤ length buffer.new) }
         ensures limit { IfOk result (λ count. IsAllowed self.old now self.new.socket.read_limit) }
@@ -123,7 +124,7 @@ impl TcpConnection {
         self.socket.read(limit, buffer)
     }
 
-    /// The clock, where the next call of the exchange depends on it.
+    /// Reads the clock, if the next call of the exchange depends on the time.
     fn moment<R: IoRuntime>(&self, rt: &R) -> Option<Instant> {
         if self.has_waited {
             Instant::now(rt).ok()
@@ -132,7 +133,7 @@ impl TcpConnection {
         }
     }
 
-    /// How long a call of the exchange may take at this moment.
+    /// How long a call of the exchange that begins at `now` may take.
     fn allowance(&self, now: Option<Instant>) -> io::Result<Duration>
         ensures ok { IfOk result (IsAllowed self.now now) }
         ensures over { IfErr result (λ error.
@@ -148,7 +149,7 @@ impl TcpConnection {
     }
 }
 
-/// Which fault of a wire an error of the socket is.
+/// The fault of a wire that an error of the socket counts as.
 fn fault_of(error: Error) -> WireFault
     ensures { result ≡ fault_of_kind (error_kind error) }
 {

@@ -1,5 +1,6 @@
 //! A server, and the connection to it.
-ghost use Rattle.std.specs.Prelude.{◌≡◌, ◌≤◌, false, true, IfOk, IfSome, None, OnOk, Some, length, string_bytes};
+ghost use Rattle.std.specs.Prelude.{◌≡◌, ◌≤◌, false, true, IfOk, IfSome, None, OnOk, Some};
+ghost use Rattle.std.specs.Prelude.{length, string_bytes};
 ghost use Rattle.std.specs.Duration.{as_nanos};
 ghost use Rattle.tko_tcp.specs.declared.exchange_time.ExchangeTime.{ExchangeTime};
 ghost use Rattle.tko_tcp.specs.TcpConnections.{IsOpened};
@@ -13,7 +14,7 @@ use std::time::Duration;
 use tko_io::IoRuntime;
 use tko_links::WireFault;
 
-/// A server's address, and the connection to it where there is one.
+/// A server's address, and the connection to it, if there is one.
 #[derive(Drop)]
 pub(crate) struct TcpServer {
     address: String,
@@ -37,7 +38,7 @@ impl TcpServer {
         self.connection.is_some()
     }
 
-    /// Begins an exchange by connecting. A connection that was there is given up.
+    /// Begins an exchange by connecting. An open connection is closed first.
     pub(crate) fn connect<R: IoRuntime>(
         &mut self,
         rt: &R,
@@ -83,7 +84,7 @@ impl TcpServer {
         }
     }
 
-    /// Begins an exchange: whether the connection can be used for it.
+    /// Begins an exchange, and returns whether the open connection can be used for it.
     pub(crate) fn begin<R: IoRuntime>(&mut self, rt: &R, limit: Duration) -> bool
         ensures kept { is_open self.new ≡ is_open self.old }
         ensures limited { is_open self.old ≡ true → limit_of self.new ≡ Some (as_nanos limit) }

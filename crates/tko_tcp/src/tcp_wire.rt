@@ -1,9 +1,10 @@
 //! The connections to the servers over the system's sockets.
 //!
-//! Of a socket nothing is known but counts: which bytes it takes and gives, and when it fails, no
-//! contract says. What contracts see is the servers' addresses, which of them are connected, how
-//! often calls failed, and the time limits that exchanges begin with.
-ghost use Rattle.std.specs.Prelude.{◌≡◌, ◌+◌, ◌*◌, ◌<◌, None, false, IfOk, get_or, length, map, replicate, string_bytes};
+//! No contract says which bytes a socket takes and returns, or when it fails. Contracts speak of
+//! the servers' addresses, which of them are connected, how often calls failed, and the time limits
+//! with which exchanges begin.
+ghost use Rattle.std.specs.Prelude.{◌≡◌, ◌+◌, ◌*◌, ◌<◌, None, false, IfOk, get_or, length, map};
+ghost use Rattle.std.specs.Prelude.{replicate, string_bytes};
 ghost use Rattle.tko_tcp.specs.ProbeTimes.{nanos_in_milli};
 ghost use Rattle.tko_tcp.specs.TcpWires.{IsTcpStep};
 ghost use Rattle.tko_links.specs.Wires.{faults_in, refusals_in};
@@ -51,9 +52,9 @@ impl Model for TcpWire {
 }
 
 impl TcpWire {
-    /// Connections to the servers with these addresses, whose hosts `names` has, none of which is
-    /// connected yet. An exchange may take `time_limit_ms` milliseconds, of which connecting is a
-    /// part; probes share that time.
+    /// The connections to the servers with these addresses, none of which is connected yet; `names`
+    /// has their hosts. An exchange may take `time_limit_ms` milliseconds, connecting included, and
+    /// all probes share one such time.
     pub fn new(
         alloc: Global,
         addresses: &[String],

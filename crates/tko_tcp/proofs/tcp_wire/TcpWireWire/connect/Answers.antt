@@ -1,7 +1,8 @@
 use Rattle.std.proofs.Common.{ap, ◌∙◌, sym}
 use Rattle.tko_tcp.specs.TcpWires.{TcpState, address_of, is_open}
 use Rattle.tko_links.specs.Wires.{is_ok}
-use Rattle.tko_tcp.proofs.TcpLemmas.{at_set, beside_set, connect_step, keep_seen, limit_made, rose, set_seen}
+use Rattle.tko_tcp.proofs.TcpLemmas.{at_set, beside_set, connect_step, keep_seen, limit_made}
+use Rattle.tko_tcp.proofs.TcpLemmas.{rose, set_seen}
 use Rattle.tko_tcp.proofs.tcp_wire.TcpWireWire.connect.Goals as goal
 
 pub returns-clause-record : goal.returns-clause-record
@@ -9,7 +10,9 @@ returns-clause-record g c =
     let was = ap (λ (s : TcpState). s.connected) c.self.view_is in
     rw c.counted.ensures.same (connect_step _ _ c.args.server _
     (record {
-      addresses = keep_seen address_of _ _ c.args.server _ _ (ap (λ (s : TcpState). s.addresses) c.self.view_is)
+      addresses =
+          keep_seen address_of _ _ c.args.server _ _
+          (ap (λ (s : TcpState). s.addresses) c.self.view_is)
           c.index_mut.ensures.value c.connect-connected.ensures.address;
       whole = ap (λ (s : TcpState). s.whole) c.self.view_is;
       limit = ap (λ (s : TcpState). s.limit) c.self.view_is;
@@ -21,11 +24,13 @@ returns-clause-record g c =
 
 pub returns-clause-connected : goal.returns-clause-connected
 returns-clause-connected g c =
-    at_set _ _ _ _ (set_seen is_open _ _ c.args.server _ _ (ap (λ (s : TcpState). s.connected) c.self.view_is)
+    at_set _ _ _ _
+    (set_seen is_open _ _ c.args.server _ _ (ap (λ (s : TcpState). s.connected) c.self.view_is)
     c.connect-connected.ensures.connected) c.requires.within
     ∙ ap is_ok (sym c.counted.ensures.same)
 
 pub returns-clause-others : goal.returns-clause-others
 returns-clause-others g c other apart =
-    beside_set _ _ _ _ _ (set_seen is_open _ _ c.args.server _ _ (ap (λ (s : TcpState). s.connected) c.self.view_is)
+    beside_set _ _ _ _ _
+    (set_seen is_open _ _ c.args.server _ _ (ap (λ (s : TcpState). s.connected) c.self.view_is)
     c.connect-connected.ensures.connected) apart

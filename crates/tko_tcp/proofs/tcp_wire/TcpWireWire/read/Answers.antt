@@ -7,7 +7,9 @@ pub returns-clause-record : goal.returns-clause-record
 returns-clause-record g c =
     rw c.counted.ensures.same (read_step _ _ c.args.server c.read-read.new.buffer _
     (record {
-      addresses = keep_seen address_of _ _ c.args.server _ _ (ap (λ (s : TcpState). s.addresses) c.self.view_is)
+      addresses =
+          keep_seen address_of _ _ c.args.server _ _
+          (ap (λ (s : TcpState). s.addresses) c.self.view_is)
           c.index_mut.ensures.value c.read-read.ensures.address;
       whole = ap (λ (s : TcpState). s.whole) c.self.view_is;
       limit = ap (λ (s : TcpState). s.limit) c.self.view_is;

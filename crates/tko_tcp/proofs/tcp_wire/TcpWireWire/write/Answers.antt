@@ -7,14 +7,17 @@ pub returns-clause-record : goal.returns-clause-record
 returns-clause-record g c =
     rw c.counted_write.ensures.same (write_step _ _ c.args.server c.args.bytes.now _
     (record {
-      addresses = keep_seen address_of _ _ c.args.server _ _ (ap (λ (s : TcpState). s.addresses) c.self.view_is)
+      addresses =
+          keep_seen address_of _ _ c.args.server _ _
+          (ap (λ (s : TcpState). s.addresses) c.self.view_is)
           c.index_mut.ensures.value c.write-written.ensures.address;
       whole = ap (λ (s : TcpState). s.whole) c.self.view_is;
       limit = ap (λ (s : TcpState). s.limit) c.self.view_is;
     })
     (keep_seen is_open _ _ c.args.server _ _ (ap (λ (s : TcpState). s.connected) c.self.view_is)
     c.index_mut.ensures.value c.write-written.ensures.kept)
-    (rose _ _ _ _ c.counted_write.ensures.failures (ap (λ (s : TcpState). s.failures) c.self.view_is)))
+    (rose _ _ _ _ c.counted_write.ensures.failures
+    (ap (λ (s : TcpState). s.failures) c.self.view_is)))
 
 pub returns-clause-kept : goal.returns-clause-kept
 returns-clause-kept g c other =
