@@ -1,29 +1,35 @@
 -- Where each call ends: what it says of the keys as they were.
-use Rattle.std.proofs.Common.{◌≡◌, ◌<◌, ◌≤◌, ◌+◌, ◌-◌, ℕ, zero, suc, Bool, true, not, List, [], ◌∷◌, ◌++◌, cond, length, length-append, Option, Some, None, refl, sym, ap, subst, ◌∙◌, arith, inl, inr}
-use Rattle.std.specs.Prelude.{IsSome, drop, position, remove, slice_get, slice_index_or, slice_set, take}
-use Rattle.std.specs.List.{position_or_len}
-use Rattle.std.proofs.lemmas.Bool.{lt-ltb}
-use Rattle.std.proofs.lemmas.Bool.Decides.{eqb_tells}
-use Rattle.std.proofs.lemmas.Option.{get_or_from_slice_get, none-some, same_Some, slice_get-get_or, slice_get_within}
+use Rattle.std.proofs.Common.{◌≡◌, ◌<◌, ◌≤◌, ◌+◌, ◌-◌, ◌^◌, ℕ, Bool, true, List, [], ◌∷◌, ◌++◌, length, length-append, append_assoc, map, Option, Some, None, Err, Ok, Result, refl, sym, ap, subst, ◌∙◌, arith, inl, inr}
+use Rattle.std.specs.Prelude.{OnOk, flat_map, All, IsSome, drop, remove, slice_get, slice_index_or, slice_set, take}
+use Rattle.std.proofs.lemmas.List.Elements.{All-cons, All-head, All-nil, All-tail}
+use Rattle.std.proofs.lemmas.Option.{get_or_from_slice_get, slice_get_past, slice_get_within}
 use Rattle.tko_model.specs.Records.{HealthItem}
+use Rattle.tko_model.specs.declared.mark.Reply.{Reply}
 use Rattle.tko_links.specs.declared.links.Outcome.{Outcome}
 use Rattle.tko_text.specs.declared.request.Request.{Request}
 use Rattle.tko_pools.specs.Configs.{Configuration}
+use Rattle.tko_route.specs.Calls.{Call, Told}
+use Rattle.tko_route.specs.Trail.{IsRecorded, op_of, record_of}
+use Rattle.tko_route.proofs.RecordedLemmas.{gains_recorded, is_replied}
 use Rattle.tko_route.specs.Routing.{GoesOn}
 use Rattle.tko_route.specs.Underway.{Awaited}
 use Rattle.tko_route.specs.declared.attempt.Attempt.{Attempt}
-use Rattle.tko_keys.specs.declared.ask.Ask.{Ask}
-use Rattle.tko_keys.specs.declared.step.KeyStep.{KeyStep}
-use Rattle.tko_keys.specs.KeysDriven.{AreUnderWay, FirstLost, FirstTaken, IsStopped, NextLost, asks_for, failed_with, with_loss}
-use Rattle.tko_keys.specs.KeysDriven as driven
-use Rattle.tko_keys.specs.FirstKey.{TakesNext}
 use Rattle.tko_reply.specs.Cuts.{KeyLost}
-use Rattle.tko_keys.specs.KeysState.{KeySlot, KeysState, MayBegin, first_at, has_values, values_ahead, without_first}
-use Rattle.tko_keys.specs.SlotCalls.{IsAnyOut, IsSlotOut, SlotBegun, SlotDropped, SlotTaken}
-use Rattle.tko_keys.proofs.AskLemmas.{at_server, first_ask, first_index}
-use Rattle.tko_keys.proofs.CallLemmas.{begun_out, failed_more, next_lost_ready, stopped_step, taken_lost_ready, taken_ready}
-use Rattle.tko_keys.proofs.PlaceLemmas.{ahead_pushed, ahead_replaced, get_end}
-use Rattle.tko_keys.proofs.ReadyLemmas.{out_no_values, push_step, step_ready}
+use Rattle.tko_reply.specs.Replies.{end_line}
+use Rattle.tko_keys.specs.FirstKey.{TakesNext}
+use Rattle.tko_keys.specs.declared.step.KeyStep.{KeyStep}
+use Rattle.tko_keys.specs.declared.plan.Grouping.{Grouping}
+use Rattle.tko_keys.specs.Lines.{IsSentBy}
+use Rattle.tko_keys.specs.KeysDriven.{AreUnderWay, FirstLost, FirstTaken, HasArrived, HasStopped, IsLastAt, IsOutAt, IsSentAt, IsUnsent, NextLost, came_of, due_by, failed_with, others_of}
+use Rattle.tko_keys.specs.KeysDriven as driven
+use Rattle.tko_keys.specs.KeysState.{DueKey, HavePlaces, KeySend, KeySlot, KeysCame, KeysState, MayBegin, first_send, has_values, places_in, places_out, reply_at, reply_in, values_ahead, without_first}
+use Rattle.tko_keys.specs.Groups.{IsFirstDue}
+use Rattle.tko_keys.specs.SlotCalls as parted
+use Rattle.tko_keys.specs.SlotCalls.{CanGoOn, IsAnyOut, IsSlotOut, PartDropped, PartTaken, SlotBegun}
+use Rattle.tko_keys.proofs.CallLemmas.{arrived_ready, begun_said, failed_more, next_lost_ready, push_step, stopped_ready, taken_lost_ready, taken_ready, unsent_ready}
+use Rattle.tko_keys.proofs.PlaceLemmas.{ahead_pushed, ahead_replaced}
+use Rattle.tko_keys.proofs.ReadyLemmas.{all_split, due_places, length_in, out_no_values, send_places, step_ready}
+use Rattle.tko_keys.proofs.SendLemmas.{first_found, split_at}
 use Rattle.tko_keys.proofs.SlotLemmas.{went_so}
 
 pub ahead_push : (slots slots' : List KeySlot) (ahead : ℕ) (slot : KeySlot) → ahead ≡ values_ahead slots → slots' ≡ slots ++ slot ∷ [] → ahead ≤ values_ahead slots'
@@ -34,238 +40,258 @@ module _ {H : Type 0} {steps : H → HealthItem → H → Type 0} {health health
   -- the next key was begun
   pub begun_ready : {old new : KeysState} {said : KeyStep} {request : Request} (slot : KeySlot) → AreUnderWay config old → MayBegin old
       → GoesOn steps health (λ calls. SlotBegun config request calls said slot) health'
-      → new.slots ≡ old.slots ++ slot ∷ [] → new.asks ≡ old.asks ++ asks_for (length old.slots) slot.waiting → new.most ≡ old.most → new.failed ≡ failed_with slot old.failed
+      → new.slots ≡ old.slots ++ slot ∷ [] → new.due ≡ old.due ++ due_by (length old.slots) said → new.sends ≡ old.sends → new.came ≡ old.came
+      → new.plan ≡ old.plan → new.unique ≡ old.unique → new.failed ≡ failed_with slot old.failed
       → AreUnderWay config new
-  begun_ready {old} slot ready may on slots asks most failed =
-      step_ready ready (push_step ready slot may.3 may.4 slots asks most (λ is. failed_more slot old.failed (sym failed ∙ is)) (begun_out slot on.is))
+  begun_ready {old} {said = said} slot ready may on slots due sends came plan unique failed =
+      step_ready ready (push_step ready slot said may.3 may.4 slots due sends came plan unique (λ is. failed_more slot old.failed (sym failed ∙ is)) (begun_said slot on.is))
 
   -- memory ran out at it
-  pub begin_lost_ends : {old state : KeysState} {attempts : List Attempt} {slots' : List KeySlot} {left' : List (List ℕ)} {asks' : List Ask} {request : Request} (slot : KeySlot) → state ≡ old → AreUnderWay config state → MayBegin state
-      → TakesNext state.unique state.left request left'
-      → GoesOn steps health (λ calls. KeyLost config request calls attempts) health' → slot.waiting ≡ None → slots' ≡ state.slots ++ slot ∷ [] → asks' ≡ state.asks
-      → GoesOn steps health (λ calls. NextLost config old calls attempts (record state { left = left'; slots = slots'; asks = asks'; lost = true })) health'
-      × AreUnderWay config (record state { left = left'; slots = slots'; asks = asks'; lost = true })
-  begin_lost_ends {old} {state} {attempts} {slots'} {left'} {asks'} {request} slot is ready may next on ended slots asks =
-      let New : KeysState = record state { left = left'; slots = slots'; asks = asks'; lost = true } in
+  pub begin_lost_ends : {old state : KeysState} {attempts : List Attempt} {slots' : List KeySlot} {left' : List (List ℕ)} {due' : List DueKey} {sends' : List KeySend} {request : Request} (slot : KeySlot)
+      → state ≡ old → AreUnderWay config state → MayBegin state → TakesNext state.unique state.left request left'
+      → GoesOn steps health (λ calls. KeyLost config request calls attempts) health' → slot.waiting ≡ None → slots' ≡ state.slots ++ slot ∷ [] → due' ≡ state.due → sends' ≡ state.sends
+      → GoesOn steps health (λ calls. NextLost config old calls attempts (record state { left = left'; slots = slots'; due = due'; sends = sends'; lost = true })) health'
+      × AreUnderWay config (record state { left = left'; slots = slots'; due = due'; sends = sends'; lost = true })
+  begin_lost_ends {old} {state} {attempts} {slots'} {left'} {due'} {sends'} {request} slot is ready may next on ended slots due sends =
+      let New : KeysState = record state { left = left'; slots = slots'; due = due'; sends = sends'; lost = true } in
       let goes : GoesOn steps health (λ calls. NextLost config state calls attempts New) health' =
       went_so on (λ calls lost. driven.at_next next.key left' slot may next.next
-      (subst (λ (r : Request). KeyLost config r calls attempts) next.is lost) ended (rw (slots, asks) refl)) in
+      (subst (λ (r : Request). KeyLost config r calls attempts) next.is lost) ended (rw (slots, due, sends) refl)) in
       (subst (λ (s : KeysState). GoesOn steps health (λ calls. NextLost config s calls attempts New) health') is goes, next_lost_ready ready goes.is)
 
--- the first request at a server, as it is found
-pub record AtFirst (config : Configuration) (state : KeysState) (server index : ℕ) (ask : Ask) : Type 0 where
-  pub first : first_at server state.asks ≡ Some ask
-  pub others : remove state.asks index ≡ without_first server state.asks
-  pub at : slice_get state.asks index ≡ Some ask
-  pub meets : ask.server ≡ server
+-- the first key that something came for, as it is found
+pub record AtCame (config : Configuration) (state : KeysState) (place : ℕ) (places : List ℕ) : Type 0 where
+  pub first : state.came.places ≡ place ∷ places
   pub slot : KeySlot
   pub waiting : Awaited
-  pub was : slice_get state.slots ask.place ≡ Some slot
+  pub was : slice_get state.slots place ≡ Some slot
   pub is : IsSlotOut config slot waiting
 
-out_asked : {config : Configuration} {state : KeysState} (index : ℕ) (ask : Ask) → AreUnderWay config state → slice_get state.asks index ≡ Some ask
-    → (slot : KeySlot) × (waiting : Awaited) × (slice_get state.slots ask.place ≡ Some slot) × IsSlotOut config slot waiting
-out_asked {config} {state} index ask ready at =
-    let is = ready.asked index ask (slice_get_within state.asks index ask at) in
-    (is.slot, is.waiting, ap (λ (a : Ask). slice_get state.slots a.place) (sym (get_or_from_slice_get state.asks index ask ask at)) ∙ is.at, is.is)
+pub at_came : {config : Configuration} {state : KeysState} {place : ℕ} {places : List ℕ} → AreUnderWay config state → state.came.places ≡ place ∷ places → AtCame config state place places
+at_came {config} {state} {place} {places} ready first =
+    let out = All-head (IsOutAt config state.slots) place places (subst (All (IsOutAt config state.slots)) first ready.came.each) in
+    record { first = first; slot = out.slot; waiting = out.waiting; was = out.at; is = out.is }
 
-pub at_first : {config : Configuration} {state : KeysState} {server index : ℕ} {ask : Ask} → AreUnderWay config state → position (at_server server) state.asks ≡ Some index
-    → ask ≡ slice_index_or state.asks index ask → AtFirst config state server index ask
-at_first {config} {state} {server} {index} {ask} ready found read =
-    let is = first_index server state.asks index found in
-    let same : is.ask ≡ ask = sym (get_or_from_slice_get state.asks index is.ask ask is.at) ∙ sym read in
-    let at : slice_get state.asks index ≡ Some ask = is.at ∙ ap Some same in
-    let out = out_asked index ask ready at in
-    record {
-      first = is.first ∙ ap Some same;
-      others = is.others;
-      at = at;
-      meets = ap (λ (a : Ask). a.server) (sym same) ∙ (first_ask server state.asks is.ask is.first).meets;
-      slot = out.0;
-      waiting = out.1;
-      was = out.2;
-      is = out.3;
-    }
-
--- one is found where one is
-first_within : (server : ℕ) (asks : List Ask) → IsSome (first_at server asks) → position_or_len (at_server server) asks < length asks
-first_within server [] some = absurd (let none : ⊥ = cc some in none)
-first_within server (one ∷ asks) some = elim (eqb_tells one.server server) [
-  | inl eq ↦
-      let none : position_or_len (at_server server) (one ∷ asks) ≡ 0 = ap (λ b. cond (not b) (1 + position_or_len (at_server server) asks) 0) eq.0 in
-      omega (arith, none)
-  | inr ne ↦
-      let more : position_or_len (at_server server) (one ∷ asks) ≡ 1 + position_or_len (at_server server) asks =
-      ap (λ b. cond (not b) (1 + position_or_len (at_server server) asks) 0) ne.0 in
-      let rest = first_within server asks (subst IsSome (ap (λ b. cond b (Some one) (first_at server asks)) ne.0) some) in
-      omega (arith, more, rest)
-]
-
-pub never_none : (server : ℕ) (asks : List Ask) → IsSome (first_at server asks) → position (at_server server) asks ≡ None → ⊥
-never_none server asks some none =
-    none-some (position_or_len (at_server server) asks)
-    (sym none ∙ ap (λ b. cond b (Some (position_or_len (at_server server) asks)) None) (lt-ltb _ _ (first_within server asks some)))
-
-module _ {config : Configuration} {state : KeysState} {server index : ℕ} {ask : Ask} (at : AtFirst config state server index ask) where
-  pub place_within : ask.place < length state.slots
-  place_within = slice_get_within state.slots ask.place at.slot at.was
+module _ {config : Configuration} {state : KeysState} {place : ℕ} {places : List ℕ} (at : AtCame config state place places) where
+  pub place_within : place < length state.slots
+  place_within = slice_get_within state.slots place at.slot at.was
 
   -- the slot that is read there
-  pub same_slot : {read : KeySlot} → read ≡ slice_index_or state.slots ask.place read → at.slot ≡ read
-  same_slot {read} is = sym (get_or_from_slice_get state.slots ask.place at.slot read at.was) ∙ sym is
+  pub same_slot : {read : KeySlot} → read ≡ slice_index_or state.slots place read → at.slot ≡ read
+  same_slot {read} is = sym (get_or_from_slice_get state.slots place at.slot read at.was) ∙ sym is
 
-  pub slot_out : {read : KeySlot} → read ≡ slice_index_or state.slots ask.place read → IsAnyOut config read
+  pub slot_out : {read : KeySlot} → read ≡ slice_index_or state.slots place read → IsAnyOut config read
   slot_out {read} is = subst (IsAnyOut config) (same_slot is) (record { waiting = at.waiting; is = at.is })
 
-  pub ahead_set : {slots' : List KeySlot} {ahead : ℕ} (now : KeySlot) → ahead ≡ values_ahead state.slots → slots' ≡ slice_set state.slots ask.place now → ahead ≤ values_ahead slots'
+  pub ahead_set : {slots' : List KeySlot} {ahead : ℕ} (now : KeySlot) → ahead ≡ values_ahead state.slots → slots' ≡ slice_set state.slots place now → ahead ≤ values_ahead slots'
   ahead_set {slots'} {ahead} now is set =
-      subst (λ ss. ahead ≤ values_ahead ss) (sym set) (subst (λ n. n ≤ values_ahead (slice_set state.slots ask.place now)) (sym is)
-      (ahead_replaced has_values state.slots ask.place at.slot now at.was (out_no_values at.slot at.waiting at.is.out)))
+      subst (λ ss. ahead ≤ values_ahead ss) (sym set) (subst (λ n. n ≤ values_ahead (slice_set state.slots place now)) (sym is)
+      (ahead_replaced has_values state.slots place at.slot now at.was (out_no_values at.slot at.waiting at.is.out)))
 
 module _ {H : Type 0} {steps : H → HealthItem → H → Type 0} {health health' : H} {config : Configuration} where
-  -- what came of a request was recorded
-  pub taken_ends : {old state : KeysState} {server index : ℕ} {ask : Ask} {read after : KeySlot} {said : KeyStep} {outcome : Outcome} {asks' : List Ask} {failed' : Bool} → state ≡ old → AreUnderWay config state
-      → (at : AtFirst config state server index ask) → read ≡ slice_index_or state.slots ask.place read
-      → GoesOn steps health (λ calls. SlotTaken config outcome read calls said after) health'
-      → asks' ≡ remove state.asks index ++ asks_for ask.place after.waiting → failed' ≡ failed_with after state.failed
-      → GoesOn steps health (λ calls. FirstTaken config server outcome old calls said (record state { slots = slice_set state.slots ask.place after; asks = asks'; failed = failed' })) health'
-      × AreUnderWay config (record state { slots = slice_set state.slots ask.place after; asks = asks'; failed = failed' })
-  taken_ends {old} {state} {server} {index} {ask} {read} {after} {said} {outcome} {asks'} {failed'} is ready at reads on asks failed =
-      let New : KeysState = record state { slots = slice_set state.slots ask.place after; asks = asks'; failed = failed' } in
-      let same : asks' ≡ without_first ask.server state.asks ++ asks_for ask.place after.waiting =
-      asks ∙ ap (λ xs. xs ++ asks_for ask.place after.waiting) (at.others ∙ ap (λ n. without_first n state.asks) (sym at.meets)) in
-      let goes : GoesOn steps health (λ calls. FirstTaken config server outcome state calls said New) health' =
+  -- a key was taken on
+  pub taken_ends : (said' : KeyStep) {old state : KeysState} {place : ℕ} {places : List ℕ} {read after : KeySlot} {came left : KeysCame} {said : KeyStep} {due' : List DueKey} {failed' : Bool} → said' ≡ said → state ≡ old → AreUnderWay config state
+      → (at : AtCame config state place places) → read ≡ slice_index_or state.slots place read → came ≡ others_of places state.came
+      → GoesOn steps health (λ calls. PartTaken config came read calls said left after) health'
+      → due' ≡ state.due ++ due_by place said → failed' ≡ failed_with after state.failed
+      → GoesOn steps health (λ calls. FirstTaken config old calls said' (record state { slots = slice_set state.slots place after; due = due'; came = left; failed = failed' })) health'
+      × AreUnderWay config (record state { slots = slice_set state.slots place after; due = due'; came = left; failed = failed' })
+  taken_ends said' {old} {state} {place} {places} {read} {after} {came} {left} {said} {due'} {failed'} says is ready at reads rest on due failed =
+      let New : KeysState = record state { slots = slice_set state.slots place after; due = due'; came = left; failed = failed' } in
+      let goes : GoesOn steps health (λ calls. FirstTaken config state calls said New) health' =
       went_so on (λ calls taken. record {
-        ask = ask;
-        slot = at.slot;
+        place = place;
+        places = places;
         first = at.first;
+        slot = at.slot;
         was = at.was;
         after = after;
-        taken = subst (λ (k : KeySlot). SlotTaken config outcome k calls said after) (sym (same_slot at reads)) taken;
-        state = rw (same, failed) refl;
-      }) in
-      (subst (λ (s : KeysState). GoesOn steps health (λ calls. FirstTaken config server outcome s calls said New) health') is goes, taken_ready ready goes.is)
+        left = left;
+        taken =
+            subst (λ (k : KeySlot). PartTaken config (others_of places state.came) k calls said left after) (sym (same_slot at reads))
+            (subst (λ (m : KeysCame). PartTaken config m read calls said left after) rest taken);
+        state = rw (due, failed) refl;
+      }) in (
+        subst (λ (k : KeyStep). GoesOn steps health (λ calls. FirstTaken config old calls k New) health') (sym says)
+            (subst (λ (s : KeysState). GoesOn steps health (λ calls. FirstTaken config s calls said New) health') is goes),
+        taken_ready ready goes.is,
+      )
 
   -- memory ran out there
-  pub lost_ends : {old state : KeysState} {server index : ℕ} {ask : Ask} {read after : KeySlot} {attempts : List Attempt} {outcome : Outcome} {asks' : List Ask} → state ≡ old → AreUnderWay config state
-      → (at : AtFirst config state server index ask) → read ≡ slice_index_or state.slots ask.place read
-      → GoesOn steps health (λ calls. SlotDropped config outcome read calls attempts after) health'
-      → asks' ≡ remove state.asks index
-      → GoesOn steps health (λ calls. FirstLost config server outcome old calls attempts (record state { slots = slice_set state.slots ask.place after; asks = asks'; lost = true })) health'
-      × AreUnderWay config (record state { slots = slice_set state.slots ask.place after; asks = asks'; lost = true })
-  lost_ends {old} {state} {server} {index} {ask} {read} {after} {attempts} {outcome} {asks'} is ready at reads on asks =
-      let New : KeysState = record state { slots = slice_set state.slots ask.place after; asks = asks'; lost = true } in
-      let goes : GoesOn steps health (λ calls. FirstLost config server outcome state calls attempts New) health' =
+  pub lost_ends : {old state : KeysState} {place : ℕ} {places : List ℕ} {read after : KeySlot} {came left : KeysCame} {attempts : List Attempt} → state ≡ old → AreUnderWay config state
+      → (at : AtCame config state place places) → read ≡ slice_index_or state.slots place read → came ≡ others_of places state.came
+      → GoesOn steps health (λ calls. PartDropped config came read calls attempts left after) health'
+      → GoesOn steps health (λ calls. FirstLost config old calls attempts (record state { slots = slice_set state.slots place after; came = left; lost = true })) health'
+      × AreUnderWay config (record state { slots = slice_set state.slots place after; came = left; lost = true })
+  lost_ends {old} {state} {place} {places} {read} {after} {came} {left} {attempts} is ready at reads rest on =
+      let New : KeysState = record state { slots = slice_set state.slots place after; came = left; lost = true } in
+      let goes : GoesOn steps health (λ calls. FirstLost config state calls attempts New) health' =
       went_so on (λ calls lost. record {
-        ask = ask;
-        slot = at.slot;
+        place = place;
+        places = places;
         first = at.first;
+        slot = at.slot;
         was = at.was;
         after = after;
-        lost = subst (λ (k : KeySlot). SlotDropped config outcome k calls attempts after) (sym (same_slot at reads)) lost;
-        state = rw (asks ∙ at.others) refl;
+        left = left;
+        lost =
+            subst (λ (k : KeySlot). PartDropped config (others_of places state.came) k calls attempts left after) (sym (same_slot at reads))
+            (subst (λ (m : KeysCame). PartDropped config m read calls attempts left after) rest lost);
+        state = refl;
       }) in
-      (subst (λ (s : KeysState). GoesOn steps health (λ calls. FirstLost config server outcome s calls attempts New) health') is goes, taken_lost_ready ready goes.is)
+      (subst (λ (s : KeysState). GoesOn steps health (λ calls. FirstLost config s calls attempts New) health') is goes, taken_lost_ready ready goes.is)
 
--- a request under way, as it is read at its place
-pub record AtIndex (config : Configuration) (state : KeysState) (index : ℕ) (ask : Ask) : Type 0 where
-  pub before : List Ask
-  pub rest : List Ask
-  pub are : state.asks ≡ before ++ ask ∷ rest
-  pub others : remove state.asks index ≡ before ++ rest
-  pub at : slice_get state.asks index ≡ Some ask
-  pub slot : KeySlot
-  pub waiting : Awaited
-  pub was : slice_get state.slots ask.place ≡ Some slot
-  pub is : IsSlotOut config slot waiting
+-- how many keys are out once one was taken on
+pub out_taken : (due : List DueKey) (sends : List KeySend) (came left : KeysCame) (place : ℕ) (places : List ℕ) (said : KeyStep) (out now : ℕ) → out ≡ length (places_in due sends came)
+    → came.places ≡ place ∷ places → left.places ≡ places → now ≡ (out - 1) + length (due_by place said) → now ≡ length (places_in (due ++ due_by place said) sends left)
+out_taken due sends came left place places said out now was first rest is =
+    omega (arith, was, is, length_in due sends came, length_in (due ++ due_by place said) sends left, length-append due (due_by place said), ap length first, ap length rest)
 
-pub split_at : {X : Type 0} (xs : List X) (i : ℕ) (x : X) → slice_get xs i ≡ Some x → xs ≡ take i xs ++ x ∷ drop (suc i) xs
-split_at [] i x at = absurd (none-some x at)
-split_at (y ∷ xs) zero x at = ap (λ z. z ∷ xs) (same_Some y x at)
-split_at (y ∷ xs) (suc i) x at = ap (λ zs. y ∷ zs) (split_at xs i x at)
+-- one was, and so room is there for it where it is due again
+pub room_taken : (due : List DueKey) (sends : List KeySend) (came : KeysCame) (place : ℕ) (places : List ℕ) (out room : ℕ) → out ≡ length (places_in due sends came)
+    → came.places ≡ place ∷ places → out ≤ room → (length due < room) × (1 ≤ out)
+room_taken due sends came place places out room was first fits =
+    (omega (arith, was, length_in due sends came, ap length first, fits), omega (arith, was, length_in due sends came, ap length first))
 
-some_there : {X : Type 0} (o : Option X) → IsSome o → (x : X) × (o ≡ Some x)
-some_there None some = absurd (let none : ⊥ = cc some in none)
-some_there (Some x) some = (x, refl)
+-- memory ran out for a request
+pub stop_ends : {state old : KeysState} {server : ℕ} {send : KeySend} {sends' : List KeySend} {came' : KeysCame} → state ≡ old → old.came.places ≡ [] → first_send server state.sends ≡ Some send
+    → sends' ≡ without_first server state.sends → came' ≡ came_of send None None
+    → HasStopped server old (record state { sends = sends'; came = came' })
+    × ((config : Configuration) → AreUnderWay config old → AreUnderWay config (record state { sends = sends'; came = came' }))
+stop_ends {state} {old} {server} {send} {sends'} {came'} same none first sends came =
+    let stopped : HasStopped server state (record state { sends = sends'; came = came' }) = record {
+      settled = ap (λ (s : KeysState). s.came.places) same ∙ none;
+      send = send;
+      first = first;
+      state = rw (sends, came) refl;
+    } in
+    let here : HasStopped server old (record state { sends = sends'; came = came' }) =
+    subst (λ (s : KeysState). HasStopped server s (record state { sends = sends'; came = came' })) same stopped in
+    (here, λ config ready. stopped_ready ready here)
 
-pub at_place : {config : Configuration} {state : KeysState} {index : ℕ} {ask : Ask} → AreUnderWay config state → IsSome (slice_get state.asks index) → ask ≡ slice_index_or state.asks index ask
-    → AtIndex config state index ask
-at_place {config} {state} {index} {ask} ready some read =
-    let there = some_there (slice_get state.asks index) some in
-    let at : slice_get state.asks index ≡ Some ask =
-    there.1 ∙ ap Some (sym (get_or_from_slice_get state.asks index there.0 ask there.1) ∙ sym read) in
-    let out = out_asked index ask ready at in
-    record {
-      before = take index state.asks;
-      rest = drop (suc index) state.asks;
-      are = split_at state.asks index ask at;
-      others = refl;
-      at = at;
-      slot = out.0;
-      waiting = out.1;
-      was = out.2;
-      is = out.3;
-    }
+pub unsent_ends : {state old : KeysState} {server index : ℕ} {send : KeySend} {sends' : List KeySend} {came' : KeysCame} → state ≡ old → old.came.places ≡ [] → IsLastAt server state.sends index
+    → send ≡ slice_index_or state.sends index send → sends' ≡ remove state.sends index → came' ≡ came_of send None None
+    → IsUnsent server old (record state { sends = sends'; came = came' })
+    × ((config : Configuration) → AreUnderWay config old → AreUnderWay config (record state { sends = sends'; came = came' }))
+unsent_ends {state} {old} {server} {index} {send} {sends'} {came'} same none last read sends came =
+    let this : last.send ≡ send = sym (get_or_from_slice_get state.sends index last.send send last.at) ∙ sym read in
+    let unsent : IsUnsent server state (record state { sends = sends'; came = came' }) = record {
+      settled = ap (λ (s : KeysState). s.came.places) same ∙ none;
+      send = send;
+      before = take index state.sends;
+      after = drop (Rattle.std.proofs.Common.suc index) state.sends;
+      are = split_at state.sends index send (last.at ∙ ap Some this);
+      meets = ap (λ (k : KeySend). k.server) (sym this) ∙ last.meets;
+      last = last.last;
+      state = rw (sends, came) refl;
+    } in
+    let here : IsUnsent server old (record state { sends = sends'; came = came' }) =
+    subst (λ (s : KeysState). IsUnsent server s (record state { sends = sends'; came = came' })) same unsent in
+    (here, λ config ready. unsent_ready ready here)
 
-module _ {config : Configuration} {state : KeysState} {index : ℕ} {ask : Ask} (at : AtIndex config state index ask) where
-  pub index_within : ask.place < length state.slots
-  index_within = slice_get_within state.slots ask.place at.slot at.was
+-- what came of a request was recorded
+pub arrive_ends : {H : Type 0} {steps : H → HealthItem → H → Type 0} {health health' : H} {state old : KeysState} {server : ℕ} {send : KeySend} {sends' : List KeySend} {came' : KeysCame} (outcome : Outcome)
+    (reply : Option Reply) → state ≡ old → old.came.places ≡ [] → first_send server state.sends ≡ Some send
+    → sends' ≡ without_first server state.sends → came' ≡ came_of send (Some outcome) reply → IsRecorded steps health server (op_of outcome) reply health'
+    → GoesOn steps health (λ calls. HasArrived server outcome old calls (record state { sends = sends'; came = came' })) health'
+    × ((config : Configuration) → AreUnderWay config old → AreUnderWay config (record state { sends = sends'; came = came' }))
+arrive_ends {steps = steps} {health} {health'} {state} {old} {server} {send} {sends'} {came'} outcome reply same none first sends came recorded =
+    let New : KeysState = record state { sends = sends'; came = came' } in
+    let items : List HealthItem = record_of server (op_of outcome) reply in
+    let arrived : HasArrived server outcome state (map Told items) New = record {
+      settled = ap (λ (s : KeysState). s.came.places) same ∙ none;
+      send = send;
+      reply = reply;
+      first = first;
+      told = refl;
+      replied = is_replied steps health server (op_of outcome) reply health' recorded;
+      state = rw (sends, came) refl;
+    } in
+    let here : HasArrived server outcome old (map Told items) New = subst (λ (s : KeysState). HasArrived server outcome s (map Told items) New) same arrived in
+    (record { items = items; gains = gains_recorded server (op_of outcome) reply recorded; is = here }, λ config ready. arrived_ready ready here)
 
-  pub read_slot : {read : KeySlot} → read ≡ slice_index_or state.slots ask.place read → at.slot ≡ read
-  read_slot {read} is = sym (get_or_from_slice_get state.slots ask.place at.slot read at.was) ∙ sym is
+some_send : (o : Option KeySend) → IsSome o → (x : KeySend) × (o ≡ Some x)
+some_send None some = absurd (let none : ⊥ = cc some in none)
+some_send (Some x) some = (x, refl)
 
-  pub ahead_stopped : {slots' : List KeySlot} {ahead : ℕ} (now : KeySlot) → ahead ≡ values_ahead state.slots → slots' ≡ slice_set state.slots ask.place now → ahead ≤ values_ahead slots'
-  ahead_stopped {slots'} {ahead} now is set =
-      subst (λ ss. ahead ≤ values_ahead ss) (sym set) (subst (λ n. n ≤ values_ahead (slice_set state.slots ask.place now)) (sym is)
-      (ahead_replaced has_values state.slots ask.place at.slot now at.was (out_no_values at.slot at.waiting at.is.out)))
+some_place : (grouping : Grouping) (unique : Bool) (slots : List KeySlot) (places : List ℕ) (line : Option Request) → IsSentBy grouping unique slots places line → 0 < length places
+some_place grouping unique slots places None by = omega (arith, by)
+some_place grouping unique slots [] (Some line) by = absurd (by.1 refl)
+some_place grouping unique slots (place ∷ places) (Some line) by = omega arith
 
-  -- memory ran out for it
-  pub stopped_ends : {read after : KeySlot} {attempts : List Attempt} {asks' : List Ask} → read ≡ slice_index_or state.slots ask.place read
-      → ((waiting : Awaited) → read.waiting ≡ Some waiting → attempts ≡ waiting.attempts) → after ≡ record read { waiting = None } → asks' ≡ remove state.asks index
-      → (other : Ask) → slice_get state.asks index ≡ Some other
-      → IsStopped other (remove state.asks index) state attempts (record state { slots = slice_set state.slots ask.place after; asks = asks'; lost = true })
-  stopped_ends {read} {after} {attempts} {asks'} reads tried then asks other is =
-      let same : ask ≡ other = same_Some ask other (sym at.at ∙ is) in
-      let slot : at.slot ≡ read = read_slot reads in
-      subst (λ (a : Ask). IsStopped a (remove state.asks index) state attempts (record state { slots = slice_set state.slots ask.place after; asks = asks'; lost = true })) same (record {
-        slot = read;
-        waiting = at.waiting;
-        was = at.was ∙ ap Some slot;
-        out = ap (λ (k : KeySlot). k.waiting) (sym slot) ∙ at.is.out;
-        before = tried at.waiting (ap (λ (k : KeySlot). k.waiting) (sym slot) ∙ at.is.out);
-        state = rw (then, asks) refl;
-      })
+-- a request is under way to a server
+pub sent_within : (servers server : ℕ) {state : KeysState} (config : Configuration) → AreUnderWay config state → servers ≡ length config.addresses → IsSome (first_send server state.sends)
+    → server < servers
+sent_within servers server {state} config ready same some =
+    let there = some_send (first_send server state.sends) some in
+    let send = there.0 in
+    let first = first_found server state.sends send there.1 in
+    let Sent : KeySend → Type 0 = IsSentAt config state.plan.grouping state.unique state.slots in
+    let sent = All-head Sent send first.after (all_split Sent first.before (send ∷ first.after) (subst (All Sent) first.are ready.sent)).1 in
+    let due = sent.each 0 0 (some_place state.plan.grouping state.unique state.slots send.places send.line sent.by) in
+    let out = due.is.sent.out in
+    let below : due.waiting.server < length config.addresses =
+    subst (λ n. n < length config.addresses) (sym out.awaited.server) (out.within (length due.waiting.attempts) 0 out.awaited.tried.shorter) in
+    omega (arith, same, due.server, first.meets, below)
 
-pub stopped_ready : {config : Configuration} {old new : KeysState} {attempts : List Attempt} (index : ℕ) (ask : Ask) → AreUnderWay config old → slice_get old.asks index ≡ Some ask
-    → IsStopped ask (remove old.asks index) old attempts new → AreUnderWay config new
-stopped_ready {config} {old} index ask ready at it =
-    step_ready ready (stopped_step ready ask (take index old.asks) (drop (suc index) old.asks) (remove old.asks index) (split_at old.asks index ask at) refl it)
+-- the keys that are left of a request, where memory ran out for one
+pub dropped_places : {config : Configuration} {came left : KeysCame} {slot after : KeySlot} {calls : List Call} {attempts : List Attempt} → PartDropped config came slot calls attempts left after
+    → left.places ≡ came.places
+dropped_places (parted.in_call part waiting is_part out dropped leaves) = ap (λ (k : KeysCame). k.places) leaves.same
+dropped_places (parted.before waiting out none tried same gone) = ap (λ (k : KeysCame). k.places) same
 
-module _ {config : Configuration} {state old : KeysState} {index : ℕ} {ask : Ask} {read after : KeySlot} {attempts : List Attempt} {asks' : List Ask} (same : state ≡ old) (at : AtIndex config state index ask)
-    (reads : read ≡ slice_index_or state.slots ask.place read) (tried : (waiting : Awaited) → read.waiting ≡ Some waiting → attempts ≡ waiting.attempts)
-    (then : after ≡ record read { waiting = None }) (asks : asks' ≡ remove state.asks index) where
-  abbrev StoppedAt : KeysState
-  StoppedAt = record state { slots = slice_set state.slots ask.place after; asks = asks'; lost = true }
+pub out_dropped : (due : List DueKey) (sends : List KeySend) (came left : KeysCame) (place : ℕ) (places : List ℕ) (out : ℕ) → out ≡ length (places_in due sends came)
+    → came.places ≡ place ∷ places → left.places ≡ places → out - 1 ≡ length (places_in due sends left)
+out_dropped due sends came left place places out was first rest =
+    omega (arith, was, length_in due sends came, length_in due sends left, ap length first, ap length rest)
 
-  pub stop_at_ends : (other : Ask) → slice_get old.asks index ≡ Some other → IsStopped other (remove old.asks index) old attempts StoppedAt
-  stop_at_ends =
-      subst (λ (s : KeysState). (other : Ask) → slice_get s.asks index ≡ Some other → IsStopped other (remove s.asks index) s attempts StoppedAt) same
-      (stopped_ends at reads tried then asks)
+each_due : (P : ℕ → Type 0) (due : List DueKey) → All P (due_places due) → All (λ (d : DueKey). P d.place) due
+each_due P [] all = All-nil (λ (d : DueKey). P d.place)
+each_due P (it ∷ due) all =
+    All-cons (λ (d : DueKey). P d.place) it due (All-head P it.place (due_places due) all) (each_due P due (All-tail P it.place (due_places due) all))
 
-  pub stop_at_ready : (other : Configuration) → AreUnderWay other old → AreUnderWay other StoppedAt
-  stop_at_ready other ready =
-      let here : slice_get old.asks index ≡ Some ask = ap (λ (s : KeysState). slice_get s.asks index) (sym same) ∙ at.at in
-      stopped_ready index ask ready here (stop_at_ends ask here)
+due_parts : (P : ℕ → Type 0) (before after : List DueKey) (it : DueKey) → All P (due_places (before ++ it ∷ after)) → P it.place × All (λ (d : DueKey). P d.place) (before ++ after)
+due_parts P [] after it all =
+    (All-head P it.place (due_places after) all, each_due P after (All-tail P it.place (due_places after) all))
+due_parts P (one ∷ before) after it all =
+    let rest = due_parts P before after it (All-tail P one.place (due_places (before ++ it ∷ after)) all) in
+    (rest.0, All-cons (λ (d : DueKey). P d.place) one (before ++ after) (All-head P one.place (due_places (before ++ it ∷ after)) all) rest.1)
 
-pub found_there : {state old : KeysState} {index : ℕ} (server : ℕ) → state ≡ old → position (at_server server) state.asks ≡ Some index → IsSome (slice_get old.asks index)
-found_there {state} {old} {index} server same found =
-    let it = first_index server state.asks index found in
-    subst (λ (s : KeysState). IsSome (slice_get s.asks index)) same (subst IsSome (sym it.at) refl)
+-- the first key that is due at a server, and the others, were begun
+pub first_due_has : {server : ℕ} {due due' : List DueKey} {it : DueKey} (slots : List KeySlot) (sends : List KeySend) (came : KeysCame) → HavePlaces slots (places_in due sends came) → IsFirstDue server due it due'
+    → (it.place < length slots) × All (λ (d : DueKey). d.place < length slots) due'
+first_due_has {server} {due} {due'} {it} slots sends came have first =
+    let P : ℕ → Type 0 = λ place. place < length slots in
+    let all = (all_split P (due_places due) (send_places sends ++ came.places) have).0 in
+    let parts = due_parts P first.before first.after it (subst (λ ds. All P (due_places ds)) first.are all) in
+    (parts.0, subst (All (λ (d : DueKey). d.place < length slots)) (sym first.others) parts.1)
 
-pub stop_ends : {state old new : KeysState} {index : ℕ} {attempts : List Attempt} (server : ℕ) → state ≡ old → position (at_server server) state.asks ≡ Some index
-    → ((ask : Ask) → slice_get old.asks index ≡ Some ask → IsStopped ask (remove old.asks index) old attempts new)
-    → (ask : Ask) → first_at server old.asks ≡ Some ask → IsStopped ask (without_first server old.asks) old attempts new
-stop_ends {state} {old} {new} {index} {attempts} server same found stopped ask first =
-    let it = first_index server old.asks index (subst (λ (s : KeysState). position (at_server server) s.asks ≡ Some index) same found) in
-    let this : it.ask ≡ ask = same_Some it.ask ask (sym it.first ∙ first) in
-    subst (λ xs. IsStopped ask xs old attempts new) it.others (stopped ask (it.at ∙ ap Some this))
+sends_few : {config : Configuration} (grouping : Grouping) (unique : Bool) (slots : List KeySlot) (sends : List KeySend) → All (IsSentAt config grouping unique slots) sends → length sends ≤ length (send_places sends)
+sends_few grouping unique slots [] all = omega arith
+sends_few {config} grouping unique slots (send ∷ sends) all =
+    let first = All-head (IsSentAt config grouping unique slots) send sends all in
+    let rest = sends_few grouping unique slots sends (All-tail (IsSentAt config grouping unique slots) send sends all) in
+    omega (arith, some_place grouping unique slots send.places send.line first.by, rest, length-append send.places (send_places sends))
+
+-- there is room for one request more while a key is due
+pub send_room : {config : Configuration} {server : ℕ} {state : KeysState} {due' : List DueKey} {it : DueKey} (out room : ℕ) → AreUnderWay config state → IsFirstDue server state.due it due'
+    → out ≡ length (places_out state) → out ≤ room → length state.sends < room
+send_room {state = state} {it = it} out room ready first was fits =
+    omega (
+      arith,
+      was,
+      fits,
+      length_in state.due state.sends state.came,
+      sends_few state.plan.grouping state.unique state.slots state.sends ready.sent,
+      ap length first.are,
+      length-append first.before (it ∷ first.after),
+    )
+
+-- all values and `END` were put together
+pub finish_ends : {E : Type 0} (slots : List KeySlot) (ahead : ℕ) (old mid new : List ℕ) (it : Result Unit E) → ahead ≡ values_ahead slots → length slots ≤ ahead
+    → mid ≡ old ++ flat_map (λ (slot : KeySlot). slot.outbox) slots → OnOk it (new ≡ mid ++ end_line) → OnOk it (new ≡ old ++ reply_in slots)
+finish_ends slots ahead old mid new (Err e) is past values ends = tt
+finish_ends slots ahead old mid new (Ok u) is past values ends =
+    let none : slice_get slots (values_ahead slots) ≡ None = slice_get_past slots (values_ahead slots) (omega (arith, is, past)) in
+    ends ∙ ap (λ xs. xs ++ end_line) values ∙ append_assoc old (flat_map (λ (slot : KeySlot). slot.outbox) slots) end_line
+    ∙ ap (λ (o : Option KeySlot). old ++ reply_at o slots) (sym none)

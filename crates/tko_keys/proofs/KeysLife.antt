@@ -7,7 +7,6 @@ use Rattle.std.proofs.lemmas.Option.{get_or_from_slice_get, none-some, slice_get
 use Rattle.tko_text.specs.declared.request.Request.{Request}
 use Rattle.tko_pools.specs.Configs.{Configuration}
 use Rattle.tko_route.specs.Underway.{Awaited}
-use Rattle.tko_roster.specs.Tagged.{own}
 use Rattle.tko_reply.specs.Answers.{request_keys}
 use Rattle.tko_reply.specs.Interactions.{Interaction}
 use Rattle.tko_reply.specs.Replies.{IsReply, RoutedKey, end_line, keys_in, written}
@@ -15,26 +14,28 @@ use Rattle.tko_reply.specs.Replies as reply
 use Rattle.tko_reply.specs.declared.asking.Share.{Share}
 use Rattle.tko_reply.specs.declared.asking.Share.TheVariants as share
 use Rattle.tko_reply.proofs.AnsweringLemmas.{retrieval_keys, retrieval_written}
-use Rattle.tko_keys.specs.declared.ask.Ask.{Ask}
-use Rattle.tko_keys.specs.AtOnce.{AnswersAtOnce, ArePlaced, IsCutAtOnce}
+use Rattle.tko_keys.specs.declared.plan.KeyPlan.{KeyPlan}
+use Rattle.tko_keys.specs.AtOnce.{AnswersAtOnce, ArePlaced, IsCutAtOnce, MayStand, own_of}
 use Rattle.tko_keys.specs.KeysActs.{KeysAct}
 use Rattle.tko_keys.specs.KeysActs as act
 use Rattle.tko_keys.specs.KeysDriven.{AreUnderWay, outs_at, outs_by, outs_in}
 use Rattle.tko_keys.specs.KeysDriven as driven
-use Rattle.tko_keys.specs.KeysSoFar.{IsSlotAt, KeysSoFar}
-use Rattle.tko_keys.specs.KeysState.{IsComplete, IsNew, KeySlot, KeysState, failed_by, has_values, listed_by, reply_at, reply_in, values_ahead}
-use Rattle.tko_keys.proofs.AskLemmas.{count_at}
+use Rattle.tko_keys.specs.KeysSoFar.{IsSlotAt, KeysSoFar, is_to_take}
+use Rattle.tko_keys.specs.KeysState.{IsComplete, IsNew, KeySlot, KeysState, failed_by, has_values, listed_by, nothing_came, places_out, reply_at, reply_in, values_ahead}
+use Rattle.tko_keys.proofs.ReadyLemmas.{count_at}
 use Rattle.tko_keys.proofs.ReplyLemmas.{HasEnded, ReplyAt, all_listed, are_ended, one_other, reply_of}
 pub use Rattle.tko_keys.proofs.ActLemmas.{keys_on}
 
-no_own : (place : ℕ) → own {A = Interaction} place [] ≡ []
-unfolding own
+no_own : (place : ℕ) → own_of place [] ≡ []
+unfolding own_of
 no_own place = refl
 
-fresh_ready : (config : Configuration) (most : ℕ) (keys : List (List ℕ)) (unique : Bool) → 0 < most
-    → AreUnderWay config (record { unique = unique; left = keys; slots = []; asks = []; most = most; failed = false; lost = false })
-fresh_ready config most keys unique some = record {
-  asked = All-nil (driven.IsAskedAt config []);
+fresh_ready : (config : Configuration) (plan : KeyPlan) (keys : List (List ℕ)) (unique : Bool) → 0 < plan.most
+    → AreUnderWay config (record { unique = unique; left = keys; slots = []; due = []; sends = []; came = nothing_came; plan = plan; failed = false; lost = false })
+fresh_ready config plan keys unique some = record {
+  due = All-nil (driven.IsDueAt config []);
+  sent = All-nil (driven.IsSentAt config plan.grouping unique []);
+  came = record { each = All-nil (driven.IsOutAt config []); parts = omega arith; replied = tt };
   once = λ place. refl;
   some = some;
   few = omega arith;
@@ -43,17 +44,17 @@ fresh_ready config most keys unique some = record {
 }
 
 -- no key was begun
-pub keys_new : (config : Configuration) (request : Request) (most : ℕ) (state : KeysState) → 1 < length (request_keys request) → 0 < most → IsNew request most state
+pub keys_new : (config : Configuration) (request : Request) (plan : KeyPlan) (state : KeysState) → 1 < length (request_keys request) → 0 < plan.most → IsNew request plan state
     → KeysSoFar config request state []
-keys_new config request most state several some new =
+keys_new config request plan state several some new =
     subst (λ (s : KeysState). KeysSoFar config request s []) (sym new.is) (record {
       several = several;
-      ready = fresh_ready config most new.keys new.unique some;
+      ready = fresh_ready config plan new.keys new.unique some;
       begun = [];
       whole = new.whole;
       all = refl;
       placed = [];
-      are_placed = record { are = refl; only = λ place past. no_own place };
+      are_placed = record { are = refl; only = λ place past. no_own place; may = All-nil (MayStand plan.grouping) };
       each = λ place key slot has at. absurd (none-some slot at);
     })
 
@@ -62,10 +63,10 @@ none_by None none = refl
 none_by (Some waiting) none = absurd (omega (arith, none))
 
 -- where nothing is under way, no key is out
-over_all : {config : Configuration} {state : KeysState} → AreUnderWay config state → state.asks ≡ [] → (place : ℕ) (slot : KeySlot) → slice_get state.slots place ≡ Some slot
+over_all : {config : Configuration} {state : KeysState} → AreUnderWay config state → places_out state ≡ [] → (place : ℕ) (slot : KeySlot) → slice_get state.slots place ≡ Some slot
     → slot.waiting ≡ None
 over_all {config} {state} ready none place slot at =
-    let count : count_at place state.asks ≡ 0 = ap (count_at place) none in
+    let count : count_at place (places_out state) ≡ 0 = ap (count_at place) none in
     let outs : outs_at state.slots place ≡ outs_by slot.waiting = ap outs_in at in
     none_by slot.waiting (omega (arith, count, outs, ready.once place))
 
@@ -81,18 +82,18 @@ keys_of {state = state} s = ap request_keys s.whole ∙ retrieval_keys (s.begun 
 
 -- memory ran out for one of them
 pub keys_cut : (config : Configuration) (request : Request) (state : KeysState) (done : List Interaction) → KeysSoFar config request state done → IsComplete state → state.lost ≡ true
-    → IsCutAtOnce config request done
+    → IsCutAtOnce state.plan config request done
 keys_cut config request state done s complete lost = record {
   several = s.several;
   begun = s.begun;
   left = state.left;
   keys = keys_of s;
   placed = s.placed;
-  are_placed = subst (λ n. ArePlaced n s.placed done) (sym s.all) s.are_placed;
+  are_placed = subst (λ n. ArePlaced state.plan.grouping n s.placed done) (sym s.all) s.are_placed;
   each = λ place key has.
       let slot = get_beside s.begun state.slots place key s.all has in
-      subst (λ l. IsSlotAt config request key None l slot.0 (own place s.placed)) lost
-      (subst (λ w. IsSlotAt config request key w state.lost slot.0 (own place s.placed)) (over_all s.ready complete.0 place slot.0 slot.1)
+      subst (λ l. IsSlotAt config request key state.came (is_to_take place state.came) None l slot.0 (own_of place s.placed)) lost
+      (subst (λ w. IsSlotAt config request key state.came (is_to_take place state.came) w state.lost slot.0 (own_of place s.placed)) (over_all s.ready complete.0 place slot.0 slot.1)
       (s.each place key slot.0 has slot.1));
 }
 
@@ -122,7 +123,7 @@ none_left : {config : Configuration} {state : KeysState} → AreUnderWay config 
     → (left : List (List ℕ)) → state.left ≡ left → state.left ≡ []
 none_left ready complete lost all [] is = is
 none_left {config} {state} ready complete lost all (key ∷ left) is =
-    let few : length state.asks < state.most = subst (λ (xs : List Ask). length xs < state.most) (sym complete.0) ready.some in
+    let few : length (places_out state) < state.plan.most = subst (λ (xs : List ℕ). length xs < state.plan.most) (sym complete.0) ready.some in
     absurd (complete.1 (
       (λ e. cons_or_nil key left (sym is ∙ e)),
       never_failed ready all state.failed refl,
@@ -133,7 +134,7 @@ none_left {config} {state} ready complete lost all (key ∷ left) is =
 
 -- the reply of keys that have ended
 reply_by : {config : Configuration} {state : KeysState} {keys : List (List ℕ)} → AreUnderWay config state → IsComplete state → state.lost ≡ false → (routed : List RoutedKey)
-    → keys ≡ keys_in routed ++ state.left → length routed ≡ length state.slots → ReplyAt routed state.slots → IsReply state.most keys routed (reply_in state.slots)
+    → keys ≡ keys_in routed ++ state.left → length routed ≡ length state.slots → ReplyAt routed state.slots → IsReply state.plan.most keys routed (reply_in state.slots)
 reply_by {config} {state} {keys} ready complete lost routed are all (all_listed many values same) =
     let past : slice_get state.slots (values_ahead state.slots) ≡ None = slice_get_past state.slots (values_ahead state.slots) (omega (arith, many)) in
     reply.all_values (are ∙ ap (λ ks. keys_in routed ++ ks) (none_left ready complete lost many state.left refl) ∙ append-nil (keys_in routed)) values
@@ -145,24 +146,24 @@ reply_by {config} {state} {keys} ready complete lost routed are all (one_other b
 
 -- all of them have ended
 pub keys_answer : (config : Configuration) (request : Request) (state : KeysState) (done : List Interaction) → KeysSoFar config request state done → IsComplete state → state.lost ≡ false
-    → (routed : List RoutedKey) × AnswersAtOnce state.most config request routed (reply_in state.slots) done
+    → (routed : List RoutedKey) × AnswersAtOnce state.plan config request routed (reply_in state.slots) done
 keys_answer config request state done s complete lost =
-    let ended : (place : ℕ) (key : List ℕ) (slot : KeySlot) → slice_get s.begun place ≡ Some key → slice_get state.slots place ≡ Some slot → HasEnded config request key slot (own place s.placed) =
+    let ended : (place : ℕ) (key : List ℕ) (slot : KeySlot) → slice_get s.begun place ≡ Some key → slice_get state.slots place ≡ Some slot → HasEnded config request key slot (own_of place s.placed) =
     λ place key slot has at.
     let over = over_all s.ready complete.0 place slot at in
     record {
       over = over;
       is =
-          subst (λ l. IsSlotAt config request key None l slot (own place s.placed)) lost
-          (subst (λ w. IsSlotAt config request key w state.lost slot (own place s.placed)) over (s.each place key slot has at));
+          subst (λ l. IsSlotAt config request key state.came (is_to_take place state.came) None l slot (own_of place s.placed)) lost
+          (subst (λ w. IsSlotAt config request key state.came (is_to_take place state.came) w state.lost slot (own_of place s.placed)) over (s.each place key slot has at));
     } in
-    let all = are_ended s.begun state.slots (λ place. own place s.placed) s.all ended in
+    let all = are_ended s.begun state.slots (λ place. own_of place s.placed) s.all ended in
     let keys : request_keys request ≡ keys_in all.routed ++ state.left = keys_of s ∙ ap (λ ks. ks ++ state.left) (sym all.are) in (
       all.routed,
       record {
         several = s.several;
         placed = s.placed;
-        are_placed = subst (λ n. ArePlaced n s.placed done) (sym all.all) s.are_placed;
+        are_placed = subst (λ n. ArePlaced state.plan.grouping n s.placed done) (sym all.all) s.are_placed;
         each = all.each;
         reply = reply_in state.slots;
         is_reply = reply_by s.ready complete lost all.routed keys all.all (reply_of all.routed state.slots all.all all.holds);
@@ -172,14 +173,16 @@ keys_answer config request state done s complete lost =
     )
 
 module _ {config : Configuration} {old new : KeysState} where
-  -- how many may be under way at once stays
-  pub keys_most : {adds : List Interaction} → KeysAct config old adds new → new.most ≡ old.most
-  keys_most (act.began calls said it are) = ap (λ (s : KeysState). s.most) it.state
-  keys_most (act.began_unrecorded calls trail mid it same are) = ap (λ (s : KeysState). s.most) same ∙ ap (λ (s : KeysState). s.most) it.state
-  keys_most (act.begin_lost calls attempts (driven.unbegun none no_attempts is) are) = ap (λ (s : KeysState). s.most) is
-  keys_most (act.begin_lost calls attempts (driven.at_next key left slot may next lost ended is) are) = ap (λ (s : KeysState). s.most) is
-  keys_most (act.took server outcome calls said it are) = ap (λ (s : KeysState). s.most) it.state
-  keys_most (act.took_unrecorded server outcome calls trail mid it same are) = ap (λ (s : KeysState). s.most) same ∙ ap (λ (s : KeysState). s.most) it.state
-  keys_most (act.take_lost server outcome calls attempts it are) = ap (λ (s : KeysState). s.most) it.state
-  keys_most (act.stopped ask attempts was_sent first it are) = ap (λ (s : KeysState). s.most) it.state
-  keys_most (act.unsent server attempts was_sent it are) = ap (λ (s : KeysState). s.most) it.stopped.state
+  -- how they are sent stays
+  pub keys_plan : {adds : List Interaction} → KeysAct config old adds new → new.plan ≡ old.plan
+  keys_plan (act.began calls said it are) = ap (λ (s : KeysState). s.plan) it.state
+  keys_plan (act.began_unrecorded calls trail mid it same are) = ap (λ (s : KeysState). s.plan) same ∙ ap (λ (s : KeysState). s.plan) it.state
+  keys_plan (act.begin_lost calls attempts (driven.unbegun none no_attempts is) are) = ap (λ (s : KeysState). s.plan) is
+  keys_plan (act.begin_lost calls attempts (driven.at_next key left slot may next lost ended is) are) = ap (λ (s : KeysState). s.plan) is
+  keys_plan (act.sent server short it are) = ap (λ (s : KeysState). s.plan) it.state
+  keys_plan (act.arrived server outcome calls it are) = ap (λ (s : KeysState). s.plan) it.state
+  keys_plan (act.stopped server was_sent it are) = ap (λ (s : KeysState). s.plan) it.state
+  keys_plan (act.unsent server was_sent it are) = ap (λ (s : KeysState). s.plan) it.state
+  keys_plan (act.took calls said it are) = ap (λ (s : KeysState). s.plan) it.state
+  keys_plan (act.took_unrecorded calls trail mid it same are) = ap (λ (s : KeysState). s.plan) same ∙ ap (λ (s : KeysState). s.plan) it.state
+  keys_plan (act.take_lost calls attempts it are) = ap (λ (s : KeysState). s.plan) it.state

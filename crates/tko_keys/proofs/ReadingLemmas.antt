@@ -1,86 +1,69 @@
--- The requests that are lent, and the last one at a server.
-use Rattle.std.proofs.Common.{◌≡◌, ◌<◌, ◌≤◌, ◌+◌, ◌-◌, ◌==◌, ℕ, suc, Bool, true, false, List, [], ◌∷◌, ◌++◌, cond, length, Option, Some, None, refl, sym, ap, subst, ◌∙◌, arith, inl, inr}
-use Rattle.std.specs.Prelude.{IsSome, drop, position, remove, slice_get, slice_index_or, take}
+-- The requests that are lent, and the attempts before them.
+use Rattle.std.proofs.Common.{◌≡◌, ◌<◌, ◌-◌, ℕ, zero, suc, List, [], ◌∷◌, ◌++◌, length, Some, refl, sym, ap, subst, ◌∙◌, arith}
+use Rattle.std.specs.Prelude.{All, position, slice_get, slice_index_or}
 use Rattle.std.specs.Option.{option_and_then, option_map}
-use Rattle.std.proofs.lemmas.Bool.Decides.{eqb_tells}
-use Rattle.std.proofs.lemmas.Option.{get_or_from_slice_get, slice_get-get_or, slice_get_read}
-use Rattle.tko_route.specs.declared.attempt.Attempt.{Attempt}
-use Rattle.tko_keys.specs.declared.ask.Ask.{Ask}
-use Rattle.tko_keys.specs.KeysDriven.{IsLastAt, IsStopped, IsUnsent}
-use Rattle.tko_keys.specs.KeysState.{HavePlaces, KeySlot, KeysState, asked_first, asked_last, attempts_at, attempts_last, attempts_of, first_at, request_of}
-use Rattle.tko_keys.proofs.AskLemmas.{at_server, first_index}
-use Rattle.tko_keys.proofs.EndLemmas.{split_at}
+use Rattle.std.proofs.lemmas.List.Elements.{All-head, All-tail}
+use Rattle.std.proofs.lemmas.Option.{get_or_from_slice_get, none-some, same_Some, slice_get_read}
+use Rattle.tko_text.specs.declared.request.Request.{Request}
+use Rattle.tko_keys.specs.KeysState.{DueKey, HavePlaces, KeySend, KeySlot, KeysCame, KeysState, asked_first, asked_last, attempts_at, attempts_last, attempts_of, first_send, keys_first, places_in, request_of}
+use Rattle.tko_keys.proofs.ReadyLemmas.{all_split, due_places, send_places}
+use Rattle.tko_keys.proofs.SendLemmas.{at_server, first_index}
 
--- an ask that is read, and its key
-asked_at : (slots : List KeySlot) (asks : List Ask) (i : ℕ) (read : Ask) (found : KeySlot) → HavePlaces slots asks → i < length asks → read ≡ slice_index_or asks i read
-    → found ≡ slice_index_or slots read.place found → (slice_get asks i ≡ Some read) × (slice_get slots read.place ≡ Some found)
-asked_at slots asks i read found have within is finds =
-    let place : read.place < length slots = subst (λ (a : Ask). a.place < length slots) (sym is) (have i read within) in
-    (slice_get_read asks (length asks) i read refl within is, slice_get_read slots (length slots) read.place found refl place finds)
+send_within : (P : ℕ → Type 0) (sends : List KeySend) (i : ℕ) (send : KeySend) → slice_get sends i ≡ Some send → All P (send_places sends) → All P send.places
+send_within P [] i send at all = absurd (none-some send at)
+send_within P (one ∷ sends) zero send at all = subst (λ (k : KeySend). All P k.places) (same_Some one send at) (all_split P one.places (send_places sends) all).0
+send_within P (one ∷ sends) (suc i) send at all = send_within P sends i send at (all_split P one.places (send_places sends) all).1
 
-last_within : (asks : List Ask) → (asks ≡ [] → ⊥) → length asks - 1 < length asks
+-- the keys of a request were begun
+pub send_has : (slots : List KeySlot) (due : List DueKey) (sends : List KeySend) (came : KeysCame) (i : ℕ) (send : KeySend) → HavePlaces slots (places_in due sends came) → slice_get sends i ≡ Some send
+    → HavePlaces slots send.places
+send_has slots due sends came i send have at =
+    let P : ℕ → Type 0 = λ place. place < length slots in
+    send_within P sends i send at (all_split P (send_places sends) came.places (all_split P (due_places due) (send_places sends ++ came.places) have).1).0
+
+last_within : {X : Type 0} (xs : List X) → (xs ≡ [] → ⊥) → length xs - 1 < length xs
 last_within [] some = absurd (some refl)
-last_within (ask ∷ asks) some = omega arith
+last_within (x ∷ xs) some = omega arith
 
-module _ {state old : KeysState} (same : state ≡ old) (n : ℕ) (read : Ask) (found : KeySlot) (have : HavePlaces state.slots state.asks) (count : n ≡ length state.asks) (some : old.asks ≡ [] → ⊥)
-    (is : read ≡ slice_index_or state.asks (n - 1) read) (finds : found ≡ slice_index_or state.slots read.place found) where
-  last_found : (slice_get state.asks (length state.asks - 1) ≡ Some read) × (slice_get state.slots read.place ≡ Some found)
-  last_found =
-      asked_at state.slots state.asks (length state.asks - 1) read found have
-      (last_within state.asks (λ e. some (sym (ap (λ (s : KeysState). s.asks) same) ∙ e))) (is ∙ ap (λ k. slice_index_or state.asks (k - 1) read) count) finds
+-- the last one, as it is read
+pub read_last : {X : Type 0} (xs : List X) (n : ℕ) (read : X) → (xs ≡ [] → ⊥) → n ≡ length xs → read ≡ slice_index_or xs (n - 1) read → slice_get xs (length xs - 1) ≡ Some read
+read_last xs n read some count is =
+    slice_get_read xs (length xs) (length xs - 1) read refl (last_within xs some) (is ∙ ap (λ k. slice_index_or xs (k - 1) read) count)
 
-  pub last_request : asked_last old ≡ Some found.key.request
-  last_request =
-      sym (ap asked_last same) ∙ ap (option_and_then (request_of state.slots)) last_found.0
-      ∙ ap (option_map (λ (slot : KeySlot). slot.key.request)) last_found.1
+pub last_request : {state old : KeysState} {send : KeySend} {request : Request} → state ≡ old → slice_get state.sends (length state.sends - 1) ≡ Some send → request_of state.slots send ≡ Some request
+    → asked_last old ≡ Some request
+last_request {state} same at is = sym (ap asked_last same) ∙ ap (option_and_then (request_of state.slots)) at ∙ is
 
-  pub last_attempts : attempts_last old ≡ Some (attempts_of found.waiting)
-  last_attempts =
-      sym (ap attempts_last same) ∙ ap (option_and_then (attempts_at state.slots)) last_found.0
-      ∙ ap (option_map (λ (slot : KeySlot). attempts_of slot.waiting)) last_found.1
+pub first_there : (server : ℕ) {index : ℕ} (sends : List KeySend) (read : KeySend) → position (at_server server) sends ≡ Some index → read ≡ slice_index_or sends index read
+    → (first_send server sends ≡ Some read) × (slice_get sends index ≡ Some read)
+first_there server {index} sends read found is =
+    let it = first_index server sends index found in
+    let this : it.send ≡ read = sym (get_or_from_slice_get sends index it.send read it.at) ∙ sym is in
+    (it.first ∙ ap Some this, it.at ∙ ap Some this)
 
-pub first_request : {state old : KeysState} {index : ℕ} → state ≡ old → (server : ℕ) (read : Ask) (found : KeySlot) → HavePlaces state.slots state.asks → index < length state.asks
-    → position (at_server server) state.asks ≡ Some index → read ≡ slice_index_or state.asks index read → found ≡ slice_index_or state.slots read.place found
-    → asked_first server old ≡ Some found.key.request
-first_request {state} {old} {index} same server read found have within at is finds =
-    let it = first_index server state.asks index at in
-    let this : it.ask ≡ read = sym (get_or_from_slice_get state.asks index it.ask read it.at) ∙ sym is in
-    let there = asked_at state.slots state.asks index read found have within is finds in
-    sym (ap (asked_first server) same) ∙ ap (option_and_then (request_of state.slots)) (it.first ∙ ap Some this)
-    ∙ ap (option_map (λ (slot : KeySlot). slot.key.request)) there.1
+pub first_request : {state old : KeysState} {send : KeySend} {request : Request} (server : ℕ) → state ≡ old → first_send server state.sends ≡ Some send → request_of state.slots send ≡ Some request
+    → asked_first server old ≡ Some request
+first_request {state} server same at is = sym (ap (asked_first server) same) ∙ ap (option_and_then (request_of state.slots)) at ∙ is
 
-true_or_false : true ≡ false → ⊥
-true_or_false e = cc
+pub first_keys : {state old : KeysState} {send : KeySend} {count : ℕ} (server : ℕ) → state ≡ old → first_send server state.sends ≡ Some send → count ≡ length send.places
+    → keys_first server old ≡ Some count
+first_keys {state} server same at is =
+    sym (ap (keys_first server) same) ∙ ap (option_map (λ (k : KeySend). length k.places)) at ∙ ap Some (sym is)
 
--- one at the server is the last of them where none is behind
-pub last_found_at : (server : ℕ) (asks : List Ask) (back : ℕ) (d : Ask) → back < length asks → ((slice_index_or asks (length asks - 1 - back) d).server == server) ≡ true
-    → first_at server (drop (length asks - back) asks) ≡ None → IsLastAt server asks (length asks - 1 - back)
-last_found_at server asks back d within test none =
-    let index : ℕ = length asks - 1 - back in
-    let more : suc (length asks - 1 - back) ≡ length asks - back = omega (arith, within) in
-    record {
-      ask = slice_index_or asks index d;
-      at = slice_get-get_or asks index d (omega (arith, within));
-      meets = elim (eqb_tells (slice_index_or asks index d).server server) [
-        | inl eq ↦ eq.1
-        | inr ne ↦ absurd (true_or_false (sym test ∙ ne.0))
-      ];
-      last = ap (λ n. first_at server (drop n asks)) more ∙ none;
-    }
+due_within : (P : ℕ → Type 0) (due : List DueKey) (i : ℕ) (it : DueKey) → slice_get due i ≡ Some it → All P (due_places due) → P it.place
+due_within P [] i it at all = absurd (none-some it at)
+due_within P (one ∷ due) zero it at all = subst (λ (k : DueKey). P k.place) (same_Some one it at) (All-head P one.place (due_places due) all)
+due_within P (one ∷ due) (suc i) it at all = due_within P due i it at (All-tail P one.place (due_places due) all)
 
-pub some_at : {server : ℕ} {asks : List Ask} {index : ℕ} → IsLastAt server asks index → IsSome (slice_get asks index)
-some_at it = subst IsSome (sym it.at) refl
+-- the key that is due was begun
+pub due_has : (slots : List KeySlot) (due : List DueKey) (sends : List KeySend) (came : KeysCame) (i : ℕ) (it : DueKey) → HavePlaces slots (places_in due sends came) → slice_get due i ≡ Some it
+    → it.place < length slots
+due_has slots due sends came i it have at =
+    let P : ℕ → Type 0 = λ place. place < length slots in
+    due_within P due i it at (all_split P (due_places due) (send_places sends ++ came.places) have).0
 
-pub unsent_at : {state old new : KeysState} {server index : ℕ} {attempts : List Attempt} → state ≡ old → IsLastAt server state.asks index
-    → ((ask : Ask) → slice_get old.asks index ≡ Some ask → IsStopped ask (remove old.asks index) old attempts new) → IsUnsent server old attempts new
-unsent_at {state} {old} {new} {server} {index} {attempts} same is stopped =
-    let it : IsLastAt server old.asks index = subst (λ (s : KeysState). IsLastAt server s.asks index) same is in
-    record {
-      ask = it.ask;
-      before = take index old.asks;
-      after = drop (suc index) old.asks;
-      are = split_at old.asks index it.ask it.at;
-      meets = it.meets;
-      last = it.last;
-      stopped = stopped it.ask it.at;
-    }
+pub last_attempts : {state old : KeysState} {it : DueKey} (found : KeySlot) → state ≡ old → slice_get state.due (length state.due - 1) ≡ Some it → it.place < length state.slots
+    → found ≡ slice_index_or state.slots it.place found → attempts_last old ≡ Some (attempts_of found.waiting)
+last_attempts {state} {old} {it} found same at within read =
+    sym (ap attempts_last same) ∙ ap (option_and_then (attempts_at state.slots)) at
+    ∙ ap (option_map (λ (slot : KeySlot). attempts_of slot.waiting)) (slice_get_read state.slots (length state.slots) it.place found refl within read)

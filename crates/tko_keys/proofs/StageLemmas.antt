@@ -1,9 +1,12 @@
 -- How far a key came by its own calls.
-use Rattle.std.proofs.Common.{◌≡◌, ℕ, Bool, true, false, List, [], ◌∷◌, ◌++◌, map, Option, Some, None, Err, refl, sym, ap, subst, ◌∙◌, append-nil}
+use Rattle.std.proofs.Common.{◌≡◌, ℕ, Bool, true, false, List, [], ◌∷◌, ◌++◌, map, Option, Some, None, Err, Ok, refl, sym, ap, subst, ◌∙◌, append-nil, append_assoc}
 use Rattle.tko_text.specs.declared.request.Request.{Request}
 use Rattle.tko_text.specs.SentRequests.{without_noreply}
 use Rattle.tko_pools.specs.Configs.{Configuration, targets_of}
+use Rattle.tko_model.specs.declared.mark.Reply.{Reply}
+use Rattle.tko_links.specs.declared.links.Outcome.{Outcome}
 use Rattle.tko_route.specs.Calls.{Call, came}
+use Rattle.tko_route.specs.Routing.{told_of}
 use Rattle.tko_route.specs.Trail.{IsCutTrail, IsTrail, Makes, next_target}
 use Rattle.tko_route.specs.Underway.{Awaited}
 use Rattle.tko_route.specs.declared.attempt.Attempt.{Attempt}
@@ -20,9 +23,9 @@ use Rattle.tko_reply.specs.declared.asking.Share.TheVariants as share
 use Rattle.tko_reply.proofs.AnsweringLemmas.{routed_by}
 use Rattle.tko_keys.specs.AtOnce.{IsKeyOver}
 use Rattle.tko_keys.specs.AtOnce as over
-use Rattle.tko_keys.specs.KeysActs.{key_came, key_record}
-use Rattle.tko_keys.specs.KeysSoFar.{IsKeyEnded, IsKeyOut, IsSlotAt}
-use Rattle.tko_keys.specs.KeysState.{KeySlot}
+use Rattle.tko_keys.specs.KeysActs.{key_record}
+use Rattle.tko_keys.specs.KeysSoFar.{IsKeyCame, IsKeyEnded, IsSlotAt}
+use Rattle.tko_keys.specs.KeysState.{KeySlot, KeysCame}
 use Rattle.tko_keys.specs.SlotCalls.{key_step, wait_at}
 use Rattle.tko_keys.specs.declared.step.KeyStep.TheVariants as step
 
@@ -31,7 +34,7 @@ abbrev pub alone_course : Configuration → Request → List ℕ → List ℕ �
 alone_course config request key targets =
     course_of config targets (record { request = request_for request key; share = share.Joined 0 [] }) (without_noreply (request_for request key))
 
-asks_or_tried : {clear : ℕ} {trail : List Attempt} → step.Tried trail ≡ step.Asks clear → ⊥
+asks_or_tried : {clear : ℕ} {trail : List Attempt} → step.Tried trail ≡ step.Due clear → ⊥
 asks_or_tried e = cc
 
 same_trail : {trail other : List Attempt} → step.Tried trail ≡ step.Tried other → other ≡ trail
@@ -39,22 +42,22 @@ same_trail e = cc
 
 module _ (config : Configuration) (request : Request) (key : List ℕ) where
   -- what was done for it is said in fewer words once memory ran out
-  pub slot_lost : (slot : KeySlot) (done : List Interaction) (waiting : Option Awaited) (lost : Bool) → IsSlotAt config request key waiting lost slot done
-      → IsSlotAt config request key waiting true slot done
-  slot_lost slot done (Some waiting) lost is = is
-  slot_lost slot done None false is = over.routed is.trail is.routed
-  slot_lost slot done None true is = is
+  pub slot_lost : (came : KeysCame) (here : Bool) (slot : KeySlot) (done : List Interaction) (waiting : Option Awaited) (lost : Bool)
+      → IsSlotAt config request key came here waiting lost slot done → IsSlotAt config request key came here waiting true slot done
+  slot_lost came here slot done (Some waiting) lost is = is
+  slot_lost came here slot done None false is = over.routed is.trail is.routed
+  slot_lost came here slot done None true is = is
 
-  ended_at : (slot : KeySlot) (done : List Interaction) (lost : Bool) → IsKeyEnded config request key slot done
-      → IsSlotAt config request key None lost slot done
-  ended_at slot done false is = is
-  ended_at slot done true is = over.routed is.trail is.routed
+  ended_at : (came : KeysCame) (slot : KeySlot) (done : List Interaction) (lost : Bool) → IsKeyEnded config request key slot done
+      → IsSlotAt config request key came false None lost slot done
+  ended_at came slot done false is = is
+  ended_at came slot done true is = over.routed is.trail is.routed
 
   -- its calls led to a stage
-  pub goes_at : {done : List Interaction} (at : Stage) (slot : KeySlot) (all : List Call) (lost : Bool)
+  pub goes_at : {done : List Interaction} (came : KeysCame) (at : Stage) (slot : KeySlot) (all : List Call) (lost : Bool)
       → Goes (alone_course config request key slot.targets) all [] at slot.key slot.outbox → slot.targets ≡ targets_of config key
-      → done ≡ map Made all ++ key_record (key_step at) → IsSlotAt config request key (wait_at at) lost slot done
-  goes_at (stage.Away clear waiting) slot all lost goes aims are = record {
+      → done ≡ map Made all ++ key_record (key_step at) → IsSlotAt config request key came false (wait_at at) lost slot done
+  goes_at came (stage.Away clear waiting) slot all lost goes aims are = record {
     calls = all;
     aims = aims;
     awaits = goes.reached.0;
@@ -63,8 +66,8 @@ module _ (config : Configuration) (request : Request) (key : List ℕ) where
     empty = goes.settles.1;
     are = are ∙ append-nil (map Made all);
   }
-  goes_at {done} (stage.Done trail) slot all lost goes aims are =
-      ended_at slot done lost (record {
+  goes_at {done} came (stage.Done trail) slot all lost goes aims are =
+      ended_at came slot done lost (record {
         trail = trail;
         routed =
             subst (λ ds. IsKeyRouted config request (routed_key key trail) ds) (sym are)
@@ -73,11 +76,11 @@ module _ (config : Configuration) (request : Request) (key : List ℕ) where
       })
 
   -- and its trail could not be recorded
-  pub goes_unrecorded : {done : List Interaction} (at : Stage) (slot : KeySlot) (all : List Call) (trail : List Attempt)
+  pub goes_unrecorded : {done : List Interaction} (came : KeysCame) (at : Stage) (slot : KeySlot) (all : List Call) (trail : List Attempt)
       → Goes (alone_course config request key slot.targets) all [] at slot.key slot.outbox → slot.targets ≡ targets_of config key
-      → step.Tried trail ≡ key_step at → done ≡ map Made all ++ Noted trail ∷ [] → IsSlotAt config request key (wait_at at) true slot done
-  goes_unrecorded (stage.Away clear waiting) slot all trail goes aims says are = absurd (asks_or_tried says)
-  goes_unrecorded (stage.Done other) slot all trail goes aims says are =
+      → step.Tried trail ≡ key_step at → done ≡ map Made all ++ Noted trail ∷ [] → IsSlotAt config request key came false (wait_at at) true slot done
+  goes_unrecorded came (stage.Away clear waiting) slot all trail goes aims says are = absurd (asks_or_tried says)
+  goes_unrecorded came (stage.Done other) slot all trail goes aims says are =
       let same : other ≡ trail = same_trail says in
       over.cut (cut.reply_lost trail all
       (subst (λ t. IsTrail (targets_of config key) t) same (subst (λ ts. IsTrail ts other) aims goes.reached.0))
@@ -91,12 +94,41 @@ module _ (config : Configuration) (request : Request) (key : List ℕ) where
   ends_over all (one ∷ attempts) ends aims are =
       over.cut (cut.reply_lost (one ∷ attempts) all (subst (λ ts. IsTrail ts (one ∷ attempts)) aims ends.tried) ends.make are)
 
-  -- memory ran out at its send
-  pub send_over : {done : List Interaction} (slot : KeySlot) (waiting : Awaited) (was_sent : Bool) (was : List Interaction) → IsKeyOut config request key waiting slot was
-      → done ≡ was ++ (key_came slot waiting (Err (record { sent = was_sent })) ∷ Noted waiting.attempts ∷ []) → IsKeyOver config request key done
-  send_over slot waiting was_sent was out are =
+  -- memory ran out after attempts, which were noted
+  pub ends_noted : {done : List Interaction} {targets : List ℕ} (all : List Call) (attempts : List Attempt) → EndsBy targets (form_in config (request_for request key)) all attempts
+      → targets ≡ targets_of config key → done ≡ map Made all ++ Noted attempts ∷ [] → IsKeyOver config request key done
+  ends_noted all attempts ends aims are = over.cut (cut.reply_lost attempts all (subst (λ ts. IsTrail ts attempts) aims ends.tried) ends.make are)
+
+  -- memory ran out at its send, or for its part of what came
+  pub came_over : {done : List Interaction} (slot : KeySlot) (waiting : Awaited) (part : Option Outcome) (reply : Option Reply) (was : List Interaction)
+      → IsKeyCame config request key part reply waiting slot was → done ≡ was ++ Noted waiting.attempts ∷ [] → IsKeyOver config request key done
+  came_over {done} slot waiting (Some part) reply was is are =
+      let out = is.out in
+      let first : Interaction = Made (came waiting.server slot.key.request (Ok part)) in
+      let told : List Interaction = map Made (told_of waiting part reply) in
+      let all : done ≡ map Made out.calls ++ (first ∷ (told ++ Noted waiting.attempts ∷ [])) =
+      are ∙ ap (λ xs. xs ++ Noted waiting.attempts ∷ []) (is.are ∙ ap (λ xs. xs ++ is.adds) out.are ∙ ap (λ xs. map Made out.calls ++ xs) is.comes)
+      ∙ append_assoc (map Made out.calls) (first ∷ told) (Noted waiting.attempts ∷ []) in
+      over.part_lost (record {
+        trail = waiting.attempts;
+        calls = out.calls;
+        server = waiting.server;
+        part = part;
+        reply = reply;
+        tried = subst (λ ts. IsCutTrail ts waiting.attempts) out.aims out.awaits.tried;
+        next = out.awaits.server ∙ ap (λ ts. next_target ts waiting.attempts) out.aims;
+        found = out.found;
+        are =
+            all ∙ ap (λ (o : OneKey). map Made out.calls ++ (Made (came waiting.server o.request (Ok part)) ∷ (told ++ Noted waiting.attempts ∷ []))) out.alone;
+      })
+  came_over {done} slot waiting None reply was is are =
+      let out = is.out in
+      let was_sent = is.comes.0 in
+      let first : Interaction = Made (came waiting.server slot.key.request (Err (record { sent = was_sent }))) in
+      let all : done ≡ map Made out.calls ++ (first ∷ Noted waiting.attempts ∷ []) =
+      are ∙ ap (λ xs. xs ++ Noted waiting.attempts ∷ []) (is.are ∙ ap (λ xs. xs ++ is.adds) out.are ∙ ap (λ xs. map Made out.calls ++ xs) is.comes.1)
+      ∙ append_assoc (map Made out.calls) (first ∷ []) (Noted waiting.attempts ∷ []) in
       over.cut (cut.send_lost waiting.attempts out.calls waiting.server was_sent
       (subst (λ ts. IsCutTrail ts waiting.attempts) out.aims out.awaits.tried) (out.awaits.server ∙ ap (λ ts. next_target ts waiting.attempts) out.aims)
       out.found
-      (are ∙ ap (λ xs. xs ++ (key_came slot waiting (Err (record { sent = was_sent })) ∷ Noted waiting.attempts ∷ [])) out.are
-      ∙ ap (λ (o : OneKey). map Made out.calls ++ (Made (came waiting.server o.request (Err (record { sent = was_sent }))) ∷ Noted waiting.attempts ∷ [])) out.alone))
+      (all ∙ ap (λ (o : OneKey). map Made out.calls ++ (Made (came waiting.server o.request (Err (record { sent = was_sent }))) ∷ Noted waiting.attempts ∷ [])) out.alone))

@@ -1,10 +1,12 @@
 -- How far the keys of a request came, over what was done since it was recorded, place by place.
-use Rattle.std.specs.Prelude.{◌≡◌, ◌<◌, ℕ, Bool, true, false, List, [], ◌++◌, Option, Some, None, length, map, slice_get}
+use Rattle.std.specs.Prelude.{◌≡◌, ◌<◌, ◌==◌, ℕ, Bool, true, false, List, [], ◌∷◌, ◌++◌, Err, Ok, Option, Some, None, length, map, slice_get}
+use Rattle.std.specs.List.{list_any}
+use Rattle.tko_model.specs.declared.mark.Reply.{Reply}
+use Rattle.tko_links.specs.declared.links.Outcome.{Outcome}
 use Rattle.tko_text.specs.declared.request.Request.{Request}
 use Rattle.tko_pools.specs.Configs.{Configuration, targets_of}
-use Rattle.tko_roster.specs.Tagged.{Tagged, own}
-use Rattle.tko_route.specs.Calls.{Call}
-use Rattle.tko_route.specs.Routing.{FindsUp, IsAwaited}
+use Rattle.tko_route.specs.Calls.{Call, came}
+use Rattle.tko_route.specs.Routing.{FindsUp, IsAwaited, told_of}
 use Rattle.tko_route.specs.Trail.{answer_of}
 use Rattle.tko_route.specs.Underway.{Awaited}
 use Rattle.tko_route.specs.declared.attempt.Attempt.{Attempt}
@@ -14,11 +16,12 @@ use Rattle.tko_reply.specs.Asking.{Joins}
 use Rattle.tko_reply.specs.Interactions.{Interaction, Made}
 use Rattle.tko_reply.specs.Replies.{routed_key}
 use Rattle.tko_reply.specs.declared.asking.Share.TheVariants as share
-use Rattle.tko_keys.specs.AtOnce.{ArePlaced, IsKeyOver}
+use Rattle.tko_keys.specs.AtOnce.{ArePlaced, IsKeyOver, Placed, own_of}
 use Rattle.tko_keys.specs.KeysDriven.{AreUnderWay}
-use Rattle.tko_keys.specs.KeysState.{KeySlot, KeysState}
+use Rattle.tko_keys.specs.KeysState.{KeySlot, KeysCame, KeysState}
+use Rattle.tko_keys.specs.Lines.{key_of, part_of}
 
--- a key of a request is asked for alone, and a send is out to a server that its calls found up
+-- a key of a request is asked for alone, and its calls found up the server that it waits for
 pub record IsKeyOut (config : Configuration) (request : Request) (key : List ℕ) (waiting : Awaited)
     (slot : KeySlot) (done : List Interaction) : Type 0 where
   pub calls : List Call
@@ -33,6 +36,24 @@ pub record IsKeyOut (config : Configuration) (request : Request) (key : List ℕ
   pub empty : slot.outbox ≡ []
   pub are : done ≡ map Made calls
 
+-- this came for the key that waits, and then the call that recorded it; or memory ran out for it
+abbrev pub ComesTo : Option Outcome → Option Reply → Awaited → KeySlot → List Interaction → Type 0
+ComesTo (Some part) reply waiting slot adds =
+    adds ≡ Made (came waiting.server slot.key.request (Ok part))
+    ∷ map Made (told_of waiting part reply)
+ComesTo None reply waiting slot adds = (was_sent : Bool)
+    × (adds ≡ Made (came waiting.server slot.key.request (Err (record { sent = was_sent }))) ∷ [])
+
+-- the same key, once something came for it, which was not taken on
+pub record IsKeyCame (config : Configuration) (request : Request) (key : List ℕ)
+    (part : Option Outcome) (reply : Option Reply) (waiting : Awaited) (slot : KeySlot)
+    (done : List Interaction) : Type 0 where
+  pub before : List Interaction
+  pub adds : List Interaction
+  pub out : IsKeyOut config request key waiting slot before
+  pub comes : ComesTo part reply waiting slot adds
+  pub are : done ≡ before ++ adds
+
 -- a key of a request was routed and its trail recorded; its values are in its outbox, or else its
 -- whole response
 pub record IsKeyEnded (config : Configuration) (request : Request) (key : List ℕ) (slot : KeySlot)
@@ -41,13 +62,26 @@ pub record IsKeyEnded (config : Configuration) (request : Request) (key : List �
   pub routed : IsKeyRouted config request (routed_key key trail) done
   pub holds : Joins 0 [] (answer_of trail) [] slot.key.share slot.outbox
 
--- how far a key came that waits for this; once memory ran out, responses are not told any more
-abbrev pub IsSlotAt : Configuration → Request → List ℕ → Option Awaited → Bool → KeySlot
+-- whether a key is to be taken on
+abbrev pub is_to_take : ℕ → KeysCame → Bool
+is_to_take place came = list_any (λ other. other == place) came.places
+
+-- how far a key came that waits for this, where nothing came for it yet, or something did
+abbrev pub IsWaitingAt : Configuration → Request → List ℕ → KeysCame → Bool → Awaited → KeySlot
     → List Interaction → Type 0
-IsSlotAt config request key (Some waiting) lost slot done =
+IsWaitingAt config request key came false waiting slot done =
     IsKeyOut config request key waiting slot done
-IsSlotAt config request key None false slot done = IsKeyEnded config request key slot done
-IsSlotAt config request key None true slot done = IsKeyOver config request key done
+IsWaitingAt config request key came true waiting slot done =
+    IsKeyCame config request key (part_of came (key_of slot)) came.reply waiting slot done
+
+-- how far a key came, whether it waits or not; once memory ran out, responses are not told any more
+abbrev pub IsSlotAt : Configuration → Request → List ℕ → KeysCame → Bool → Option Awaited → Bool
+    → KeySlot → List Interaction → Type 0
+IsSlotAt config request key came here (Some waiting) lost slot done =
+    IsWaitingAt config request key came here waiting slot done
+IsSlotAt config request key came here None false slot done =
+    IsKeyEnded config request key slot done
+IsSlotAt config request key came here None true slot done = IsKeyOver config request key done
 
 -- these keys of a request for several were begun, and each of them came so far by its own
 -- interactions
@@ -58,8 +92,9 @@ pub record KeysSoFar (config : Configuration) (request : Request) (state : KeysS
   pub begun : List (List ℕ)
   pub whole : request ≡ retrieval (begun ++ state.left) state.unique
   pub all : length begun ≡ length state.slots
-  pub placed : List (Tagged Interaction)
-  pub are_placed : ArePlaced (length state.slots) placed done
+  pub placed : List Placed
+  pub are_placed : ArePlaced state.plan.grouping (length state.slots) placed done
   pub each : (place : ℕ) (key : List ℕ) (slot : KeySlot) → slice_get begun place ≡ Some key
       → slice_get state.slots place ≡ Some slot
-      → IsSlotAt config request key slot.waiting state.lost slot (own place placed)
+      → IsSlotAt config request key state.came (is_to_take place state.came) slot.waiting
+      state.lost slot (own_of place placed)

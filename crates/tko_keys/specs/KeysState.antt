@@ -2,6 +2,8 @@
 use Rattle.std.specs.Prelude.{◌≡◌, ◌≢◌, ◌<◌, ◌+◌, ◌==◌, ℕ, Bool, true, false, not, List, [], ◌∷◌, ◌++◌, Option, Some, None, find, flat_map, length, map, slice_get, All, sum_by, ◌-◌}
 use Rattle.std.specs.List.{prefix_len}
 use Rattle.std.specs.Option.{option_and_then, option_map}
+use Rattle.tko_model.specs.declared.mark.Reply.{Reply}
+use Rattle.tko_links.specs.declared.links.Outcome.{Outcome}
 use Rattle.tko_text.specs.declared.request.Request.{Request}
 use Rattle.tko_route.specs.Underway.{Awaited}
 use Rattle.tko_route.specs.declared.attempt.Attempt.{Attempt}
@@ -10,31 +12,66 @@ use Rattle.tko_reply.specs.Replies.{end_line}
 use Rattle.tko_reply.specs.Standing.{is_joined}
 use Rattle.tko_reply.specs.declared.asking.OneKey.{OneKey}
 use Rattle.tko_reply.specs.declared.asking.Share.{Share}
-use Rattle.tko_keys.specs.declared.ask.Ask.{Ask}
+use Rattle.tko_keys.specs.declared.plan.KeyPlan.{KeyPlan}
 
 -- a key that was begun: its request, the targets that it is routed over, its response, which is
--- kept apart from those of the other keys, and what it waits for while its request is under way
+-- kept apart from those of the other keys, and what it waits for while it is due at a server or its
+-- request is under way
 pub record KeySlot : Type 0 where
   pub key : OneKey
   pub targets : List ℕ
   pub outbox : List ℕ
   pub waiting : Option Awaited
 
+-- a key that is due at a server, which its look-ups found up: its place in the request
+pub record DueKey : Type 0 where
+  pub place : ℕ
+  pub server : ℕ
+
+-- A request that is under way: the server, the places of its keys, and the line where one was made
+-- for several keys. Without a line it is the request of one key.
+pub record KeySend : Type 0 where
+  pub server : ℕ
+  pub places : List ℕ
+  pub line : Option Request
+
+-- a line that is put together: the places of its keys beside the first one, the request for all of
+-- them, and how many bytes it has at most
+pub record LineSoFar : Type 0 where
+  pub others : List ℕ
+  pub line : Request
+  pub bytes : ℕ
+
+-- What came of a request: the places of those of its keys that were not taken on; whether a line
+-- was made for them, so that each has its part of the response; the outcome, unless memory ran out;
+-- and the reply to the call that recorded it.
+pub record KeysCame : Type 0 where
+  pub places : List ℕ
+  pub shared : Bool
+  pub outcome : Option Outcome
+  pub reply : Option Reply
+
 -- The keys of a request: whether their cas numbers are asked for too; the keys that were not begun;
--- those that were, in the order of the request; the requests that are under way, in the order in
--- which they were asked; how many may be at once; whether the response to a key was no list of
--- values; and whether memory ran out for one.
+-- those that were, in the order of the request; those that are due at a server, in the order in
+-- which they came there; the requests that are under way, in the order in which they were sent;
+-- what came of one and was not taken on; how they are sent; whether the response to a key was no
+-- list of values; and whether memory ran out for one.
 pub record KeysState : Type 0 where
   pub unique : Bool
   pub left : List (List ℕ)
   pub slots : List KeySlot
-  pub asks : List Ask
-  pub most : ℕ
+  pub due : List DueKey
+  pub sends : List KeySend
+  pub came : KeysCame
+  pub plan : KeyPlan
   pub failed : Bool
   pub lost : Bool
 
+abbrev pub nothing_came : KeysCame
+nothing_came = record { places = []; shared = false; outcome = None; reply = None }
+
 -- the keys of a request, none of which was begun
-pub record IsNew (request : Request) (most : ℕ) (state : KeysState) : Type 0 where
+pub record IsNew (request : Request) (plan : KeyPlan) (state : KeysState) : Type 0 where
   pub keys : List (List ℕ)
   pub unique : Bool
   pub whole : request ≡ retrieval keys unique
@@ -42,8 +79,10 @@ pub record IsNew (request : Request) (most : ℕ) (state : KeysState) : Type 0 w
     unique = unique;
     left = keys;
     slots = [];
-    asks = [];
-    most = most;
+    due = [];
+    sends = [];
+    came = nothing_came;
+    plan = plan;
     failed = false;
     lost = false;
   }
@@ -68,35 +107,48 @@ has_failed slot = failed_by slot.waiting slot.key.share
 abbrev pub values_ahead : List KeySlot → ℕ
 values_ahead slots = prefix_len has_values slots
 
--- the servers that requests are under way to, in the order in which they were asked
+-- the places of the keys that are due, or of whose request nothing came, or that were not taken on
+-- after that
+abbrev pub places_in : List DueKey → List KeySend → KeysCame → List ℕ
+places_in due sends came =
+    map (λ it. it.place) due ++ (flat_map (λ send. send.places) sends ++ came.places)
+
+abbrev pub places_out : KeysState → List ℕ
+places_out state = places_in state.due state.sends state.came
+
+-- the servers that requests are under way to, in the order in which they were sent
 abbrev pub awaited : KeysState → List ℕ
-awaited state = map (λ ask. ask.server) state.asks
+awaited state = map (λ send. send.server) state.sends
+
+-- the first key that is due at a server
+abbrev pub first_due : ℕ → List DueKey → Option DueKey
+first_due server due = find (λ it. it.server == server) due
 
 -- the first request under way at a server, whose response comes next from it
-abbrev pub first_at : ℕ → List Ask → Option Ask
-first_at server asks = find (λ ask. ask.server == server) asks
+abbrev pub first_send : ℕ → List KeySend → Option KeySend
+first_send server sends = find (λ send. send.server == server) sends
 
--- those without an ask that may stand first
-abbrev pub but_first : Bool → Ask → List Ask → List Ask → List Ask
-but_first true ask asks others = asks
-but_first false ask asks others = ask ∷ others
+-- those without a request that may stand first
+abbrev pub but_first : Bool → KeySend → List KeySend → List KeySend → List KeySend
+but_first true send sends others = sends
+but_first false send sends others = send ∷ others
 
 -- the others than the first at a server
-abbrev pub without_first : ℕ → List Ask → List Ask
+abbrev pub without_first : ℕ → List KeySend → List KeySend
 without_first server [] = []
-without_first server (ask ∷ asks) =
-    but_first (ask.server == server) ask asks (without_first server asks)
+without_first server (send ∷ sends) =
+    but_first (send.server == server) send sends (without_first server sends)
 
--- One more key may be begun: fewer than `most` requests are under way, and the key is fewer than
--- `most` places behind the first one that got no list of values so far.
+-- One more key may be begun: fewer than `most` are due, under way or not taken on, and the key is
+-- fewer than `most` places behind the first one that got no list of values so far.
 abbrev pub MayBegin : KeysState → Type 0
 MayBegin state = (state.left ≢ []) × (state.failed ≡ false) × (state.lost ≡ false)
-    × (length state.asks < state.most)
-    × (length state.slots < values_ahead state.slots + state.most)
+    × (length (places_out state) < state.plan.most)
+    × (length state.slots < values_ahead state.slots + state.plan.most)
 
--- nothing is under way, and no key may be begun
+-- nothing is due or under way, what came was taken on, and no key may be begun
 abbrev pub IsComplete : KeysState → Type 0
-IsComplete state = (state.asks ≡ []) × ¬ (MayBegin state)
+IsComplete state = (places_out state ≡ []) × ¬ (MayBegin state)
 
 -- the reply, given the first key that got no list of values, if there is one
 abbrev pub reply_at : Option KeySlot → List KeySlot → List ℕ
@@ -111,31 +163,44 @@ reply_in slots = reply_at (slice_get slots (values_ahead slots)) slots
 abbrev pub held_in : List KeySlot → ℕ
 held_in slots = sum_by (λ slot. length slot.outbox) slots
 
--- each request under way is that of a key that was begun
-abbrev pub HavePlaces : List KeySlot → List Ask → Type 0
-HavePlaces slots asks = All (λ ask. ask.place < length slots) asks
+-- each of these places is that of a key that was begun
+abbrev pub HavePlaces : List KeySlot → List ℕ → Type 0
+HavePlaces slots places = All (λ place. place < length slots) places
 
--- the request of a key that is asked for
-abbrev pub request_of : List KeySlot → Ask → Option Request
-request_of slots ask = option_map (λ slot. slot.key.request) (slice_get slots ask.place)
+-- the request of the key of a place
+abbrev pub request_at : List KeySlot → ℕ → Option Request
+request_at slots place = option_map (λ slot. slot.key.request) (slice_get slots place)
 
--- the request that was asked for last, and the first one under way at a server
+-- a request that is under way: its line, or the request of its key
+abbrev pub request_by : List KeySlot → List ℕ → Option Request → Option Request
+request_by slots places (Some line) = Some line
+request_by slots places None = option_and_then (request_at slots) (slice_get places 0)
+
+abbrev pub request_of : List KeySlot → KeySend → Option Request
+request_of slots send = request_by slots send.places send.line
+
+-- the request that was sent last, and the first one under way at a server
 abbrev pub asked_last : KeysState → Option Request
 asked_last state =
-    option_and_then (request_of state.slots) (slice_get state.asks (length state.asks - 1))
+    option_and_then (request_of state.slots) (slice_get state.sends (length state.sends - 1))
 
 abbrev pub asked_first : ℕ → KeysState → Option Request
-asked_first server state = option_and_then (request_of state.slots) (first_at server state.asks)
+asked_first server state =
+    option_and_then (request_of state.slots) (first_send server state.sends)
 
--- the attempts at a key before the send that is out
+-- how many keys the first request under way at a server is for
+abbrev pub keys_first : ℕ → KeysState → Option ℕ
+keys_first server state = option_map (λ send. length send.places) (first_send server state.sends)
+
+-- the attempts at a key before the server where it is due
 abbrev pub attempts_of : Option Awaited → List Attempt
 attempts_of None = []
 attempts_of (Some waiting) = waiting.attempts
 
--- those before the request that was asked for last
-abbrev pub attempts_at : List KeySlot → Ask → Option (List Attempt)
-attempts_at slots ask = option_map (λ slot. attempts_of slot.waiting) (slice_get slots ask.place)
+-- those at the key that was due last
+abbrev pub attempts_at : List KeySlot → DueKey → Option (List Attempt)
+attempts_at slots it = option_map (λ slot. attempts_of slot.waiting) (slice_get slots it.place)
 
 abbrev pub attempts_last : KeysState → Option (List Attempt)
 attempts_last state =
-    option_and_then (attempts_at state.slots) (slice_get state.asks (length state.asks - 1))
+    option_and_then (attempts_at state.slots) (slice_get state.due (length state.due - 1))

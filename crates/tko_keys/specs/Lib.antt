@@ -1,7 +1,10 @@
 pub mod AtOnce
 pub mod FirstKey
+pub mod Groups
 pub mod KeysActs
 pub mod KeysDriven
 pub mod KeysSoFar
 pub mod KeysState
+pub mod Lines
 pub mod SlotCalls
+pub mod Steps

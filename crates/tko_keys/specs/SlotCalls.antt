@@ -1,11 +1,12 @@
 -- What the calls of one key among several make of it.
-use Rattle.std.specs.Prelude.{◌≡◌, List, [], Option, Some, None}
+use Rattle.std.specs.Prelude.{◌≡◌, ◌≢◌, ◌++◌, ◌↔◌, ℕ, true, List, [], IfSome, IsSome, Option, Some, None}
 use Rattle.tko_text.specs.declared.request.Request.{Request}
 use Rattle.tko_text.specs.SentRequests.{without_noreply}
 use Rattle.tko_links.specs.declared.links.Outcome.{Outcome}
 use Rattle.tko_pools.specs.Configs.{AreServers, Configuration}
 use Rattle.tko_route.specs.Calls.{Call}
-use Rattle.tko_route.specs.Trail.{form_at}
+use Rattle.tko_route.specs.Routing.{told_of}
+use Rattle.tko_route.specs.Trail.{form_at, op_of}
 use Rattle.tko_route.specs.Underway.{Awaited}
 use Rattle.tko_route.specs.declared.attempt.Attempt.{Attempt}
 use Rattle.tko_route.specs.declared.routing.Stage.{Stage}
@@ -17,11 +18,12 @@ use Rattle.tko_reply.specs.Standing.{asking, one_of}
 use Rattle.tko_reply.specs.declared.asking.Share.TheVariants as share
 use Rattle.tko_keys.specs.declared.step.KeyStep.{KeyStep}
 use Rattle.tko_keys.specs.declared.step.KeyStep.TheVariants as step
-use Rattle.tko_keys.specs.KeysState.{KeySlot}
+use Rattle.tko_keys.specs.KeysState.{KeySlot, KeysCame}
+use Rattle.tko_keys.specs.Lines.{key_of, part_of}
 
 -- what a call says where a key came so far
 abbrev pub key_step : Stage → KeyStep
-key_step (stage.Away clear waiting) = step.Asks clear
+key_step (stage.Away clear waiting) = step.Due clear
 key_step (stage.Done trail) = step.Tried trail
 
 -- what the key waits for there
@@ -34,8 +36,20 @@ abbrev pub fresh_slot : Request → KeySlot
 fresh_slot request =
     record { key = one_of request; targets = []; outbox = []; waiting = None }
 
+-- what came was recorded, by the table of outcomes
+abbrev pub CanGoOn : KeysCame → Type 0
+CanGoOn came = IfSome came.outcome (λ outcome. IsSome came.reply ↔ IsSome (op_of outcome))
+
+-- what is left of what came, once the key took its part of it: the parts of all other keys
+pub record IsLeft (key : List ℕ) (old new : KeysCame) : Type 0 where
+  pub same : new ≡ record old { outcome = new.outcome }
+  pub goes_on : CanGoOn old → CanGoOn new
+  pub others : old.shared ≡ true → (other : List ℕ) → other ≢ key
+      → part_of new other ≡ part_of old other
+
 module _ (config : Configuration) where
-  -- its request is under way to one of its targets, which are servers, and it has no response yet
+  -- it is due at one of its targets, which are servers, or its request is under way there, and it
+  -- has no response yet
   pub record IsSlotOut (slot : KeySlot) (waiting : Awaited) : Type 0 where
     pub out : slot.waiting ≡ Some waiting
     pub sent : IsSent config slot.targets (asking waiting slot.key)
@@ -78,3 +92,25 @@ module _ (config : Configuration) where
     pub ended : new.waiting ≡ None
     pub lost : AfterSend config (asking waiting old.key) outcome (λ original before. EndsBy
         old.targets (form_at config.failover_exptime original) (before calls) attempts)
+
+  -- A key took its part of what came, which goes on so with what is left of that. The keys that
+  -- share it keep their parts.
+  pub record PartTaken (came : KeysCame) (old : KeySlot) (calls : List Call) (said : KeyStep)
+      (left : KeysCame) (new : KeySlot) : Type 0 where
+    pub part : Outcome
+    pub is_part : part_of came (key_of old) ≡ Some part
+    pub waiting : Awaited
+    pub out : old.waiting ≡ Some waiting
+    pub taken : SlotTaken part old (told_of waiting part came.reply ++ calls) said new
+    pub leaves : IsLeft (key_of old) came left
+
+  -- memory ran out there, after these attempts; or it ran out for the part, or before
+  pub data PartDropped (came : KeysCame) (old : KeySlot) (calls : List Call)
+      (attempts : List Attempt) (left : KeysCame) (new : KeySlot) : Type 0 where
+    in_call : (part : Outcome) (waiting : Awaited) → part_of came (key_of old) ≡ Some part
+        → old.waiting ≡ Some waiting
+        → SlotDropped part old (told_of waiting part came.reply ++ calls) attempts new
+        → IsLeft (key_of old) came left → PartDropped came old calls attempts left new
+    before : (waiting : Awaited) → old.waiting ≡ Some waiting → calls ≡ []
+        → attempts ≡ waiting.attempts → left ≡ came → new ≡ record old { waiting = None }
+        → PartDropped came old calls attempts left new

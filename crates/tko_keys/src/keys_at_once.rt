@@ -4,19 +4,28 @@ ghost use Rattle.tko_reply.specs.Answers.{request_keys};
 ghost use Rattle.tko_keys.specs.KeysDriven.{with_loss};
 ghost use Rattle.tko_keys.specs.KeysState.{IsComplete, IsNew, MayBegin, awaited, held_in};
 
-use crate::ask::Ask;
+use crate::come::Come;
+use crate::due::Due;
+use crate::plan::KeyPlan;
 use crate::slot::Slot;
+use crate::under_way::UnderWay;
 use std::alloc::Global;
+use std::cmp::min;
+use std::collections::VecDeque;
 use std::marker::Model;
 use tko_bytes::NoMemory;
 use tko_reply::{KeysLeft, split_keys};
 use tko_text::Request;
 
+mod arriving;
 mod beginning;
 mod finishing;
-mod outcomes;
+mod going_on;
 mod places;
 mod reading;
+mod sending;
+
+pub use sending::Sending;
 
 /// The keys of one request for several. It sends nothing itself and borrows nothing between two
 /// calls.
@@ -29,11 +38,17 @@ pub struct KeysAtOnce {
     left: KeysLeft,
     /// The keys that were begun, in the order of the request.
     slots: Vec<Slot>,
-    /// The requests that are under way, in the order in which they were asked.
-    asks: Vec<Ask>,
+    /// Those that are due at a server, in the order in which they came there.
+    due: VecDeque<Due>,
+    /// The requests that are under way, in the order in which they were sent.
+    sends: VecDeque<UnderWay>,
+    /// What came of one, for those of its keys that were not taken on.
+    came: Come,
+    /// So many keys are due, under way or not taken on.
+    out: usize,
     /// So many keys from the first one on got lists of values.
     ahead: usize,
-    most: usize,
+    plan: KeyPlan,
     /// A key got no list of values, or memory ran out for one.
     failed: bool,
     lost: bool,
@@ -44,9 +59,10 @@ pub struct KeysAtOnce {
 }
 
 impl Model for KeysAtOnce {
-    ghost use Rattle.std.specs.Prelude.{◌≡◌, ◌-◌, ◌^◌, min};
+    ghost use Rattle.std.specs.Prelude.{◌≡◌, ◌≤◌, ◌-◌, ◌^◌, length, min};
+    ghost use Rattle.std.specs.VecDeque.{deque_capacity};
     ghost use Rattle.tko_keys.specs.FirstKey.{IsAlone, keys_with};
-    ghost use Rattle.tko_keys.specs.KeysState.{HavePlaces, KeysState, held_in, values_ahead};
+    ghost use Rattle.tko_keys.specs.KeysState.{HavePlaces, KeysState, held_in, places_in, values_ahead};
 
     ghost Value = { KeysState };
 
@@ -54,34 +70,43 @@ impl Model for KeysAtOnce {
       unique = k.unique;
       left = keys_with k.first k.left;
       slots = k.slots.items;
-      asks = k.asks.items;
-      most = k.most;
+      due = k.due.items;
+      sends = k.sends.items;
+      came = k.came;
+      plan = k.plan;
       failed = k.failed;
       lost = k.lost;
     } };
 
     ghost invariant = { λ k. IsAlone k.unique k.first × (k.ahead ≡ values_ahead k.slots.items)
-        × HavePlaces k.slots.items k.asks.items
-        × (k.held ≡ min (held_in k.slots.items) (2 ^ 64 - 1)) };
+        × HavePlaces k.slots.items (places_in k.due.items k.sends.items k.came)
+        × (k.held ≡ min (held_in k.slots.items) (2 ^ 64 - 1))
+        × (k.out ≡ length (places_in k.due.items k.sends.items k.came))
+        × (k.out ≤ deque_capacity k.due) × (k.out ≤ deque_capacity k.sends) };
 }
 
 impl KeysAtOnce {
-    /// The keys of a request for several, of which at most `most` are to be under way at once.
-    pub fn new(alloc: Global, mut request: Request, most: usize) -> Result<KeysAtOnce, NoMemory>
+    /// The keys of a request for several, and how they are to be sent.
+    pub fn new(alloc: Global, mut request: Request, plan: KeyPlan) -> Result<KeysAtOnce, NoMemory>
         requires several { 1 < length (request_keys request) }
-        requires some { 0 < most }
-        ensures { IfOk result (λ keys. IsNew request most keys) }
+        requires some { 0 < plan.most }
+        ensures { IfOk result (λ keys. IsNew request plan keys) }
     {
         let left = split_keys(&mut request, alloc)?;
         let unique = matches!(request, Request::Gets { .. });
+        let count = left.len().saturating_add(1);
+        let room = min(count, plan.most);
         Ok(KeysAtOnce {
             unique,
             first: Some(request),
             left,
-            slots: Vec::new(alloc),
-            asks: Vec::new(alloc),
+            slots: Vec::with_capacity(alloc, count)?,
+            due: VecDeque::from_vec(Vec::with_capacity(alloc, room)?),
+            sends: VecDeque::from_vec(Vec::with_capacity(alloc, room)?),
+            came: Come::none(alloc),
+            out: 0,
             ahead: 0,
-            most,
+            plan,
             failed: false,
             lost: false,
             told: 0,
@@ -96,8 +121,8 @@ impl KeysAtOnce {
         self.has_left()
             && !self.failed
             && !self.lost
-            && self.asks.len() < self.most
-            && self.slots.len().saturating_sub(self.ahead) < self.most
+            && self.out < self.plan.most
+            && self.slots.len().saturating_sub(self.ahead) < self.plan.most
     }
 
     /// Whether there are keys that were not begun.
@@ -111,14 +136,21 @@ impl KeysAtOnce {
     pub fn is_waiting(&self) -> bool
         ensures { IsTrue result ↔ (awaited self.now ≢ []) }
     {
-        !self.asks.is_empty()
+        !self.sends.is_empty()
     }
 
-    /// Whether nothing is under way, and no key may be begun.
+    /// Whether what came of a request is there for a key, which is to be taken on.
+    pub fn may_go_on(&self) -> bool
+        ensures { IsTrue result ↔ (self.now.came.places ≢ []) }
+    {
+        self.came.is_some()
+    }
+
+    /// Whether nothing is due, under way or to be taken on, and no key may be begun.
     pub fn is_complete(&self) -> bool
         ensures { IsTrue result ↔ IsComplete self.now }
     {
-        self.asks.is_empty() && !self.may_begin()
+        self.out == 0 && !self.may_begin()
     }
 
     /// Whether memory ran out for a key, so that the request is to be dropped once it is complete.

@@ -1,17 +1,21 @@
 //! One key of a request, from where it is begun to where its response is put into the reply.
-ghost use Rattle.std.specs.Prelude.{◌≡◌, ◌↔◌, IfErr, IfOk, IsSome, IsTrue, None, OnErr, Some, length};
-ghost use Rattle.tko_route.specs.Routing.{GoesOn};
+ghost use Rattle.std.specs.Prelude.{◌≡◌, ◌↔◌, ◌++◌, IfErr, IfOk, IsSome, IsTrue, None, OnErr, Some, length};
+ghost use Rattle.tko_route.specs.Routing.{GoesOn, told_of};
+ghost use Rattle.tko_route.specs.Trail.{op_of};
 ghost use Rattle.tko_route.specs.Underway.{Awaited};
 ghost use Rattle.tko_reply.specs.Cuts.{KeyLost};
 ghost use Rattle.tko_keys.specs.KeysState.{has_failed, has_values};
-ghost use Rattle.tko_keys.specs.SlotCalls.{IsAnyOut, SlotBegun, SlotDropped, SlotTaken, fresh_slot, key_step, wait_at};
+ghost use Rattle.tko_keys.specs.SlotCalls.{CanGoOn, IsAnyOut, PartDropped, PartTaken, SlotBegun, SlotDropped, SlotTaken, fresh_slot, wait_at};
+ghost use Rattle.tko_keys.specs.Steps.{said_by, slot_step};
 
-use crate::step::KeyStep;
+use crate::come::Come;
+use crate::step::SlotStep;
 use std::alloc::Global;
 use std::marker::Model;
 use std::mem::replace;
 use std::sync::Wait;
-use tko_links::Outcome;
+use tko_links::{NoMemory, Outcome};
+use tko_model::Reply;
 use tko_pools::Config;
 use tko_reply::{Dropped, OneKey, Outbox, stop};
 use tko_route::{Health, Stage, Waiting};
@@ -24,7 +28,7 @@ pub(crate) struct Slot {
     pub key: OneKey,
     pub targets: Vec<usize>,
     pub outbox: Outbox,
-    /// While its request is under way.
+    /// While it is due at a server, or its request is under way.
     pub waiting: Option<Waiting>,
 }
 
@@ -61,11 +65,11 @@ impl Slot {
         alloc: Global,
         health: &mut H,
         config: &Config,
-    ) -> Result<KeyStep, Dropped>
+    ) -> Result<SlotStep, Dropped>
         requires servers { H.servers health.old ≡ length config.now.addresses }
         requires fresh { self.old ≡ fresh_slot self.old.key.request }
-        ensures ok { IfOk result (λ said. GoesOn H.steps health.old (λ calls.
-            SlotBegun config.now self.old.key.request calls said self.new) health.new) }
+        ensures ok { IfOk result (λ step. GoesOn H.steps health.old (λ calls.
+            SlotBegun config.now self.old.key.request calls (said_by step) self.new) health.new) }
         ensures lost { IfErr result (λ attempts. GoesOn H.steps health.old (λ calls.
             KeyLost config.now self.old.key.request calls attempts) health.new) }
         ensures err { OnErr result (self.new.waiting ≡ None) }
@@ -79,21 +83,53 @@ impl Slot {
         }
     }
 
-    /// Records what came of the send that is out, and goes on to the next target unless it was
+    /// Takes its part of what came of a request, and goes on.
+    pub(crate) fn take<R: Wait, H: Health>(
+        &mut self,
+        rt: &R,
+        alloc: Global,
+        health: &mut H,
+        config: &Config,
+        came: &mut Come,
+    ) -> Result<SlotStep, Dropped>
+        requires servers { H.servers health.old ≡ length config.now.addresses }
+        requires out { IsAnyOut config.now self.old }
+        requires replied { CanGoOn came.old }
+        ensures ok { IfOk result (λ step. GoesOn H.steps health.old (λ calls.
+            PartTaken config.now came.old self.old calls (said_by step) came.new self.new)
+            health.new) }
+        ensures lost { IfErr result (λ attempts. GoesOn H.steps health.old (λ calls.
+            PartDropped config.now came.old self.old calls attempts came.new self.new)
+            health.new) }
+        ensures servers { H.servers health.new ≡ H.servers health.old }
+    {
+        let reply = came.reply();
+        match came.part(alloc, self.key.request()) {
+            Some(part) => self.go_on(rt, health, config, part, reply),
+            None => Err(self.stop()),
+        }
+    }
+
+    /// Goes on to the next target once this came of its send, and was recorded, unless it was
     /// answered.
-    pub(crate) fn answered<R: Wait, H: Health>(
+    fn go_on<R: Wait, H: Health>(
         &mut self,
         rt: &R,
         health: &mut H,
         config: &Config,
         outcome: Outcome,
-    ) -> Result<KeyStep, Dropped>
+        reply: Option<Reply>,
+    ) -> Result<SlotStep, Dropped>
         requires servers { H.servers health.old ≡ length config.now.addresses }
         requires out { IsAnyOut config.now self.old }
-        ensures ok { IfOk result (λ said. GoesOn H.steps health.old (λ calls.
-            SlotTaken config.now outcome self.old calls said self.new) health.new) }
-        ensures lost { IfErr result (λ attempts. GoesOn H.steps health.old (λ calls.
-            SlotDropped config.now outcome self.old calls attempts self.new) health.new) }
+        requires replied { IsSome reply ↔ IsSome (op_of outcome) }
+        ensures ok { IfOk result (λ step. GoesOn H.steps health.old (λ more.
+            (waiting : Awaited) → self.old.waiting ≡ Some waiting → SlotTaken config.now outcome
+            self.old (told_of waiting outcome reply ++ more) (said_by step) self.new)
+            health.new) }
+        ensures lost { IfErr result (λ attempts. GoesOn H.steps health.old (λ more.
+            (waiting : Awaited) → self.old.waiting ≡ Some waiting → SlotDropped config.now outcome
+            self.old (told_of waiting outcome reply ++ more) attempts self.new) health.new) }
         ensures servers { H.servers health.new ≡ H.servers health.old }
     {
         let Some(waiting) = replace(&mut self.waiting, None) else {
@@ -102,31 +138,31 @@ impl Slot {
         let targets = self.targets.as_slice();
         let outbox = &mut self.outbox;
         let key = &mut self.key;
-        match key.answered(rt, health, config, targets, outbox, waiting, outcome) {
+        match key.recorded(rt, health, config, targets, outbox, waiting, outcome, reply) {
             Ok(stage) => Ok(self.go_to(stage)),
             Err(lost) => Err(lost),
         }
     }
 
     /// Goes to where its routing came.
-    fn go_to(&mut self, stage: Stage) -> KeyStep
-        ensures says { result ≡ key_step stage }
+    fn go_to(&mut self, stage: Stage) -> SlotStep
+        ensures says { result ≡ slot_step stage }
         ensures state { self.new ≡ record self.old { waiting = wait_at stage } }
     {
         match stage {
             Stage::Away(clear, waiting) => {
                 self.waiting = Some(waiting);
-                KeyStep::Asks(clear)
+                SlotStep::Due(clear)
             }
             Stage::Done(trail) => {
                 self.waiting = None;
-                KeyStep::Tried(trail)
+                SlotStep::Tried(trail)
             }
         }
     }
 
-    /// Drops the key where memory ran out at its request.
-    pub(crate) fn stop(&mut self, fault: tko_links::NoMemory) -> Dropped
+    /// Drops the key where memory ran out for it.
+    fn stop(&mut self) -> Dropped
         requires out { IsSome self.old.waiting }
         ensures attempts { (waiting : Awaited) → self.old.waiting ≡ Some waiting
             → result ≡ waiting.attempts }
@@ -135,10 +171,10 @@ impl Slot {
         let Some(waiting) = replace(&mut self.waiting, None) else {
             unreachable!();
         };
-        stop(waiting, fault)
+        stop(waiting, NoMemory { sent: false })
     }
 
-    /// How many attempts at the key ended before the send that is out.
+    /// How many attempts at the key ended before the server that it waits for.
     pub(crate) fn tried(&self) -> usize {
         match &self.waiting {
             Some(waiting) => waiting.attempts().len(),

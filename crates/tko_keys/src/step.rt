@@ -6,8 +6,15 @@ use tko_route::Trail;
 /// What a call says of the key that it was about.
 #[derive(Drop)]
 pub enum KeyStep {
-    /// Its request, as it is now, may be sent once to the server that the permission names.
-    Asks(Clear),
+    /// It is due at this server: `send` makes a request of it, with others or alone.
+    Due(usize),
     /// The attempts at it ended; these are to be recorded. Its response is kept.
+    Tried(Trail),
+}
+
+/// The same with the permission to send it.
+#[derive(Drop)]
+pub(crate) enum SlotStep {
+    Due(Clear),
     Tried(Trail),
 }

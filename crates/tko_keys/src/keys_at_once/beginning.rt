@@ -1,17 +1,20 @@
 //! How a key is begun.
-ghost use Rattle.std.specs.Prelude.{◌≡◌, ◌≢◌, ◌<◌, ◌++◌, IfErr, IfOk, OnErr, OnOk, [], length, vec_capacity, vec_len};
+ghost use Rattle.std.specs.Prelude.{◌≡◌, ◌≢◌, ◌<◌, ◌+◌, ◌≤◌, ◌-◌, ◌^◌, ◌++◌, IfErr, IfOk, OnErr, OnOk, [], length, vec_capacity, vec_len};
+ghost use Rattle.std.specs.VecDeque.{deque_capacity, deque_len};
 ghost use Rattle.tko_route.specs.Routing.{GoesOn};
-ghost use Rattle.tko_reply.specs.Answering.{retrieval};
 ghost use Rattle.tko_keys.specs.FirstKey.{IsAlone, TakesNext, keys_with};
 ghost use Rattle.tko_keys.specs.KeysDriven.{AreUnderWay, NextBegun, NextLost};
 ghost use Rattle.tko_keys.specs.KeysState.{MayBegin};
 
 use super::KeysAtOnce;
-use super::places::{failed_with, note_ask, values_ahead};
-use crate::ask::Ask;
+use super::places::{failed_with, note_step, values_ahead};
+use crate::due::Due;
+use crate::line::request_of;
 use crate::slot::Slot;
 use crate::step::KeyStep;
+use crate::under_way::UnderWay;
 use std::alloc::Global;
+use std::collections::VecDeque;
 use std::mem::replace;
 use std::sync::Wait;
 use tko_bytes::NoMemory;
@@ -40,7 +43,8 @@ impl KeysAtOnce {
         ensures servers { H.servers health.new ≡ H.servers health.old }
     {
         self.told = 0;
-        let Ok(()) = make_room(&mut self.slots, &mut self.asks) else {
+        let room = self.out + 1;
+        let Ok(()) = make_room(&mut self.slots, &mut self.due, &mut self.sends, room) else {
             self.lost = true;
             return Err(Dropped::from(NoMemory));
         };
@@ -54,11 +58,11 @@ impl KeysAtOnce {
         self.held = self.held.saturating_add(slot.outbox.len());
         match came {
             Ok(step) => {
-                note_ask(&mut self.asks, self.slots.len(), &slot.waiting);
+                let place = self.slots.len();
                 self.failed = failed_with(&slot, self.failed);
                 self.slots.push_reserved(slot);
                 self.ahead = values_ahead(&self.slots, self.ahead);
-                Ok(step)
+                Ok(note_step(&mut self.due, &mut self.out, place, step))
             }
             Err(dropped) => {
                 self.slots.push_reserved(slot);
@@ -70,15 +74,25 @@ impl KeysAtOnce {
     }
 }
 
-/// Makes room for one more key, and for its request.
-fn make_room(slots: &mut Vec<Slot>, asks: &mut Vec<Ask>) -> Result<(), NoMemory>
+/// Makes room for one more key, and so that each of so many may be due or in a request of its own.
+fn make_room(
+    slots: &mut Vec<Slot>,
+    due: &mut VecDeque<Due>,
+    sends: &mut VecDeque<UnderWay>,
+    out: usize,
+) -> Result<(), NoMemory>
     ensures slots { slots.new.items ≡ slots.old.items }
-    ensures asks { asks.new.items ≡ asks.old.items }
+    ensures due { due.new.items ≡ due.old.items }
+    ensures sends { sends.new.items ≡ sends.old.items }
     ensures room { OnOk result (vec_len slots.new < vec_capacity slots.new) }
-    ensures ask_room { OnOk result (vec_len asks.new < vec_capacity asks.new) }
+    ensures due_room { OnOk result (deque_len due.new + out ≤ deque_capacity due.new) }
+    ensures sends_room { OnOk result (out ≤ deque_capacity sends.new) }
+    ensures due_kept { deque_capacity due.old ≤ deque_capacity due.new }
+    ensures sends_kept { deque_capacity sends.old ≤ deque_capacity sends.new }
 {
     slots.reserve(1)?;
-    asks.reserve(1)?;
+    due.reserve(out)?;
+    sends.reserve(out)?;
     Ok(())
 }
 
@@ -105,15 +119,4 @@ fn next_request(
     };
     keys.push_reserved(key);
     Ok(request_of(unique, Keys::new(keys)))
-}
-
-/// A request for the values of these keys, with their cas numbers or without.
-fn request_of(unique: bool, keys: Keys) -> Request
-    ensures { result ≡ retrieval keys unique }
-{
-    if unique {
-        Request::Gets { keys }
-    } else {
-        Request::Get { keys }
-    }
 }

@@ -1,49 +1,76 @@
-//! The requests under way, and the keys that got lists of values.
-ghost use Rattle.std.specs.Prelude.{◌≡◌, ◌<◌, ◌≤◌, ◌==◌, ◌++◌, IsSome, position, vec_capacity, vec_len};
-ghost use Rattle.tko_keys.specs.KeysDriven.{IsLastAt, asks_for, failed_with};
-ghost use Rattle.tko_keys.specs.KeysState.{first_at, values_ahead};
+//! The keys that are due, the requests under way, and the keys that got lists of values.
+ghost use Rattle.std.specs.Prelude.{◌≡◌, ◌<◌, ◌≤◌, ◌+◌, ◌-◌, ◌^◌, ◌==◌, ◌++◌, IsSome, length, position, Some};
+ghost use Rattle.std.specs.VecDeque.{deque_capacity, deque_len};
+ghost use Rattle.tko_keys.specs.KeysDriven.{IsLastAt, due_by, failed_with};
+ghost use Rattle.tko_keys.specs.KeysState.{first_send, values_ahead, without_first};
+ghost use Rattle.tko_keys.specs.Steps.{said_by};
 
-use crate::ask::Ask;
+use crate::due::Due;
 use crate::slot::Slot;
-use tko_route::Waiting;
+use crate::step::{KeyStep, SlotStep};
+use crate::under_way::UnderWay;
+use std::collections::VecDeque;
 
-/// Notes the request that goes out for the key of a place, if one does.
-pub(super) fn note_ask(asks: &mut Vec<Ask>, place: usize, waiting: &Option<Waiting>)
-    requires room { vec_len asks.old < vec_capacity asks.old }
-    ensures { asks.new.items ≡ asks.old.items ++ asks_for place waiting.now }
+/// Notes that the key of a place is due at a server, if it is, and says how far it came.
+pub(super) fn note_step(
+    due: &mut VecDeque<Due>,
+    out: &mut usize,
+    place: usize,
+    step: SlotStep,
+) -> KeyStep
+    requires room { deque_len due.old < deque_capacity due.old }
+    requires few { out.old < 2 ^ 64 - 1 }
+    ensures due { due.new.items ≡ due.old.items ++ due_by place (said_by step) }
+    ensures out { out.new ≡ out.old + length (due_by place (said_by step)) }
+    ensures room { deque_capacity due.new ≡ deque_capacity due.old }
+    ensures says { result ≡ said_by step }
 {
-    if let Some(waiting) = waiting {
-        let server = waiting.server();
-        asks.push_reserved(Ask { place, server });
+    match step {
+        SlotStep::Due(clear) => {
+            let server = clear.server();
+            due.push_back_reserved(Due { place, clear });
+            *out += 1;
+            KeyStep::Due(server)
+        }
+        SlotStep::Tried(trail) => KeyStep::Tried(trail),
     }
 }
 
 /// The place of the first request under way at a server among those under way.
-pub(super) fn index_of(asks: &[Ask], server: usize) -> Option<usize>
-    ensures { result ≡ position (λ ask. ask.server == server) asks.now }
+pub(super) fn index_of(sends: &VecDeque<UnderWay>, server: usize) -> Option<usize>
+    ensures { result ≡ position (λ send. send.server == server) sends.now.items }
 {
-    asks.iter().position(|ask| ask.server == server)
+    sends.iter().position(|send| send.is_to(server))
+}
+
+/// Takes the first request under way at a server.
+pub(super) fn take_first(sends: &mut VecDeque<UnderWay>, server: usize) -> UnderWay
+    requires { IsSome (first_send server sends.old.items) }
+    ensures first { first_send server sends.old.items ≡ Some result }
+    ensures others { sends.new.items ≡ without_first server sends.old.items }
+    ensures room { deque_capacity sends.new ≡ deque_capacity sends.old }
+{
+    let Some(index) = index_of(sends, server) else {
+        unreachable!();
+    };
+    let Some(send) = sends.remove(index) else {
+        unreachable!();
+    };
+    send
 }
 
 /// The place of the last request under way at a server among those under way.
-pub(super) fn last_index(asks: &[Ask], server: usize) -> usize
-    requires { IsSome (first_at server asks.now) }
-    ensures { IsLastAt server asks.now result }
+pub(super) fn last_index(sends: &VecDeque<UnderWay>, server: usize) -> usize
+    requires { IsSome (first_send server sends.now.items) }
+    ensures { IsLastAt server sends.now.items result }
 {
-    for back in 0..asks.len() {
-        let index = asks.len() - 1 - back;
-        if is_at(&asks[index], server) {
+    for back in 0..sends.len() {
+        let index = sends.len() - 1 - back;
+        if sends[index].is_to(server) {
             return index;
         }
     }
     unreachable!()
-}
-
-/// Whether a request was sent to this server.
-fn is_at(ask: &Ask, server: usize) -> bool
-    ensures { result ≡ (ask.now.server == server) }
-{
-    ask.server == server
 }
 
 /// Whether a key got no list of values, where this one came further.

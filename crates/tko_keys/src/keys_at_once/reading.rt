@@ -1,43 +1,68 @@
-//! What is under way: requests, and the attempts before them.
+//! What is due and under way: requests, and the attempts before them.
 ghost use Rattle.std.specs.Prelude.{◌≡◌, ◌≢◌, IsSome, Some, []};
-ghost use Rattle.tko_keys.specs.KeysState.{asked_first, asked_last, attempts_last, first_at};
+ghost use Rattle.tko_keys.specs.KeysState.{HavePlaces, asked_first, asked_last, attempts_last, first_send, keys_first, request_of};
 
 use super::KeysAtOnce;
 use super::places::index_of;
+use crate::slot::Slot;
+use crate::under_way::UnderWay;
 use tko_route::Attempt;
 use tko_text::Request;
 
 impl KeysAtOnce {
-    /// The request that was asked for last, which may be sent.
+    /// The request that was made last, which may be sent.
     pub fn request(&self) -> &Request
-        requires { self.now.asks ≢ [] }
+        requires { self.now.sends ≢ [] }
         ensures { asked_last self.now ≡ Some result.now }
     {
-        let place = self.asks[self.asks.len() - 1].place;
-        self.slots[place].key.request()
+        request_of(&self.slots, &self.sends[self.sends.len() - 1])
     }
 
     /// The first request under way at a server.
     pub fn request_to(&self, server: usize) -> &Request
-        requires { IsSome (first_at server self.now.asks) }
+        requires { IsSome (first_send server self.now.sends) }
         ensures { asked_first server self.now ≡ Some result.now }
     {
-        let Some(index) = index_of(&self.asks, server) else {
+        let Some(index) = index_of(&self.sends, server) else {
             unreachable!();
         };
-        let place = self.asks[index].place;
-        self.slots[place].key.request()
+        request_of(&self.slots, &self.sends[index])
     }
 
-    /// The attempts at its key before the request that was asked for last.
+    /// How many keys the first request under way at a server is for.
+    pub fn keys_to(&self, server: usize) -> usize
+        requires { IsSome (first_send server self.now.sends) }
+        ensures { keys_first server self.now ≡ Some result }
+    {
+        let Some(index) = index_of(&self.sends, server) else {
+            unreachable!();
+        };
+        self.sends[index].keys()
+    }
+
+    /// The attempts at the key that was due last, before the server where it is due.
     pub fn attempts(&self) -> &[Attempt]
-        requires { self.now.asks ≢ [] }
+        requires { self.now.due ≢ [] }
         ensures { attempts_last self.now ≡ Some result.now }
     {
-        let place = self.asks[self.asks.len() - 1].place;
+        let place = self.due[self.due.len() - 1].place;
         match &self.slots[place].waiting {
             Some(waiting) => waiting.attempts(),
             None => &[],
+        }
+    }
+}
+
+/// A request under way: its line, or that of its key.
+fn request_of<'a>(slots: &'a [Slot], send: &'a UnderWay) -> &'a Request
+    requires { HavePlaces slots.now send.now.places }
+    ensures { request_of slots.now send.now ≡ Some result.now }
+{
+    match &send.group {
+        Some(group) => &group.line,
+        None => {
+            let slot = &slots[send.first];
+            slot.key.request()
         }
     }
 }

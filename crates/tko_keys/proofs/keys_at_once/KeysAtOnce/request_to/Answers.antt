@@ -1,21 +1,22 @@
-use Rattle.std.proofs.Common.{◌≡◌, ◌<◌, Some, ap, length, rules, subst, sym, ◌∙◌}
-use Rattle.std.specs.Prelude.{IsSome, position}
-use Rattle.std.proofs.lemmas.Option.{slice_get_within}
-use Rattle.tko_keys.specs.KeysState.{KeySlot, KeysState, first_at}
-use Rattle.tko_keys.proofs.AskLemmas.{at_server, first_index}
-use Rattle.tko_keys.proofs.EndLemmas.{never_none}
-use Rattle.tko_keys.proofs.ReadingLemmas.{first_request}
+use Rattle.std.proofs.Common.{ap, subst, sym, ◌∙◌}
+use Rattle.std.specs.Prelude.{IsSome}
+use Rattle.tko_keys.specs.KeysState.{HavePlaces, KeysState, first_send, request_of}
+use Rattle.tko_keys.proofs.ReadingLemmas.{first_request, first_there, send_has}
+use Rattle.tko_keys.proofs.SendLemmas.{never_none}
 use Rattle.tko_keys.proofs.keys_at_once.KeysAtOnce.request_to.Goals as goal
 
 pub unreachable-requires : goal.unreachable-requires
 unreachable-requires c =
-    let some = subst (λ (s : KeysState). IsSome (first_at c.args.server s.asks)) (sym c.self.view_is) c.requires in
-    never_none c.args.server _ some (ap (position (at_server c.args.server)) (sym c.deref.ensures.value) ∙ sym c.index_of.ensures ∙ c.in_default.is)
+    let some = subst (λ (s : KeysState). IsSome (first_send c.args.server s.sends)) (sym c.self.view_is) c.requires in
+    never_none c.args.server _ some (sym c.index_of.ensures ∙ c.in_default.is)
+
+pub request_of-requires : goal.request_of-requires
+request_of-requires c =
+    let there = first_there c.args.server c.self.inside.sends.items c.index.result.now (sym c.index_of.ensures ∙ c.in-Some.is) c.index.ensures in
+    subst (λ ss. HavePlaces ss c.index.result.now.places) (sym c.deref.ensures.value)
+    (send_has c.self.inside.slots.items c.self.inside.due.items c.self.inside.sends.items c.self.inside.came _ c.index.result.now c.self.invariant.2 there.1)
 
 pub returns : goal.returns
 returns c =
-    let found = ap (position (at_server c.args.server)) (sym c.deref.ensures.value) ∙ sym c.index_of.ensures ∙ c.in-Some.is in
-    let it = first_index c.args.server c.self.inside.asks.items c.in-Some.index found in
-    let within = slice_get_within c.self.inside.asks.items c.in-Some.index it.ask it.at in
-    first_request c.self.view_is c.args.server c.index.result.now c.index-2.result.now c.self.invariant.2 within found c.index.ensures c.index-2.ensures
-    ∙ ap Some (sym (c.request.ensures ∙ ap (λ (k : KeySlot). k.key.request) c.behind-self.view_is))
+    let there = first_there c.args.server c.self.inside.sends.items c.index.result.now (sym c.index_of.ensures ∙ c.in-Some.is) c.index.ensures in
+    first_request c.args.server c.self.view_is there.0 (ap (λ (ss : _). request_of ss c.index.result.now) (sym c.deref.ensures.value) ∙ c.request_of.ensures)

@@ -1,0 +1,18 @@
+//! How the keys of a request are sent.
+
+/// Which keys go out in one request.
+#[derive(Clone, Copy, Debug, PartialEq, Eq)]
+pub enum Grouping {
+    /// Each key in a request of its own.
+    ByKey,
+    /// The keys that are due at a server in one request.
+    ByServer,
+}
+
+/// How the keys of a request for several are sent.
+#[derive(Clone, Copy, Debug, PartialEq, Eq)]
+pub struct KeyPlan {
+    /// So many of them are due, or under way, at once at most.
+    pub most: usize,
+    pub grouping: Grouping,
+}

@@ -1,0 +1,64 @@
+//! A request that is under way.
+ghost use Rattle.std.specs.Prelude.{◌≡◌, ◌==◌, ◌+◌, length};
+
+use std::marker::Model;
+use tko_text::Request;
+
+/// The server, and the places of its keys. A line is made where there may be more than one.
+#[derive(Drop)]
+pub(crate) struct UnderWay {
+    pub server: usize,
+    pub first: usize,
+    pub group: Option<Group>,
+}
+
+/// The keys that go out with a first one.
+#[derive(Drop)]
+pub(crate) struct Group {
+    pub others: Vec<usize>,
+    /// The request for all of them.
+    pub line: Request,
+    /// So many bytes it has at most.
+    pub bytes: usize,
+}
+
+impl Model for UnderWay {
+    ghost use Rattle.std.specs.Prelude.{◌∷◌, [], unwrap_or};
+    ghost use Rattle.std.specs.Option.{option_map};
+    ghost use Rattle.tko_keys.specs.KeysState.{KeySend};
+
+    ghost Value = { KeySend };
+
+    ghost view = { λ u. record {
+      server = u.server;
+      places = u.first ∷ unwrap_or (option_map (λ group. group.others) u.group) [];
+      line = option_map (λ group. group.line) u.group;
+    } };
+}
+
+impl Model for Group {
+    ghost use Rattle.tko_keys.specs.KeysState.{LineSoFar};
+
+    ghost Value = { LineSoFar };
+
+    ghost view = { λ g. record { others = g.others.items; line = g.line; bytes = g.bytes } };
+}
+
+impl UnderWay {
+    /// Whether it is under way to this server.
+    pub(crate) fn is_to(&self, server: usize) -> bool
+        ensures { result ≡ (self.now.server == server) }
+    {
+        self.server == server
+    }
+
+    /// How many keys it is for.
+    pub(crate) fn keys(&self) -> usize
+        ensures { result ≡ length self.now.places }
+    {
+        match &self.group {
+            Some(group) => group.others.len() + 1,
+            None => 1,
+        }
+    }
+}
