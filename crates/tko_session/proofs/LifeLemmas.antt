@@ -14,6 +14,7 @@ use Rattle.tko_reply.specs.Standing.{Asking}
 use Rattle.tko_reply.specs.TrailEvents.{Asked}
 use Rattle.tko_reply.specs.declared.asking.OneKey.{OneKey}
 use Rattle.tko_keys.specs.KeysState.{KeysState}
+use Rattle.tko_keys.specs.declared.plan.KeyPlan.{KeyPlan}
 use Rattle.tko_session.specs.Acts.{phase_after}
 use Rattle.tko_session.specs.Clients.{AreTurns, HasPending, IsClientIn, IsClientOpen, Life, done_under, items_under, life, lived, no_life, waiting_in}
 use Rattle.tko_session.specs.SessionState.{GoesOn, ProgressIs, SessionState, fresh, items_of, requests_in, text_of}
@@ -28,10 +29,10 @@ use Rattle.tko_session.proofs.TurnLemmas.{goes_on-none, progress-append}
 
 -- what a client's turns gave so far: these replies wait, this is left to be read, and after them this
 -- was done
-pub record HasTurned (most : ℕ) (config : Configuration) (it : Life) (front : List ℕ) (left : Reading) (requests : ℕ) (last : List Interaction) : Type 0 where
+pub record HasTurned (plan : KeyPlan) (config : Configuration) (it : Life) (front : List ℕ) (left : Reading) (requests : ℕ) (last : List Interaction) : Type 0 where
   pub turns : List Turn
   pub turned : List Interaction
-  pub each : AreTurns most config turns turned
+  pub each : AreTurns plan config turns turned
   pub goes_on : GoesOn (items_of turns)
   pub gives : Gives (fed start it.bytes) (items_of turns) left
   pub text : it.sent ++ front ≡ text_of turns
@@ -39,16 +40,16 @@ pub record HasTurned (most : ℕ) (config : Configuration) (it : Life) (front : 
   pub counted : capped requests ≡ capped (requests_in (items_of turns))
 
 -- this request is under way
-pub record IsOn (most : ℕ) (config : Configuration) (it : Life) (state : SessionState) (under : Pending) : Type 0 where
+pub record IsOn (plan : KeyPlan) (config : Configuration) (it : Life) (state : SessionState) (under : Pending) : Type 0 where
   pub left : Reading
-  pub base : HasTurned most config it under.front left state.requests (Recorded (Asked under.request) ∷ under.done)
+  pub base : HasTurned plan config it under.front left state.requests (Recorded (Asked under.request) ∷ under.done)
   pub emits : Emits left (item.Request under.request) state.reading
   pub begin : state.begin ≡ length under.front
 
-pub record IsOnWith (most : ℕ) (keys : Option KeysState) (config : Configuration) (it : Life) (state : SessionState) (at : Work) : Type 0 where
+pub record IsOnWith (plan : KeyPlan) (keys : Option KeysState) (config : Configuration) (it : Life) (state : SessionState) (at : Work) : Type 0 where
   pub under : Pending
-  pub on : IsOn most config it state under
-  pub far : IsPendingAt most keys config under at state.targets state.outbox
+  pub on : IsOn plan config it state under
+  pub far : IsPendingAt plan keys config under at state.targets state.outbox
 
 -- a life, and what was done since
 abbrev pub did : Life → List Interaction → Life
@@ -67,18 +68,18 @@ each_split from (one ∷ items) last to (next, emits, rest) =
     (later.0, (next, emits, later.1), later.2)
 
 -- one more turn at the end
-turns_push : (most : ℕ) (config : Configuration) (turns : List Turn) (last : Turn) (was more : List Interaction)
-    → AreTurns most config turns was → IsTurnWithin most config last more → AreTurns most config (turns ++ last ∷ []) (was ++ more)
-turns_push most config [] last was more none is = (more, [], is, refl, ap (λ ds. ds ++ more) none ∙ sym (append-nil more))
-turns_push most config (one ∷ turns) last was more (first, rest, turn, later, are) is =
-    (first, rest ++ more, turn, turns_push most config turns last rest more later is, ap (λ ds. ds ++ more) are ∙ append_assoc first rest more)
+turns_push : (plan : KeyPlan) (config : Configuration) (turns : List Turn) (last : Turn) (was more : List Interaction)
+    → AreTurns plan config turns was → IsTurnWithin plan config last more → AreTurns plan config (turns ++ last ∷ []) (was ++ more)
+turns_push plan config [] last was more none is = (more, [], is, refl, ap (λ ds. ds ++ more) none ∙ sym (append-nil more))
+turns_push plan config (one ∷ turns) last was more (first, rest, turn, later, are) is =
+    (first, rest ++ more, turn, turns_push plan config turns last rest more later is, ap (λ ds. ds ++ more) are ∙ append_assoc first rest more)
 
 counted_more : (a b c n : ℕ) → capped b ≡ capped a → capped c ≡ capped (b + n) → capped c ≡ capped (a + n)
 counted_more a b c n first second = omega arith
 
-module _ {most : ℕ} {config : Configuration} where
+module _ {plan : KeyPlan} {config : Configuration} where
   pub more_turned : {it : Life} {front : List ℕ} {left : Reading} {requests : ℕ} {last : List Interaction} (more : List Interaction)
-      → HasTurned most config it front left requests last → HasTurned most config (did it more) front left requests (last ++ more)
+      → HasTurned plan config it front left requests last → HasTurned plan config (did it more) front left requests (last ++ more)
   more_turned {last = last} more base = record {
     turns = base.turns;
     turned = base.turned;
@@ -90,9 +91,9 @@ module _ {most : ℕ} {config : Configuration} where
     counted = base.counted;
   }
 
-module _ {most : ℕ} {keys : Option KeysState} {config : Configuration} where
+module _ {plan : KeyPlan} {keys : Option KeysState} {config : Configuration} where
   -- no request is under way
-  pub idle_open : {it : Life} {state : SessionState} → HasTurned most config it state.outbox state.reading state.requests [] → state.work ≡ Between → IsClientOpen most keys config it state
+  pub idle_open : {it : Life} {state : SessionState} → HasTurned plan config it state.outbox state.reading state.requests [] → state.work ≡ Between → IsClientOpen plan keys config it state
   idle_open {it} {state} base at = record {
     turns = base.turns;
     turned = base.turned;
@@ -106,8 +107,8 @@ module _ {most : ℕ} {keys : Option KeysState} {config : Configuration} where
     requests = base.counted;
   }
 
-  idle_by : {it : Life} {state : SessionState} (s : IsClientOpen most keys config it state) (under : Option Pending) → s.under ≡ under → state.work ≡ Between
-      → HasTurned most config it state.outbox state.reading state.requests []
+  idle_by : {it : Life} {state : SessionState} (s : IsClientOpen plan keys config it state) (under : Option Pending) → s.under ≡ under → state.work ≡ Between
+      → HasTurned plan config it state.outbox state.reading state.requests []
   idle_by {it} {state} s None e at = record {
     turns = s.turns;
     turned = s.turned;
@@ -121,15 +122,15 @@ module _ {most : ℕ} {keys : Option KeysState} {config : Configuration} where
     counted = s.requests;
   }
   idle_by {it} {state} s (Some p) e at =
-      let under : HasPending most keys config (Some p) state = subst (λ u. HasPending most keys config u state) e s.at in
-      absurd (subst (λ w. IsPendingAt most keys config p w state.targets state.outbox) at under.1)
+      let under : HasPending plan keys config (Some p) state = subst (λ u. HasPending plan keys config u state) e s.at in
+      absurd (subst (λ w. IsPendingAt plan keys config p w state.targets state.outbox) at under.1)
 
-  pub open_idle : {it : Life} {state : SessionState} → IsClientOpen most keys config it state → state.work ≡ Between → HasTurned most config it state.outbox state.reading state.requests []
+  pub open_idle : {it : Life} {state : SessionState} → IsClientOpen plan keys config it state → state.work ≡ Between → HasTurned plan config it state.outbox state.reading state.requests []
   open_idle s at = idle_by s s.under refl at
 
   -- this request is under way
-  pub on_open : {it : Life} {state : SessionState} (under : Pending) → IsOn most config it state under → IsPendingAt most keys config under state.work state.targets state.outbox
-      → IsClientOpen most keys config it state
+  pub on_open : {it : Life} {state : SessionState} (under : Pending) → IsOn plan config it state under → IsPendingAt plan keys config under state.work state.targets state.outbox
+      → IsClientOpen plan keys config it state
   on_open {it} {state} under on far = record {
     turns = on.base.turns;
     turned = on.base.turned;
@@ -143,13 +144,13 @@ module _ {most : ℕ} {keys : Option KeysState} {config : Configuration} where
     requests = on.base.counted;
   }
 
-  on_by : {it : Life} {state : SessionState} (s : IsClientOpen most keys config it state) (under : Option Pending) → s.under ≡ under
-      → (at : Work) → state.work ≡ at → (at ≡ Between → ⊥) → IsOnWith most keys config it state at
+  on_by : {it : Life} {state : SessionState} (s : IsClientOpen plan keys config it state) (under : Option Pending) → s.under ≡ under
+      → (at : Work) → state.work ≡ at → (at ≡ Between → ⊥) → IsOnWith plan keys config it state at
   on_by {it} {state} s None e at is other =
-      let idle : state.work ≡ Between = subst (λ u. HasPending most keys config u state) e s.at in
+      let idle : state.work ≡ Between = subst (λ u. HasPending plan keys config u state) e s.at in
       absurd (other (sym is ∙ idle))
   on_by {it} {state} s (Some p) e at is other =
-      let under : HasPending most keys config (Some p) state = subst (λ u. HasPending most keys config u state) e s.at in
+      let under : HasPending plan keys config (Some p) state = subst (λ u. HasPending plan keys config u state) e s.at in
       let gives = subst (λ u. Gives (fed start it.bytes) (items_of s.turns ++ items_under u) state.reading) e s.gives in
       let split = each_split (fed start it.bytes) (items_of s.turns) (item.Request p.request) state.reading gives.each in
       record {
@@ -169,32 +170,32 @@ module _ {most : ℕ} {keys : Option KeysState} {config : Configuration} where
           emits = split.2;
           begin = under.0;
         };
-        far = subst (λ w. IsPendingAt most keys config p w state.targets state.outbox) is under.1;
+        far = subst (λ w. IsPendingAt plan keys config p w state.targets state.outbox) is under.1;
       }
 
-  pub open_on : {it : Life} {state : SessionState} (at : Work) → IsClientOpen most keys config it state → state.work ≡ at → (at ≡ Between → ⊥) → IsOnWith most keys config it state at
+  pub open_on : {it : Life} {state : SessionState} (at : Work) → IsClientOpen plan keys config it state → state.work ≡ at → (at ≡ Between → ⊥) → IsOnWith plan keys config it state at
   open_on at s is other = on_by s s.under refl at is other
 
 -- these turns were all, and the last one ends the session or does not
-ends_so : (most : ℕ) (keys : Option KeysState) (config : Configuration) (it : Life) (state : SessionState) (at : Progress) (turns : List Turn) → ProgressIs at (items_of turns) state.reading
-    → AreTurns most config turns it.done → state.work ≡ Between → Gives (fed start it.bytes) (items_of turns) state.reading
+ends_so : (plan : KeyPlan) (keys : Option KeysState) (config : Configuration) (it : Life) (state : SessionState) (at : Progress) (turns : List Turn) → ProgressIs at (items_of turns) state.reading
+    → AreTurns plan config turns it.done → state.work ≡ Between → Gives (fed start it.bytes) (items_of turns) state.reading
     → it.sent ++ state.outbox ≡ text_of turns → capped state.requests ≡ capped (requests_in (items_of turns))
-    → IsClientIn (phase_after (step.At at)) most keys config it state
-ends_so most keys config it state progress.More turns goes each between gives text counted =
+    → IsClientIn (phase_after (step.At at)) plan keys config it state
+ends_so plan keys config it state progress.More turns goes each between gives text counted =
     idle_open (record { turns = turns; turned = it.done; each = each; goes_on = goes; gives = gives; text = text; are = sym (append-nil it.done); counted = counted }) between
-ends_so most keys config it state progress.NeedsInput turns (goes, none) each between gives text counted =
+ends_so plan keys config it state progress.NeedsInput turns (goes, none) each between gives text counted =
     idle_open (record { turns = turns; turned = it.done; each = each; goes_on = goes; gives = gives; text = text; are = sym (append-nil it.done); counted = counted }) between
-ends_so most keys config it state progress.LineTooLong turns (ends, never) each between gives text counted =
+ends_so plan keys config it state progress.LineTooLong turns (ends, never) each between gives text counted =
     record { turns = turns; each = each; at = between; ends = inl ends; gives = gives; text = text; requests = counted }
-ends_so most keys config it state progress.Quit turns ends each between gives text counted =
+ends_so plan keys config it state progress.Quit turns ends each between gives text counted =
     record { turns = turns; each = each; at = between; ends = inr ends; gives = gives; text = text; requests = counted }
 
-module _ {most : ℕ} (keys : Option KeysState) {config : Configuration} where
+module _ {plan : KeyPlan} (keys : Option KeysState) {config : Configuration} where
   -- one more item was answered
   pub end_turn : {it : Life} {front : List ℕ} {left : Reading} {requests : ℕ} {last : List Interaction} (state : SessionState) (at : Progress) (one : Turn)
-      → HasTurned most config it front left requests last → IsTurnWithin most config one last → Emits left one.item state.reading → ProgressIs at (one.item ∷ []) state.reading
+      → HasTurned plan config it front left requests last → IsTurnWithin plan config one last → Emits left one.item state.reading → ProgressIs at (one.item ∷ []) state.reading
       → state.outbox ≡ front ++ one.text → state.work ≡ Between → capped state.requests ≡ capped (requests + requests_in (one.item ∷ []))
-      → IsClientIn (phase_after (step.At at)) most keys config it state
+      → IsClientIn (phase_after (step.At at)) plan keys config it state
   end_turn {it} {front} {left} {requests} {last} state at one base is emits progress said between counted =
       let turns = base.turns ++ one ∷ [] in
       let items : items_of turns ≡ items_of base.turns ++ one.item ∷ [] = map-append (λ turn. turn.item) base.turns (one ∷ []) in
@@ -202,9 +203,9 @@ module _ {most : ℕ} (keys : Option KeysState) {config : Configuration} where
       flat_map-append (λ turn. turn.text) base.turns (one ∷ []) ∙ ap (λ xs. text_of base.turns ++ xs) (append-nil one.text) in
       let asked : requests_in (items_of turns) ≡ requests_in (items_of base.turns) + requests_in (one.item ∷ []) =
       ap requests_in items ∙ sum_by-append (λ item. cond (is_request item) 1 0) (items_of base.turns) (one.item ∷ []) in
-      ends_so most keys config it state at turns
+      ends_so plan keys config it state at turns
       (subst (λ xs. ProgressIs at xs state.reading) (sym items) (progress-append at (items_of base.turns) (one.item ∷ []) state.reading base.goes_on progress))
-      (subst (AreTurns most config turns) (sym base.are) (turns_push most config base.turns one base.turned last base.each is))
+      (subst (AreTurns plan config turns) (sym base.are) (turns_push plan config base.turns one base.turned last base.each is))
       between
       (subst (λ xs. Gives (fed start it.bytes) xs state.reading) (sym items) (Gives-push (fed start it.bytes) (items_of base.turns) left one.item state.reading base.gives emits))
       (ap (λ xs. it.sent ++ xs) said ∙ sym (append_assoc it.sent front one.text) ∙ ap (λ xs. xs ++ one.text) base.text ∙ sym texts)
@@ -223,6 +224,6 @@ pub between_or_handed : work.HandedOver ≡ Between → ⊥
 between_or_handed same = cc
 
 -- a client that has just come
-pub begins : (most : ℕ) (config : Configuration) → IsClientOpen most None config no_life fresh
-begins most config =
+pub begins : (plan : KeyPlan) (config : Configuration) → IsClientOpen plan None config no_life fresh
+begins plan config =
     idle_open (record { turns = []; turned = []; each = refl; goes_on = goes_on-none; gives = Gives-none start; text = refl; are = refl; counted = refl }) refl

@@ -15,6 +15,7 @@ use Rattle.tko_reply.specs.Ghosts.{PartsGhosts}
 use Rattle.tko_reply.specs.Interactions.{Interacts}
 use Rattle.tko_reply.specs.declared.parts.Parts.{Parts}
 use Rattle.tko_reply.proofs.InteractionLemmas.{performs}
+use Rattle.tko_keys.specs.declared.plan.KeyPlan.{KeyPlan}
 use Rattle.tko_session.specs.Clients.{Client, IsClient, Life, life_of, lived, new_client}
 use Rattle.tko_session.specs.ManyClients.{ActsOn, AreNew, AreServed, IsNewIn, IsLifeOf, done_by, done_in}
 use Rattle.tko_session.proofs.ActLemmas.{acted, same_life}
@@ -42,40 +43,40 @@ own_all {A} P (it ∷ acts) number all =
     ]
 
 -- a client has a life of these acts, if there is one
-abbrev Has : ℕ → Configuration → Option Client → List (RosterAct Client Life) → Type 0
-Has most config None acts = Unit {0}
-Has most config (Some one) acts = IsLifeOf most config acts one
+abbrev Has : KeyPlan → Configuration → Option Client → List (RosterAct Client Life) → Type 0
+Has plan config None acts = Unit {0}
+Has plan config (Some one) acts = IsLifeOf plan config acts one
 
-module _ {H L T C : Type 0} (ghosts : PartsGhosts H L T C) (most : ℕ) (config : Configuration) (awaited : Client → List ℕ) where
+module _ {H L T C : Type 0} (ghosts : PartsGhosts H L T C) (plan : KeyPlan) (config : Configuration) (awaited : Client → List ℕ) where
   -- one act more
-  has_more : (before : List (RosterAct Client Life)) (it : RosterAct Client Life) (was now : Option Client) → IsNewIn most it → Has most config was before
-      → IsOwnAct (ActsOn ghosts config) awaited was it now → Has most config now (before ++ it ∷ [])
+  has_more : (before : List (RosterAct Client Life)) (it : RosterAct Client Life) (was now : Option Client) → IsNewIn plan it → Has plan config was before
+      → IsOwnAct (ActsOn ghosts config) awaited was it now → Has plan config now (before ++ it ∷ [])
   has_more before (Admitted one) was now is has (none, some) =
-      let first : IsLifeOf most config (before ++ Admitted one ∷ []) (new_client most) =
-      record { before = before; lives = []; are = ap (λ c. before ++ Admitted c ∷ []) is; is = begins most config } in
-      subst (λ s. Has most config s (before ++ Admitted one ∷ [])) (sym some) (subst (λ c. Has most config (Some c) (before ++ Admitted one ∷ [])) (sym is) first)
+      let first : IsLifeOf plan config (before ++ Admitted one ∷ []) (new_client plan) =
+      record { before = before; lives = []; are = ap (λ c. before ++ Admitted c ∷ []) is; is = begins plan config } in
+      subst (λ s. Has plan config s (before ++ Admitted one ∷ [])) (sym some) (subst (λ c. Has plan config (Some c) (before ++ Admitted one ∷ [])) (sym is) first)
   has_more before (Acted adds) was now is has call =
-      let old : IsLifeOf most config before call.was = subst (λ s. Has most config s before) call.from has in
-      let more : IsLifeOf most config (before ++ Acted adds ∷ []) call.now = record {
+      let old : IsLifeOf plan config before call.was = subst (λ s. Has plan config s before) call.from has in
+      let more : IsLifeOf plan config (before ++ Acted adds ∷ []) call.now = record {
         before = old.before;
         lives = old.lives ++ adds ∷ [];
         are =
-            ap (λ xs. xs ++ Acted adds ∷ []) old.are ∙ append_assoc old.before (Admitted (new_client most) ∷ map Acted old.lives) (Acted adds ∷ [])
-            ∙ ap (λ xs. old.before ++ Admitted (new_client most) ∷ xs) (sym (map-append Acted old.lives (adds ∷ [])));
+            ap (λ xs. xs ++ Acted adds ∷ []) old.are ∙ append_assoc old.before (Admitted (new_client plan) ∷ map Acted old.lives) (Acted adds ∷ [])
+            ∙ ap (λ xs. old.before ++ Admitted (new_client plan) ∷ xs) (sym (map-append Acted old.lives (adds ∷ [])));
         is =
             subst (λ l. IsClient config l call.now) (sym (lives_push old.lives adds))
             (acted config (life_of old.lives) call.was adds call.now old.is call.made.0);
       } in
-      subst (λ s. Has most config s (before ++ Acted adds ∷ [])) (sym call.to) more
-  has_more before (Released one) was now is has (idle, some, none) = subst (λ s. Has most config s (before ++ Released one ∷ [])) (sym none) tt
+      subst (λ s. Has plan config s (before ++ Acted adds ∷ [])) (sym call.to) more
+  has_more before (Released one) was now is has (idle, some, none) = subst (λ s. Has plan config s (before ++ Released one ∷ [])) (sym none) tt
 
-  has_all : (before acts : List (RosterAct Client Life)) (was now : Option Client) → All (IsNewIn most) acts → Has most config was before
-      → Lead (IsOwnAct (ActsOn ghosts config) awaited) was acts now → Has most config now (before ++ acts)
+  has_all : (before acts : List (RosterAct Client Life)) (was now : Option Client) → All (IsNewIn plan) acts → Has plan config was before
+      → Lead (IsOwnAct (ActsOn ghosts config) awaited) was acts now → Has plan config now (before ++ acts)
   has_all before [] was now new has same =
-      subst (λ xs. Has most config now xs) (sym (append-nil before)) (subst (λ s. Has most config s before) (sym same) has)
+      subst (λ xs. Has plan config now xs) (sym (append-nil before)) (subst (λ s. Has plan config s before) (sym same) has)
   has_all before (it ∷ acts) was now new has (mid, step, rest) =
-      let here = has_more before it was mid (All-head (IsNewIn most) it acts new) has step in
-      subst (Has most config now) (append_assoc before (it ∷ []) acts) (has_all (before ++ it ∷ []) acts mid now (All-tail (IsNewIn most) it acts new) here rest)
+      let here = has_more before it was mid (All-head (IsNewIn plan) it acts new) has step in
+      subst (Has plan config now) (append_assoc before (it ∷ []) acts) (has_all (before ++ it ∷ []) acts mid now (All-tail (IsNewIn plan) it acts new) here rest)
 
   act_done : (old : Parts H L T C) (it : RosterAct Client Life) (new : Parts H L T C) → IsSharedActOf (ActsOn ghosts config) old it new
       → Gains (Interacts ghosts) old (done_by it) new
@@ -89,14 +90,14 @@ module _ {H L T C : Type 0} (ghosts : PartsGhosts H L T C) (most : ℕ) (config 
   all_done old [] new same = record { leads = same }
   all_done old (it ∷ acts) new (mid, step, rest) = gains_append (act_done old it.item mid step) (all_done mid acts new rest)
 
-pub many_served : {H L T C : Type 0} (ghosts : PartsGhosts H L T C) (awaited : Client → List ℕ) (most : ℕ) (old : Parts H L T C) (acts : List (Tagged (RosterAct Client Life)))
-    (new : RosterState Client (Parts H L T C)) → AreNew most acts → Gains (IsRosterStep (ActsOn ghosts old.config) awaited) (nobody old) acts new
-    → AreServed ghosts most old acts new
-many_served ghosts awaited most old acts new fresh gains =
+pub many_served : {H L T C : Type 0} (ghosts : PartsGhosts H L T C) (awaited : Client → List ℕ) (plan : KeyPlan) (old : Parts H L T C) (acts : List (Tagged (RosterAct Client Life)))
+    (new : RosterState Client (Parts H L T C)) → AreNew plan acts → Gains (IsRosterStep (ActsOn ghosts old.config) awaited) (nobody old) acts new
+    → AreServed ghosts plan old acts new
+many_served ghosts awaited plan old acts new fresh gains =
     let is = serves (ActsOn ghosts old.config) awaited (nobody old) acts new gains in
     record {
-      performs = performs (λ config done. done ≡ done_in acts) refl (all_done ghosts most old.config awaited old acts new.parts is.shared.leads);
+      performs = performs (λ config done. done ≡ done_in acts) refl (all_done ghosts plan old.config awaited old acts new.parts is.shared.leads);
       each = λ number now at.
           let leads = subst (λ s. Lead (IsOwnAct (ActsOn ghosts old.config) awaited) None (own number acts) s) at (is.each number).leads in
-          has_all ghosts most old.config awaited [] (own number acts) None (Some now) (own_all (IsNewIn most) acts number fresh) tt leads;
+          has_all ghosts plan old.config awaited [] (own number acts) None (Some now) (own_all (IsNewIn plan) acts number fresh) tt leads;
     }

@@ -11,6 +11,7 @@ use Rattle.tko_reply.specs.Replies.{joined}
 use Rattle.tko_reply.specs.Standing.{Asking, shifted_key, shifted_share}
 use Rattle.tko_reply.specs.declared.asking.OneKey.{OneKey}
 use Rattle.tko_keys.specs.KeysState.{KeysState}
+use Rattle.tko_keys.specs.declared.plan.KeyPlan.{KeyPlan}
 use Rattle.tko_session.specs.Clients.{Short, Over, IsClientShort, IsClientIn, IsClientOver, IsClientOpen, Life, ClientPhase, Open, life}
 use Rattle.tko_session.specs.Outgoing.{AreOutgoing, AreOutgoingIn, sent_from, shifted_begin, shifted_work}
 use Rattle.tko_session.specs.SessionState.{SessionState, items_of}
@@ -85,9 +86,9 @@ module _ {config : Configuration} where
     are = sent.are;
   }
 
-module _ (most : ℕ) (keys : Option KeysState) (config : Configuration) where
+module _ (plan : KeyPlan) (keys : Option KeysState) (config : Configuration) where
   -- the replies before a request are there while it is under way
-  front_of : (it : Pending) (targets outbox : List ℕ) (at : Work) → IsPendingAt most keys config it at targets outbox → Extends it.front outbox
+  front_of : (it : Pending) (targets outbox : List ℕ) (at : Work) → IsPendingAt plan keys config it at targets outbox → Extends it.front outbox
   front_of it targets outbox work.Between never = absurd never
   front_of it targets outbox (work.Read one) (is, none, same) = record { more = []; is = same ∙ sym (append-nil it.front) }
   front_of it targets outbox (work.Awaits asking) sent = record { more = joined sent.so_far.routed; is = sent.so_far.appended }
@@ -96,7 +97,7 @@ module _ (most : ℕ) (keys : Option KeysState) (config : Configuration) where
   front_of it targets outbox work.HandedOver far = record { more = []; is = far.waits ∙ sym (append-nil it.front) }
 
   far_earlier : (it : Pending) (targets outbox : List ℕ) (count : ℕ) (at : Work) → count ≤ length it.front → length it.front - count ≡ length (drop count it.front)
-      → IsPendingAt most keys config it at targets outbox → IsPendingAt most keys config (behind count it) (shifted_work count at) targets (drop count outbox)
+      → IsPendingAt plan keys config it at targets outbox → IsPendingAt plan keys config (behind count it) (shifted_work count at) targets (drop count outbox)
   far_earlier it targets outbox count work.Between within same never = absurd never
   far_earlier it targets outbox count (work.Read one) within same (is, none, front) = (ap (shifted_key count) is, none, ap (drop count) front)
   far_earlier it targets outbox count (work.Awaits asking) within same sent = sent_earlier count within same sent
@@ -110,9 +111,9 @@ module _ (most : ℕ) (keys : Option KeysState) (config : Configuration) where
     waits = ap (drop count) far.waits;
   }
 
-module _ {most : ℕ} {config : Configuration} where
-  wrote_turned : {it : Life} {front : List ℕ} {left : Reading} {requests : ℕ} {last : List Interaction} (count : ℕ) → HasTurned most config it front left requests last
-      → HasTurned most config (life it.bytes (it.sent ++ take count front) it.done) (drop count front) left requests last
+module _ {plan : KeyPlan} {config : Configuration} where
+  wrote_turned : {it : Life} {front : List ℕ} {left : Reading} {requests : ℕ} {last : List Interaction} (count : ℕ) → HasTurned plan config it front left requests last
+      → HasTurned plan config (life it.bytes (it.sent ++ take count front) it.done) (drop count front) left requests last
   wrote_turned {it} {front} count base = record {
     turns = base.turns;
     turned = base.turned;
@@ -124,32 +125,32 @@ module _ {most : ℕ} {config : Configuration} where
     counted = base.counted;
   }
 
-module _ {most : ℕ} {keys : Option KeysState} {config : Configuration} where
+module _ {plan : KeyPlan} {keys : Option KeysState} {config : Configuration} where
   -- replies went to a client, while no request is under way
-  wrote_idle : {it : Life} {state : SessionState} (count begin : ℕ) → IsClientOpen most keys config it state → state.work ≡ Between
-      → IsClientOpen most keys config (life it.bytes (it.sent ++ take count state.outbox) it.done) (record state { outbox = drop count state.outbox; begin = begin })
+  wrote_idle : {it : Life} {state : SessionState} (count begin : ℕ) → IsClientOpen plan keys config it state → state.work ≡ Between
+      → IsClientOpen plan keys config (life it.bytes (it.sent ++ take count state.outbox) it.done) (record state { outbox = drop count state.outbox; begin = begin })
   wrote_idle count begin s is = idle_open (wrote_turned count (open_idle s is)) is
 
-  wrote_on : {it : Life} {state : SessionState} (count : ℕ) (at : Work) → count ≤ state.begin → IsClientOpen most keys config it state → state.work ≡ at → IsOnWith most keys config it state at
-      → IsClientOpen most keys config (life it.bytes (it.sent ++ take count state.outbox) it.done)
+  wrote_on : {it : Life} {state : SessionState} (count : ℕ) (at : Work) → count ≤ state.begin → IsClientOpen plan keys config it state → state.work ≡ at → IsOnWith plan keys config it state at
+      → IsClientOpen plan keys config (life it.bytes (it.sent ++ take count state.outbox) it.done)
       (record state { outbox = drop count state.outbox; begin = state.begin - count; work = shifted_work count at })
   wrote_on {it} {state} count at within s is on =
       let front = on.under.front in
       let inside : count ≤ length front = subst (λ n. count ≤ n) on.on.begin within in
       let less : length front - count ≡ length (drop count front) = sym (length-drop count front) in
-      let all = front_of most keys config on.under state.targets state.outbox at on.far in
+      let all = front_of plan keys config on.under state.targets state.outbox at on.far in
       let first : take count state.outbox ≡ take count front = ap (take count) all.is ∙ take-append-le count front all.more inside in
       let after : SessionState = record state { outbox = drop count state.outbox; begin = state.begin - count; work = shifted_work count at } in
-      subst (λ xs. IsClientOpen most keys config (life it.bytes (it.sent ++ xs) it.done) after) (sym first)
+      subst (λ xs. IsClientOpen plan keys config (life it.bytes (it.sent ++ xs) it.done) after) (sym first)
       (on_open {state = after} (behind count on.under)
       (record { left = on.on.left; base = wrote_turned count on.on.base; emits = on.on.emits; begin = ap (λ n. n - count) on.on.begin ∙ less })
-      (far_earlier most keys config on.under state.targets state.outbox count at inside less on.far))
+      (far_earlier plan keys config on.under state.targets state.outbox count at inside less on.far))
 
-  wrote_by : {it : Life} {state : SessionState} (count : ℕ) (at : Work) → AreOutgoingIn at state.begin count → IsClientOpen most keys config it state → state.work ≡ at
-      → IsClientOpen most keys config (life it.bytes (it.sent ++ take count state.outbox) it.done)
+  wrote_by : {it : Life} {state : SessionState} (count : ℕ) (at : Work) → AreOutgoingIn at state.begin count → IsClientOpen plan keys config it state → state.work ≡ at
+      → IsClientOpen plan keys config (life it.bytes (it.sent ++ take count state.outbox) it.done)
       (record state { outbox = drop count state.outbox; begin = shifted_begin count at state.begin; work = shifted_work count at })
   wrote_by {it} {state} count work.Between within s is =
-      subst (λ w. IsClientOpen most keys config (life it.bytes (it.sent ++ take count state.outbox) it.done) (record state { outbox = drop count state.outbox; work = w }))
+      subst (λ w. IsClientOpen plan keys config (life it.bytes (it.sent ++ take count state.outbox) it.done) (record state { outbox = drop count state.outbox; work = w }))
       is (wrote_idle count state.begin s is)
   wrote_by count (work.Read one) within s is = wrote_on count (work.Read one) within s is (open_on (work.Read one) s is (between_or_read one))
   wrote_by count (work.Awaits asking) within s is = wrote_on count (work.Awaits asking) within s is (open_on (work.Awaits asking) s is (between_or_awaits asking))
@@ -171,9 +172,9 @@ less count old at = record {
   between = ap (shifted_work count) at;
 }
 
-wrote_over : (most : ℕ) (config : Configuration) (it : Life) (count : ℕ) (old new : SessionState) → IsClientOver most config it old → IsLess count old new
-    → IsClientOver most config (life it.bytes (it.sent ++ take count old.outbox) it.done) new
-wrote_over most config it count old new f by = record {
+wrote_over : (plan : KeyPlan) (config : Configuration) (it : Life) (count : ℕ) (old new : SessionState) → IsClientOver plan config it old → IsLess count old new
+    → IsClientOver plan config (life it.bytes (it.sent ++ take count old.outbox) it.done) new
+wrote_over plan config it count old new f by = record {
   turns = f.turns;
   each = f.each;
   at = by.between;
@@ -183,9 +184,9 @@ wrote_over most config it count old new f by = record {
   requests = rw by.requests f.requests;
 }
 
-wrote_short : (most : ℕ) (config : Configuration) (it : Life) (count : ℕ) (old new : SessionState) → IsClientShort most config it old → IsLess count old new
-    → IsClientShort most config (life it.bytes (it.sent ++ take count old.outbox) it.done) new
-wrote_short most config it count old new f by = record {
+wrote_short : (plan : KeyPlan) (config : Configuration) (it : Life) (count : ℕ) (old new : SessionState) → IsClientShort plan config it old → IsLess count old new
+    → IsClientShort plan config (life it.bytes (it.sent ++ take count old.outbox) it.done) new
+wrote_short plan config it count old new f by = record {
   turns = f.turns;
   turned = f.turned;
   left = f.left;
@@ -201,8 +202,8 @@ wrote_short most config it count old new f by = record {
 }
 
 -- replies went to a client
-pub wrote_in : (most : ℕ) (keys : Option KeysState) (config : Configuration) (it : Life) (count : ℕ) (old : SessionState) (phase : ClientPhase) → IsClientIn phase most keys config it old → AreOutgoing old count
-    → IsClientIn phase most keys config (life it.bytes (it.sent ++ take count old.outbox) it.done) (sent_from old count)
-wrote_in most keys config it count old Open is within = wrote_by count old.work within is refl
-wrote_in most keys config it count old Over is within = wrote_over most config it count old (sent_from old count) is (less count old is.at)
-wrote_in most keys config it count old Short is within = wrote_short most config it count old (sent_from old count) is (less count old is.at)
+pub wrote_in : (plan : KeyPlan) (keys : Option KeysState) (config : Configuration) (it : Life) (count : ℕ) (old : SessionState) (phase : ClientPhase) → IsClientIn phase plan keys config it old → AreOutgoing old count
+    → IsClientIn phase plan keys config (life it.bytes (it.sent ++ take count old.outbox) it.done) (sent_from old count)
+wrote_in plan keys config it count old Open is within = wrote_by count old.work within is refl
+wrote_in plan keys config it count old Over is within = wrote_over plan config it count old (sent_from old count) is (less count old is.at)
+wrote_in plan keys config it count old Short is within = wrote_short plan config it count old (sent_from old count) is (less count old is.at)

@@ -121,8 +121,8 @@ pub data IsAct (config : Configuration) (old : Client) (adds : Life) (new : Clie
   lost : (done : List Interaction) → old.phase ≡ Open → adds ≡ life [] [] done
       → IsLoss config old.session done new.session
       → new ≡ record old { phase = Short; session = new.session } → IsAct config old adds new
-  handed : (request : Request) (keys : KeysState) → old.phase ≡ Open → 1 < old.most
-      → HandsOver old.session request new.session → IsNew request old.most keys → adds ≡ no_life
+  handed : (request : Request) (keys : KeysState) → old.phase ≡ Open → 1 < old.plan.most
+      → HandsOver old.session request new.session → IsNew request old.plan keys → adds ≡ no_life
       → new ≡ record old { session = new.session; keys = Some keys } → IsAct config old adds new
   keyed : (done : List Interaction) (keys now : KeysState) → HasKeys old keys
       → KeysAct config keys done now → adds ≡ life [] [] done

@@ -10,6 +10,7 @@ use Rattle.tko_io.specs.Io.{capped}
 use Rattle.tko_reply.specs.Interactions.{Interaction, Recorded}
 use Rattle.tko_reply.specs.TrailEvents.{Asked}
 use Rattle.tko_keys.specs.KeysState.{KeysState}
+use Rattle.tko_keys.specs.declared.plan.KeyPlan.{KeyPlan}
 use Rattle.tko_session.specs.SessionState.{EndsWith, GoesOn, SessionState, fresh, items_of, line_too_long, quit, requests_in, text_of}
 use Rattle.tko_session.specs.SoFar.{IsPendingAt, Pending}
 use Rattle.tko_session.specs.Turns.{IsRequestCutWithin, IsTurnWithin, Turn}
@@ -44,23 +45,23 @@ pub data ClientPhase : Type 0 where
   Over : ClientPhase
   Short : ClientPhase
 
--- A client of a worker: how many keys of a request of it may be under way at once, how its session
--- stands, the session, and the keys of its request, where that was handed over.
+-- A client of a worker: how the keys of a request of it may be sent, how its session stands, the
+-- session, and the keys of its request, where that was handed over.
 pub record Client : Type 0 where
-  pub most : ℕ
+  pub plan : KeyPlan
   pub phase : ClientPhase
   pub session : SessionState
   pub keys : Option KeysState
 
 -- one that has just come
-abbrev pub new_client : ℕ → Client
-new_client most = record { most = most; phase = Open; session = fresh; keys = None }
+abbrev pub new_client : KeyPlan → Client
+new_client plan = record { plan = plan; phase = Open; session = fresh; keys = None }
 
 -- items were answered, one after another, each by its own interactions
-abbrev pub AreTurns : ℕ → Configuration → List Turn → List Interaction → Type 0
-AreTurns most config [] done = done ≡ []
-AreTurns most config (turn ∷ turns) done = (first rest : List Interaction)
-    × IsTurnWithin most config turn first × AreTurns most config turns rest × (done ≡ first ++ rest)
+abbrev pub AreTurns : KeyPlan → Configuration → List Turn → List Interaction → Type 0
+AreTurns plan config [] done = done ≡ []
+AreTurns plan config (turn ∷ turns) done = (first rest : List Interaction)
+    × IsTurnWithin plan config turn first × AreTurns plan config turns rest × (done ≡ first ++ rest)
 
 -- the item of the request under way, if there is one
 abbrev pub items_under : Option Pending → List Item
@@ -78,23 +79,23 @@ waiting_in None outbox = outbox
 waiting_in (Some it) outbox = it.front
 
 -- no request is under way; or this one is, and its reply begins behind the complete ones
-abbrev pub HasPending : ℕ → Option KeysState → Configuration → Option Pending → SessionState
-    → Type 0
-HasPending most keys config None state = state.work ≡ Between
-HasPending most keys config (Some it) state = (state.begin ≡ length it.front)
-    × IsPendingAt most keys config it state.work state.targets state.outbox
+abbrev pub HasPending : KeyPlan → Option KeysState → Configuration → Option Pending
+    → SessionState → Type 0
+HasPending plan keys config None state = state.work ≡ Between
+HasPending plan keys config (Some it) state = (state.begin ≡ length it.front)
+    × IsPendingAt plan keys config it state.work state.targets state.outbox
 
 -- Its session is open: the bytes that came are the items of its turns, none of which ended it, and
 -- of the request under way, and then what is not read yet; the texts of the turns went to the
 -- client or wait for it, in order; and what was done is what the turns did, and then what was done
 -- for the request under way.
-pub record IsClientOpen (most : ℕ) (keys : Option KeysState) (config : Configuration) (it : Life)
-    (state : SessionState) : Type 0 where
+pub record IsClientOpen (plan : KeyPlan) (keys : Option KeysState) (config : Configuration)
+    (it : Life) (state : SessionState) : Type 0 where
   pub turns : List Turn
   pub turned : List Interaction
   pub under : Option Pending
-  pub each : AreTurns most config turns turned
-  pub at : HasPending most keys config under state
+  pub each : AreTurns plan config turns turned
+  pub at : HasPending plan keys config under state
   pub goes_on : GoesOn (items_of turns)
   pub gives : Gives (fed start it.bytes) (items_of turns ++ items_under under) state.reading
   pub text : it.sent ++ waiting_in under state.outbox ≡ text_of turns
@@ -102,10 +103,10 @@ pub record IsClientOpen (most : ℕ) (keys : Option KeysState) (config : Configu
   pub requests : capped state.requests ≡ capped (requests_in (items_of turns))
 
 -- Its last item ended it: no request is under way, and what was done is what the turns did.
-pub record IsClientOver (most : ℕ) (config : Configuration) (it : Life) (state : SessionState)
+pub record IsClientOver (plan : KeyPlan) (config : Configuration) (it : Life) (state : SessionState)
     : Type 0 where
   pub turns : List Turn
-  pub each : AreTurns most config turns it.done
+  pub each : AreTurns plan config turns it.done
   pub at : state.work ≡ Between
   pub ends : EndsWith line_too_long (items_of turns) ⊎ EndsWith quit (items_of turns)
   pub gives : Gives (fed start it.bytes) (items_of turns) state.reading
@@ -114,35 +115,35 @@ pub record IsClientOver (most : ℕ) (config : Configuration) (it : Life) (state
 
 -- memory ran out after these items: as the next one was read; or that is a request, for which this
 -- was done until it was dropped
-pub data ShortAfter (most : ℕ) (config : Configuration) (left : Reading) (last : List Interaction)
-    : Type 0 where
-  none_read : last ≡ [] → ShortAfter most config left last
+pub data ShortAfter (plan : KeyPlan) (config : Configuration) (left : Reading)
+    (last : List Interaction) : Type 0 where
+  none_read : last ≡ [] → ShortAfter plan config left last
   request_cut : (it : Request) (to : Reading) → Emits left (item.Request it) to
-      → IsRequestCutWithin most config it last → ShortAfter most config left last
+      → IsRequestCutWithin plan config it last → ShortAfter plan config left last
 
 -- Memory ran out for it: what was done is what the turns did, and then what was done for the
 -- request that was dropped. Nothing of its reply went to the client or waits for it.
-pub record IsClientShort (most : ℕ) (config : Configuration) (it : Life) (state : SessionState)
-    : Type 0 where
+pub record IsClientShort (plan : KeyPlan) (config : Configuration) (it : Life)
+    (state : SessionState) : Type 0 where
   pub turns : List Turn
   pub turned : List Interaction
   pub left : Reading
   pub last : List Interaction
-  pub each : AreTurns most config turns turned
+  pub each : AreTurns plan config turns turned
   pub at : state.work ≡ Between
   pub goes_on : GoesOn (items_of turns)
   pub gives : Gives (fed start it.bytes) (items_of turns) left
-  pub cut : ShortAfter most config left last
+  pub cut : ShortAfter plan config left last
   pub text : it.sent ++ state.outbox ≡ text_of turns
   pub are : it.done ≡ turned ++ last
   pub requests : capped state.requests ≡ capped (requests_in (items_of turns))
 
-abbrev pub IsClientIn : ClientPhase → ℕ → Option KeysState → Configuration → Life → SessionState
-    → Type 0
-IsClientIn Open most keys config it state = IsClientOpen most keys config it state
-IsClientIn Over most keys config it state = IsClientOver most config it state
-IsClientIn Short most keys config it state = IsClientShort most config it state
+abbrev pub IsClientIn : ClientPhase → KeyPlan → Option KeysState → Configuration → Life
+    → SessionState → Type 0
+IsClientIn Open plan keys config it state = IsClientOpen plan keys config it state
+IsClientIn Over plan keys config it state = IsClientOver plan config it state
+IsClientIn Short plan keys config it state = IsClientShort plan config it state
 
 -- this is a client's life so far
 abbrev pub IsClient : Configuration → Life → Client → Type 0
-IsClient config it one = IsClientIn one.phase one.most one.keys config it one.session
+IsClient config it one = IsClientIn one.phase one.plan one.keys config it one.session

@@ -13,6 +13,7 @@ use Rattle.tko_reply.specs.declared.asking.OneKey.{OneKey}
 use Rattle.tko_reply.specs.declared.asking.Share.TheVariants as share
 use Rattle.tko_keys.specs.KeysSoFar.{KeysSoFar}
 use Rattle.tko_keys.specs.KeysState.{KeysState}
+use Rattle.tko_keys.specs.declared.plan.KeyPlan.{KeyPlan}
 use Rattle.tko_session.specs.Working.{Work}
 use Rattle.tko_session.specs.Working as work
 
@@ -92,25 +93,25 @@ pub data IsKeyPast (config : Configuration) (it : Pending) (one : OneKey) (outbo
         → HasJoined config it left outbox → IsKeyPast config it one outbox
 
 -- it was handed over, its keys came so far, and nothing of its reply is there yet
-pub record AreKeysPending (most : ℕ) (keys : Option KeysState) (config : Configuration)
+pub record AreKeysPending (plan : KeyPlan) (keys : Option KeysState) (config : Configuration)
     (it : Pending) (outbox : List ℕ) : Type 0 where
   pub state : KeysState
   pub at : keys ≡ Some state
-  pub several : 1 < most
-  pub within : state.most ≡ most
+  pub several : 1 < plan.most
+  pub within : state.plan ≡ plan
   pub so_far : KeysSoFar config it.request state it.done
   pub waits : outbox ≡ it.front
 
 -- How far it came, where the session is at this: it was read, and nothing was done yet; or a send
 -- is out for one of its keys; or the attempts at one of them ended; or it was handed over, with
--- these keys, of which at most so many are under way at once.
-abbrev pub IsPendingAt : ℕ → Option KeysState → Configuration → Pending → Work → List ℕ → List ℕ
-    → Type 0
-IsPendingAt most keys config it work.Between targets outbox = ⊥
-IsPendingAt most keys config it (work.Read one) targets outbox =
+-- these keys, which are sent by this plan.
+abbrev pub IsPendingAt : KeyPlan → Option KeysState → Configuration → Pending → Work → List ℕ
+    → List ℕ → Type 0
+IsPendingAt plan keys config it work.Between targets outbox = ⊥
+IsPendingAt plan keys config it (work.Read one) targets outbox =
     (one ≡ whole_of it.request) × (it.done ≡ []) × (outbox ≡ it.front)
-IsPendingAt most keys config it (work.Awaits asking) targets outbox =
+IsPendingAt plan keys config it (work.Awaits asking) targets outbox =
     IsSentFor config it asking targets outbox
-IsPendingAt most keys config it (work.Ended one) targets outbox = IsKeyPast config it one outbox
-IsPendingAt most keys config it work.HandedOver targets outbox =
-    AreKeysPending most keys config it outbox
+IsPendingAt plan keys config it (work.Ended one) targets outbox = IsKeyPast config it one outbox
+IsPendingAt plan keys config it work.HandedOver targets outbox =
+    AreKeysPending plan keys config it outbox

@@ -12,6 +12,7 @@ use Rattle.tko_reply.specs.Interactions.{Interaction, Recorded}
 use Rattle.tko_reply.specs.Replies.{RoutedKey}
 use Rattle.tko_reply.specs.TrailEvents.{Asked}
 use Rattle.tko_keys.specs.AtOnce.{AnswersAtOnce, IsCutAtOnce}
+use Rattle.tko_keys.specs.declared.plan.KeyPlan.{KeyPlan}
 
 -- an item, the keys that were routed for it, and the text of its reply
 pub record Turn : Type 0 where
@@ -39,19 +40,19 @@ pub data IsRequestCut (config : Configuration) (request : Request) (done : List 
   recorded : (then : List Interaction) → done ≡ Recorded (Asked request) ∷ then
       → IsAnswerCut config request then → IsRequestCut config request done
 
--- what becomes of an item where at most so many keys of a request may be under way at once: its
--- keys are asked for one after another, as above; or more of them at a time
-pub data IsTurnWithin (most : ℕ) (config : Configuration) (turn : Turn) (done : List Interaction)
-    : Type 0 where
-  in_turn : IsTurn config turn done → IsTurnWithin most config turn done
-  at_once : (request : Request) (then : List Interaction) → 1 < most
+-- what becomes of an item where the keys of a request may be sent by this plan: they are asked for
+-- one after another, as above; or more of them at a time
+pub data IsTurnWithin (plan : KeyPlan) (config : Configuration) (turn : Turn)
+    (done : List Interaction) : Type 0 where
+  in_turn : IsTurn config turn done → IsTurnWithin plan config turn done
+  at_once : (request : Request) (then : List Interaction) → 1 < plan.most
       → turn.item ≡ item.Request request → done ≡ Recorded (Asked request) ∷ then
-      → AnswersAtOnce most config request turn.routed turn.text then
-      → IsTurnWithin most config turn done
+      → AnswersAtOnce plan config request turn.routed turn.text then
+      → IsTurnWithin plan config turn done
 
 -- memory ran out for a request there
-pub data IsRequestCutWithin (most : ℕ) (config : Configuration) (request : Request)
+pub data IsRequestCutWithin (plan : KeyPlan) (config : Configuration) (request : Request)
     (done : List Interaction) : Type 0 where
-  cut_in_turn : IsRequestCut config request done → IsRequestCutWithin most config request done
-  cut_at_once : (then : List Interaction) → 1 < most → done ≡ Recorded (Asked request) ∷ then
-      → IsCutAtOnce config request then → IsRequestCutWithin most config request done
+  cut_in_turn : IsRequestCut config request done → IsRequestCutWithin plan config request done
+  cut_at_once : (then : List Interaction) → 1 < plan.most → done ≡ Recorded (Asked request) ∷ then
+      → IsCutAtOnce plan config request then → IsRequestCutWithin plan config request done

@@ -1,19 +1,22 @@
 //! One session over its two ends: a thin loop that moves bytes.
-ghost use Rattle.std.specs.Prelude.{◌≡◌, ◌≢◌, ◌<◌, [], IfErr, OnErr, OnOk};
+ghost use Rattle.std.specs.Prelude.{◌≡◌, ◌≢◌, ◌<◌, [], IfErr, OnErr, OnOk, is_err, length};
 ghost use Rattle.tko_text.specs.Reading.{Never};
+ghost use Rattle.tko_prober.specs.Ghosts.{backend_ghosts};
 ghost use Rattle.tko_prober.specs.Probers.{NoneMarked};
 ghost use Rattle.tko_io.specs.Io.{Writes, WritesPart, capped};
 ghost use Rattle.tko_session.specs.Effects.{effects};
+ghost use Rattle.tko_session.specs.Events.{Rounded};
 ghost use Rattle.tko_session.specs.AnswerEnds.{IsSettled};
 ghost use Rattle.tko_session.specs.Ends.{DeliveryEnds, PieceEnds, SessionEnds};
 ghost use Rattle.tko_session.specs.Served.{context, delivering, delivery, serving};
 ghost use Rattle.tko_reply.specs.Answers.{Reaches};
-ghost use Rattle.tko_session.specs.SessionState.{fed_state};
+ghost use Rattle.tko_session.specs.SessionState.{fed_state, fresh};
 ghost use Rattle.tko_session.specs.Working.{Between};
 
 use crate::answering::{answer, run_owed_round};
 use crate::{Parts, Progress, Report, Session, SessionFault, Trails, round};
 use std::alloc::Global;
+use tko_bytes::NoMemory;
 use tko_io::{Clock, Inlet, IoRuntime, Outlet, Piece, piece_buffer, read_piece, write_all};
 use tko_links::Links;
 use tko_route::Health;
@@ -37,25 +40,42 @@ pub fn serve<R: IoRuntime, I: Inlet, O: Outlet, H: Health, L: Links, T: Trails, 
 {
     let mut buffer = piece_buffer(alloc)?;
     let mut session = Session::new(alloc);
+    serve_pieces(rt, alloc, reader, writer, parts, &mut session, &mut buffer)
+}
+
+/// Serves a client, whose session is new, from the first piece of its input on. The caller owns the
+/// session and the buffer, so that no exit of the loop drops them.
+fn serve_pieces<R: IoRuntime, I: Inlet, O: Outlet, H: Health, L: Links, T: Trails, C: Clock>(
+    rt: &R,
+    alloc: Global,
+    reader: &mut I,
+    writer: &mut O,
+    parts: &mut Parts<H, L, T, C>,
+    session: &mut Session,
+    buffer: &mut [u8],
+) -> Result<Report, SessionFault>
+    requires reach { Reaches H.servers L.servers parts.old }
+    requires begins { session.old ≡ fresh }
+    requires room { 0 < length buffer.old }
+    ensures ends { SessionEnds
+        (serving I.Inlet O.Outlet (effects H.Health L.Links T.Trails C.Clock))
+        (context reader.old writer.old parts.old) result
+        (context reader.new writer.new parts.new) }
+    ensures begun { NoneMarked parts.old.backend.probers → NoneMarked parts.new.backend.probers }
+    ensures reach { Reaches H.servers L.servers parts.new }
+{
     let mut written = 0;
     for _ in rt.forever() {
-        match read_piece(rt, reader, &mut buffer) {
+        match read_piece(rt, reader, buffer) {
             Piece::Failed => return Err(SessionFault::Read),
-            Piece::Idle => round(rt, parts)?,
+            Piece::Idle => run_idle_round(rt, parts)?,
             Piece::Bytes(count) => {
                 let ended = count == 0;
                 if ended {
                     return Ok(session.report());
                 }
-                let quit = serve_piece(
-                    rt,
-                    alloc,
-                    &mut session,
-                    writer,
-                    parts,
-                    &buffer[..count],
-                    &mut written,
-                )?;
+                let piece = &buffer[..count];
+                let quit = serve_piece(rt, alloc, session, writer, parts, piece, &mut written)?;
                 if quit {
                     return Ok(session.report_after_quit());
                 }
@@ -63,6 +83,20 @@ pub fn serve<R: IoRuntime, I: Inlet, O: Outlet, H: Health, L: Links, T: Trails, 
         }
     }
     unreachable!()
+}
+
+/// Runs the round of an idle turn of the reader.
+fn run_idle_round<R: IoRuntime, H: Health, L: Links, T: Trails, C: Clock>(
+    rt: &R,
+    parts: &mut Parts<H, L, T, C>,
+) -> Result<(), NoMemory>
+    requires reach { Reaches H.servers L.servers parts.old }
+    ensures round { Rounded (backend_ghosts H.Health L.Links C.Clock)
+        (is_err result) parts.old parts.new }
+    ensures begun { NoneMarked parts.new.backend.probers }
+    ensures reach { Reaches H.servers L.servers parts.new }
+{
+    round(rt, parts)
 }
 
 /// Gives a piece to the session, and writes the replies to all that it completes, also where the
