@@ -1,72 +1,71 @@
 -- The requests for keys that are under way, and those that a client awaits.
-use Rattle.std.proofs.Common.{◌≡◌, ◌≢◌, ◌<◌, ℕ, ◌+◌, Bool, true, false, List, [], ◌∷◌, ◌++◌, length, map, Option, Some, None, refl, sym, ap, subst, ◌∙◌, arith, inl, inr}
-use Rattle.std.specs.Prelude.{cond, ◌==◌, IfSome, IsSome, IsTrue, find, slice_get, ◌↔◌}
+use Rattle.std.proofs.Common.{◌≡◌, ◌≢◌, ◌<◌, ℕ, ◌+◌, Bool, true, false, List, [], ◌∷◌, ◌++◌, map, Option, Some, None, refl, sym, ap, subst, ◌∙◌, arith, inl, inr}
+use Rattle.std.specs.Prelude.{cond, ◌==◌, IsSome, IsTrue, ◌↔◌}
 use Rattle.std.specs.Bool.{OnFalse, OnTrue}
 use Rattle.std.proofs.lemmas.Bool.Decides.{eqb_tells}
 use Rattle.std.proofs.lemmas.Bool.{cases_Bool}
 use Rattle.std.proofs.lemmas.List.{map-append}
-use Rattle.tko_mux.specs.Awaits.{IsAsking, awaited_one, one_asked, one_if, times_due}
+use Rattle.tko_mux.specs.Awaits.{IsAsking, awaited_one, one_if, times_due}
 use Rattle.tko_mux.proofs.AwaitsLemmas.{due_both, due_first}
-use Rattle.tko_keys.specs.declared.ask.Ask.{Ask}
-use Rattle.tko_keys.specs.KeysState.{but_first, first_at, without_first}
+use Rattle.tko_keys.specs.KeysState.{KeySend, but_first, first_send, without_first}
 use Rattle.tko_client.specs.Keys.{TakesAt}
 
 -- the servers that these are to
-abbrev pub servers_of : List Ask → List ℕ
-servers_of asks = map (λ (ask : Ask). ask.server) asks
+abbrev pub servers_of : List KeySend → List ℕ
+servers_of sends = map (λ (send : KeySend). send.server) sends
 
-due_ask : (ask : Ask) (asks : List Ask) (at : ℕ) → times_due (servers_of (ask ∷ asks)) at ≡ one_if (ask.server == at) + times_due (servers_of asks) at
-due_ask ask asks at = due_first ask.server (servers_of asks) at
+due_send : (send : KeySend) (sends : List KeySend) (at : ℕ) → times_due (servers_of (send ∷ sends)) at ≡ one_if (send.server == at) + times_due (servers_of sends) at
+due_send send sends at = due_first send.server (servers_of sends) at
 
-pub due_joined : (one other : List Ask) (at : ℕ) → times_due (servers_of (one ++ other)) at ≡ times_due (servers_of one) at + times_due (servers_of other) at
-due_joined one other at = ap (λ (xs : List ℕ). times_due xs at) (map-append (λ (ask : Ask). ask.server) one other) ∙ due_both (servers_of one) (servers_of other) at
+pub due_joined : (one other : List KeySend) (at : ℕ) → times_due (servers_of (one ++ other)) at ≡ times_due (servers_of one) at + times_due (servers_of other) at
+due_joined one other at = ap (λ (xs : List ℕ). times_due xs at) (map-append (λ (send : KeySend). send.server) one other) ∙ due_both (servers_of one) (servers_of other) at
 
 -- one of them is to a server that is awaited
-pub awaits_first : (server : ℕ) (asks : List Ask) → 0 < times_due (servers_of asks) server → IsSome (first_at server asks)
+pub awaits_first : (server : ℕ) (sends : List KeySend) → 0 < times_due (servers_of sends) server → IsSome (first_send server sends)
 awaits_first server [] some = absurd (omega (arith, some))
-awaits_first server (ask ∷ asks) some =
-    elim (cases_Bool (ask.server == server)) [
-      | inl is ↦ subst (λ (b : Bool). IsSome (cond b (Some ask) (first_at server asks))) (sym is) refl
-      | inr not ↦ subst (λ (b : Bool). IsSome (cond b (Some ask) (first_at server asks))) (sym not)
-          (awaits_first server asks (omega (arith, some, due_ask ask asks server, ap one_if not)))
+awaits_first server (send ∷ sends) some =
+    elim (cases_Bool (send.server == server)) [
+      | inl is ↦ subst (λ (b : Bool). IsSome (cond b (Some send) (first_send server sends))) (sym is) refl
+      | inr not ↦ subst (λ (b : Bool). IsSome (cond b (Some send) (first_send server sends))) (sym not)
+          (awaits_first server sends (omega (arith, some, due_send send sends server, ap one_if not)))
     ]
 
-first_by : (b : Bool) (server : ℕ) (ask found : Ask) (asks : List Ask) → (ask.server == server) ≡ b → cond b (Some ask) (first_at server asks) ≡ Some found
-    → (first_at server asks ≡ Some found → found.server ≡ server) → found.server ≡ server
-first_by true server ask found asks same is later =
-    elim (eqb_tells ask.server server) [
-      | inl eq ↦ let it : ask ≡ found = cc in ap (λ (a : Ask). a.server) (sym it) ∙ eq.1
+first_by : (b : Bool) (server : ℕ) (send found : KeySend) (sends : List KeySend) → (send.server == server) ≡ b → cond b (Some send) (first_send server sends) ≡ Some found
+    → (first_send server sends ≡ Some found → found.server ≡ server) → found.server ≡ server
+first_by true server send found sends same is later =
+    elim (eqb_tells send.server server) [
+      | inl eq ↦ let it : send ≡ found = cc in ap (λ (s : KeySend). s.server) (sym it) ∙ eq.1
       | inr ne ↦ absurd (let never : true ≡ false = sym same ∙ ne.0 in let no : ⊥ = cc in no)
     ]
-first_by false server ask found asks same is later = later is
+first_by false server send found sends same is later = later is
 
 -- the first at a server is to it
-pub first_server : (server : ℕ) (asks : List Ask) (found : Ask) → first_at server asks ≡ Some found → found.server ≡ server
+pub first_server : (server : ℕ) (sends : List KeySend) (found : KeySend) → first_send server sends ≡ Some found → found.server ≡ server
 first_server server [] found is = absurd (let no : ⊥ = cc in no)
-first_server server (ask ∷ asks) found is = first_by (ask.server == server) server ask found asks refl is (first_server server asks found)
+first_server server (send ∷ sends) found is = first_by (send.server == server) server send found sends refl is (first_server server sends found)
 
-left_by : (b : Bool) (server : ℕ) (ask found : Ask) (asks : List Ask) (at : ℕ) → (ask.server == server) ≡ b → cond b (Some ask) (first_at server asks) ≡ Some found
-    → (first_at server asks ≡ Some found → times_due (servers_of (without_first server asks)) at + one_if (server == at) ≡ times_due (servers_of asks) at)
-    → times_due (servers_of (but_first b ask asks (without_first server asks))) at + one_if (server == at) ≡ times_due (servers_of (ask ∷ asks)) at
-left_by true server ask found asks at same is later =
-    elim (eqb_tells ask.server server) [
-      | inl eq ↦ omega (arith, due_ask ask asks at, ap (λ (n : ℕ). one_if (n == at)) eq.1)
+left_by : (b : Bool) (server : ℕ) (send found : KeySend) (sends : List KeySend) (at : ℕ) → (send.server == server) ≡ b → cond b (Some send) (first_send server sends) ≡ Some found
+    → (first_send server sends ≡ Some found → times_due (servers_of (without_first server sends)) at + one_if (server == at) ≡ times_due (servers_of sends) at)
+    → times_due (servers_of (but_first b send sends (without_first server sends))) at + one_if (server == at) ≡ times_due (servers_of (send ∷ sends)) at
+left_by true server send found sends at same is later =
+    elim (eqb_tells send.server server) [
+      | inl eq ↦ omega (arith, due_send send sends at, ap (λ (n : ℕ). one_if (n == at)) eq.1)
       | inr ne ↦ absurd (let never : true ≡ false = sym same ∙ ne.0 in let no : ⊥ = cc in no)
     ]
-left_by false server ask found asks at same is later =
-    omega (arith, due_ask ask asks at, due_ask ask (without_first server asks) at, later is)
+left_by false server send found sends at same is later =
+    omega (arith, due_send send sends at, due_send send (without_first server sends) at, later is)
 
 -- without it that server is awaited once less
-pub due_left : (server : ℕ) (asks : List Ask) (found : Ask) (at : ℕ) → first_at server asks ≡ Some found
-    → times_due (servers_of (without_first server asks)) at + one_if (server == at) ≡ times_due (servers_of asks) at
+pub due_left : (server : ℕ) (sends : List KeySend) (found : KeySend) (at : ℕ) → first_send server sends ≡ Some found
+    → times_due (servers_of (without_first server sends)) at + one_if (server == at) ≡ times_due (servers_of sends) at
 due_left server [] found at is = absurd (let no : ⊥ = cc in no)
-due_left server (ask ∷ asks) found at is =
-    left_by (ask.server == server) server ask found asks at refl is (due_left server asks found at)
+due_left server (send ∷ sends) found at is =
+    left_by (send.server == server) server send found sends at refl is (due_left server sends found at)
 
-pub due_between : (server : ℕ) (before after : List Ask) (ask : Ask) (at : ℕ) → ask.server ≡ server
-    → times_due (servers_of (before ++ after)) at + one_if (server == at) ≡ times_due (servers_of (before ++ (ask ∷ after))) at
-due_between server before after ask at same =
-    omega (arith, due_joined before after at, due_joined before (ask ∷ after) at, due_ask ask after at, ap (λ (n : ℕ). one_if (n == at)) same)
+pub due_between : (server : ℕ) (before after : List KeySend) (send : KeySend) (at : ℕ) → send.server ≡ server
+    → times_due (servers_of (before ++ after)) at + one_if (server == at) ≡ times_due (servers_of (before ++ (send ∷ after))) at
+due_between server before after send at same =
+    omega (arith, due_joined before after at, due_joined before (send ∷ after) at, due_send send after at, ap (λ (n : ℕ). one_if (n == at)) same)
 
 -- where nobody was asked, as many as before are awaited
 pub same_asking : (old new : List ℕ) → new ≡ old → IsAsking None old new
@@ -84,19 +83,6 @@ asked_some server old new asks none =
       | inl eq ↦ ap one_if eq.0
       | inr ne ↦ absurd (ne.1 refl)
     ]) in absurd (omega (arith, due, one, asks server))
-
-pub taken_some : (server next : ℕ) (old new : List ℕ) → 0 < times_due old server → TakesAt server (Some next) old new → new ≢ []
-taken_some server next old new some takes none =
-    let due : times_due new next ≡ 0 = ap (λ xs. times_due xs next) none in
-    let one : one_if (next == next) ≡ 1 = (elim (eqb_tells next next) [
-      | inl eq ↦ ap one_if eq.0
-      | inr ne ↦ absurd (ne.1 refl)
-    ]) in
-    elim (eqb_tells server next) [
-      | inl eq ↦ let all : times_due old server ≡ times_due old next = ap (λ n. times_due old n) eq.1 in
-          absurd (omega (arith, due, one, some, all, takes next, ap one_if eq.0))
-      | inr ne ↦ absurd (omega (arith, due, one, takes next, ap one_if ne.0))
-    ]
 
 -- a session awaits one server, and takes what came from it
 pub one_taken : (server : ℕ) (asked : Option ℕ) → TakesAt server asked (awaited_one (Some server)) (awaited_one asked)

@@ -1,14 +1,14 @@
 -- What a call is to a client: it went on, or handed a request over, or took its reply back.
-use Rattle.std.proofs.Common.{◌≡◌, ◌≢◌, ◌<◌, ℕ, ◌+◌, Bool, true, false, not, List, [], ◌∷◌, ◌++◌, All, length, Option, Some, None, Result, Ok, Err, refl, sym, ap, subst, ◌∙◌, arith}
+use Rattle.std.proofs.Common.{◌≡◌, ◌≢◌, ◌<◌, ℕ, Bool, true, false, not, List, [], ◌∷◌, ◌++◌, length, Option, Some, None, Result, refl, sym, ap, subst, ◌∙◌, arith}
 use Rattle.std.specs.Bool.{OnFalse, OnTrue}
-use Rattle.std.specs.Prelude.{IfOk, IfSome, IsSome, IsTrue, OnErr, OnOk, ◌↔◌}
+use Rattle.std.specs.Prelude.{IfNone, IfSome, IsSome, IsTrue, ◌↔◌}
 use Rattle.std.proofs.lemmas.List.Elements.{All-nil}
 use Rattle.tko_links.specs.declared.links.NoMemory.{NoMemory as LinksNoMemory}
 use Rattle.tko_links.specs.declared.links.Outcome.{Outcome}
 use Rattle.tko_port.specs.Talks.{HasReplies}
 use Rattle.tko_session.specs.Outgoing.{outgoing}
 use Rattle.tko_model.specs.Records.{Gains}
-use Rattle.tko_model.proofs.RecordLemmas.{gains_append, gains_none, gains_one, gains_push}
+use Rattle.tko_model.proofs.RecordLemmas.{gains_append, gains_none, gains_one}
 use Rattle.tko_pools.specs.Configs.{Configuration}
 use Rattle.tko_text.specs.declared.request.Request.{Request}
 use Rattle.tko_reply.specs.Answering.{Extends}
@@ -18,17 +18,18 @@ use Rattle.tko_reply.specs.Interactions.{Interaction}
 use Rattle.tko_reply.specs.declared.parts.Parts.{Parts}
 use Rattle.tko_mux.specs.Awaits.{IsAsking, awaited_one}
 use Rattle.tko_mux.proofs.AwaitsLemmas.{asks_one}
-use Rattle.tko_keys.specs.KeysActs.{KeysAct}
-use Rattle.tko_keys.specs.KeysDriven.{AreUnderWay, IsAskedAt}
-use Rattle.tko_keys.specs.KeysState.{IsComplete, IsNew, KeysState, MayBegin, awaited}
-use Rattle.tko_keys.specs.declared.ask.Ask.{Ask}
+use Rattle.tko_keys.specs.KeysDriven.{AreUnderWay, IsDueAt, IsOutAt, IsSentAt}
+use Rattle.tko_keys.specs.KeysState.{DueKey, IsComplete, IsNew, KeySend, KeysState, MayBegin, awaited, places_in}
+use Rattle.tko_keys.specs.declared.plan.Grouping.{Grouping}
+use Rattle.tko_keys.specs.declared.plan.Grouping.TheVariants.{ByServer}
+use Rattle.tko_keys.specs.declared.plan.KeyPlan.{KeyPlan}
 use Rattle.tko_session.specs.Acts.{IsLoss, IsSessionCall, asked_at}
 use Rattle.tko_session.specs.Acts as act
 use Rattle.tko_session.specs.Awaiting.{awaited_in}
-use Rattle.tko_session.specs.Clients.{ClientPhase, Open, Short}
+use Rattle.tko_session.specs.Clients.{Open, Short}
 use Rattle.tko_session.specs.Driven.{IsReady, MayGoOn, WasDroppedFrom, dropped}
 use Rattle.tko_session.specs.Driven as driven
-use Rattle.tko_session.specs.Handing.{HandsOver, IsHanded}
+use Rattle.tko_session.specs.Handing.{IsHanded}
 use Rattle.tko_session.specs.SessionState.{SessionState}
 use Rattle.tko_session.specs.Working.{Work}
 use Rattle.tko_text.specs.Reading.{Reading}
@@ -36,7 +37,7 @@ use Rattle.tko_session.specs.Working as work
 use Rattle.tko_client.specs.declared.answering.Answering.{Answering}
 use Rattle.tko_client.specs.declared.calls.Went.{Went}
 use Rattle.tko_client.specs.declared.calls.Went.TheVariants as went
-use Rattle.tko_client.specs.Answerings.{AreKeysReady, IsAnsweringReady, IsIdle, IsIdleWith, IsOwn, MayCall, MayCallWith, asked_by, asked_for, asked_with, awaited_by, awaited_with, client_at}
+use Rattle.tko_client.specs.Answerings.{AreKeysReady, AreSettled, IsAnsweringReady, IsIdle, IsIdleWith, IsOwn, MayCall, MayCallWith, asked_by, asked_for, asked_with, awaited_by, awaited_with, client_at}
 use Rattle.tko_client.specs.declared.client.Course.{Course}
 use Rattle.tko_client.specs.declared.client.Course.TheVariants as course
 use Rattle.tko_client.specs.Calls.{AnsweringOver, IsCalled, IsHaltLeft, IsHalted, IsLeft, IsTakenAs, IsTakenTo}
@@ -45,7 +46,7 @@ use Rattle.tko_client.specs.Handings.{AreKeysComplete, HasEndedKeys, HasHanded}
 use Rattle.tko_client.specs.Handings as handing
 use Rattle.tko_client.specs.Keys.{AreKeysLeft, HasKeyCall, IsOfKeys, TakesAt}
 use Rattle.tko_client.specs.Staying.{no_change, stayed_on}
-use Rattle.tko_client.specs.Steps.{HasStayed, IsLost, IsOfSession, IsStepped, WentReading, WentStands, asked_in, client_ghosts, phase_of}
+use Rattle.tko_client.specs.Steps.{HasStayed, IsLost, IsOfSession, IsStepped, WentReading, WentStands, asked_in, phase_of}
 use Rattle.tko_client.proofs.AskLemmas.{asked_some, asking_on, none_true, same_asking, servers_of}
 
 -- where the first of the replies is there, they are
@@ -181,7 +182,7 @@ keys_left came old keys now parts mid after ready at config left some stays =
       reading = keys_reading came old.session.reading left.goes;
       ready = record {
         session = subst (λ c. IsReady c old.session) (sym stays.config) ready.session;
-        keys = (at, subst (λ c. AreUnderWay c now) (config ∙ sym stays.config) left.ready);
+        keys = (at, subst (λ c. AreSettled c now) (config ∙ sym stays.config) left.ready);
       };
       stays = stays;
     }
@@ -189,36 +190,58 @@ keys_left came old keys now parts mid after ready at config left some stays =
 pub handed_at : {config : Configuration} {it : Answering} {keys : KeysState} → IsAnsweringReady config it → it.keys ≡ Some keys → it.session.work ≡ work.HandedOver
 handed_at {config} {it} ready are = (subst (λ k. AreKeysReady config k it.session.work) are ready.keys).0
 
-pub under_way : {config : Configuration} {it : Answering} {keys : KeysState} → IsAnsweringReady config it → it.keys ≡ Some keys → AreUnderWay config keys
-under_way {config} {it} ready are = (subst (λ k. AreKeysReady config k it.session.work) are ready.keys).1
+pub settled : {config : Configuration} {it : Answering} {keys : KeysState} → IsAnsweringReady config it → it.keys ≡ Some keys → AreSettled config keys
+settled {config} {it} ready are = (subst (λ k. AreKeysReady config k it.session.work) are ready.keys).1
 
 -- it is ready to take the reply of its keys
 pub is_handed : {config : Configuration} {it : Answering} {keys : KeysState} → IsAnsweringReady config it → it.keys ≡ Some keys → IsHanded it.session
 is_handed {config} {it} ready are =
     let at = handed_at ready are in record { at = at; begins = subst (driven.IsReadyFor config it.session) at ready.session }
 
--- nothing is under way for keys, and none may be begun
-pub complete_by : (keys : KeysState) (waits may : Bool) → IsTrue waits ↔ (awaited keys ≢ []) → IsTrue may ↔ MayBegin keys → waits ≡ false → may ≡ false → IsComplete keys
-complete_by keys waits may some begins none never = (asks_none keys.asks (none_true (awaited keys) waits some), cannot)
-  where
-    asks_none : (asks : List Ask) → OnFalse waits (servers_of asks ≡ []) → asks ≡ []
-    asks_none [] is = refl
-    asks_none (ask ∷ asks) is = absurd (let empty : servers_of (ask ∷ asks) ≡ [] = subst (λ b. OnFalse b (servers_of (ask ∷ asks) ≡ [])) none is in let no : ⊥ = cc in no)
+-- none of the keys is due, where none goes out and no other may be begun
+none_due : (due : List DueKey) (next : Option ℕ) (may : Type 0) (grouping : Grouping) → next ≡ None → IfNone next (due ≢ [] → (grouping ≡ ByServer) × may) → ¬ may → due ≡ []
+none_due [] next may grouping none waits cannot = refl
+none_due (it ∷ due) next may grouping none waits cannot =
+    let some : it ∷ due ≢ [] = λ is. let no : ⊥ = cc in no in
+    absurd (cannot ((subst (λ n. IfNone n (it ∷ due ≢ [] → (grouping ≡ ByServer) × may)) none waits) some).1)
 
+none_sent : (sends : List KeySend) → servers_of sends ≡ [] → sends ≡ []
+none_sent [] is = refl
+none_sent (send ∷ sends) is = absurd (let no : ⊥ = cc in no)
+
+-- no request is under way for keys
+pub not_waiting : (keys : KeysState) (waits : Bool) → IsTrue waits ↔ (awaited keys ≢ []) → waits ≡ false → awaited keys ≡ []
+not_waiting keys waits some none = subst (λ b. OnFalse b (awaited keys ≡ [])) none (none_true (awaited keys) waits some)
+
+-- nothing is due or under way for them, what came was taken on, and none may be begun
+pub complete_by : (keys : KeysState) (next : Option ℕ) (waits may : Bool) → keys.came.places ≡ []
+    → IfNone next (keys.due ≢ [] → (keys.plan.grouping ≡ ByServer) × MayBegin keys) → IsTrue waits ↔ (awaited keys ≢ []) → IsTrue may ↔ MayBegin keys
+    → next ≡ None → waits ≡ false → may ≡ false → IsComplete keys
+complete_by keys next waits may settled due some begins first none never = (nothing, cannot)
+  where
     cannot : ¬ (MayBegin keys)
     cannot begin = let yes' : true ≡ false = sym (begins.1 begin) ∙ never in let no : ⊥ = cc in no
 
+    nothing : places_in keys.due keys.sends keys.came ≡ []
+    nothing =
+        ap (λ xs. places_in xs keys.sends keys.came) (none_due keys.due next (MayBegin keys) keys.plan.grouping first due cannot)
+        ∙ ap (λ xs. places_in [] xs keys.came) (none_sent keys.sends (not_waiting keys waits some none)) ∙ settled
+
 -- the keys of a request, none of which was begun
-new_under_way : (config : Configuration) (request : Request) (most : ℕ) (keys : KeysState) → 0 < most → IsNew request most keys → AreUnderWay config keys
-new_under_way config request most keys some is =
-    subst (AreUnderWay config) (sym is.is) (record {
-      asked = All-nil (IsAskedAt config []);
-      once = λ place. refl;
-      some = some;
-      few = omega arith;
-      near = omega arith;
-      failed = λ never. absurd (let no : ⊥ = cc in no);
-    })
+new_settled : (config : Configuration) (request : Request) (plan : KeyPlan) (keys : KeysState) → 0 < plan.most → IsNew request plan keys → AreSettled config keys
+new_settled config request plan keys some is = record {
+  under_way = subst (AreUnderWay config) (sym is.is) (record {
+    due = All-nil (IsDueAt config []);
+    sent = All-nil (IsSentAt config plan.grouping is.unique []);
+    came = record { each = All-nil (IsOutAt config []); parts = omega arith; replied = tt };
+    once = λ place. refl;
+    some = some;
+    few = omega arith;
+    near = omega arith;
+    failed = λ never. absurd (let no : ⊥ = cc in no);
+  });
+  settled = ap (λ (k : KeysState). k.came.places) is.is;
+}
 
 module _ {H T C : Type 0} (ghosts : PartsGhosts H (List ℕ) T C) where
   -- nothing was done; or one act
@@ -268,8 +291,8 @@ module _ {H T C : Type 0} (ghosts : PartsGhosts H (List ℕ) T C) (servers : H �
       let asks : IsAsking (asked_in came) (awaited_by old) (awaited now) =
       subst (λ k. IsAsking (asked_in came) (awaited_with k old.session.work) (awaited now)) (sym are) call.asks in record {
         gone = gone_one ghosts call.done (
-          act.keyed call.done keys now has call.act refl (ap (λ p. client_at p (record old { keys = Some now })) (keys_phase came call.left.goes)),
-          call.gains,
+          act.keyed call.done keys now has call.act.0 refl (ap (λ p. client_at p (record old { keys = Some now })) (keys_phase came call.left.goes)),
+          call.act.1,
         );
         asks = asks;
         left = keys_left came old keys now parts parts after ready at refl call.left
@@ -301,7 +324,7 @@ module _ {H T C : Type 0} (ghosts : PartsGhosts H (List ℕ) T C) (servers : H �
       let read = subst (driven.IsReadyFor parts.config old.session) hands.at ready.session in
       let nobody : awaited_by old ≡ [] = session_awaits old None none.0 (goes_none old.session.work none.1) in
       let empty : awaited_by new ≡ [] = ap (λ k. awaited_with k new.session.work) keyed ∙ ap awaited begins.is in
-      let under : AreUnderWay parts.config keys = new_under_way parts.config request old.most keys (omega (arith, several)) begins in
+      let begun : AreSettled parts.config keys = new_settled parts.config request old.plan keys (omega (arith, several)) begins in
       subst (λ w. IsCalled ghosts servers w (old, parts) (new, parts)) (sym is) (record {
         gone = gone_one ghosts [] (act.handed request keys refl several hands begins refl (ap (client_at Open) same), gains_none parts);
         asks = same_asking (awaited_by old) (awaited_by new) (empty ∙ sym nobody);
@@ -311,7 +334,7 @@ module _ {H T C : Type 0} (ghosts : PartsGhosts H (List ℕ) T C) (servers : H �
           reading = tt;
           ready = record {
             session = subst (λ (s : SessionState). IsReady parts.config s) (sym hands.state) read.begins;
-            keys = subst (λ k. AreKeysReady parts.config k new.session.work) (sym keyed) (at, under);
+            keys = subst (λ k. AreKeysReady parts.config k new.session.work) (sym keyed) (at, begun);
           };
           stays = no_change;
         };
@@ -333,28 +356,26 @@ module _ {H T C : Type 0} (ghosts : PartsGhosts H (List ℕ) T C) (servers : H �
       })
 
   -- the reply of a request whose keys are complete was taken, or it was dropped
-  pub ended_called : (came : Went) (old new : Answering) (parts : Parts H (List ℕ) T C) → IsAnsweringReady parts.config old → AreKeysComplete old → HasEndedKeys came old new
-      → IsCalled ghosts servers came (old, parts) (new, parts)
-  ended_called came old new parts ready complete (handing.replied keys are lost same is) =
+  pub ended_called : (came : Went) (old new : Answering) (parts : Parts H (List ℕ) T C) → IsAnsweringReady parts.config old → AreKeysComplete old → awaited_by old ≡ []
+      → HasEndedKeys came old new → IsCalled ghosts servers came (old, parts) (new, parts)
+  ended_called came old new parts ready complete nobody (handing.replied keys are lost same is) =
       let keys_same : complete.keys ≡ keys = (let both : Some complete.keys ≡ Some keys = sym complete.are ∙ are in cc) in
       let over : IsComplete keys = subst IsComplete keys_same complete.complete in
       let has : act.HasKeys (client_at Open old) keys = record { going = refl; at = complete.handed.at; are = are } in
       let without : new.keys ≡ None = ap (λ (it : Answering). it.keys) same in
       let between : new.session.work ≡ work.Between = ap (λ (it : Answering). it.session.work) same in
-      let nobody : awaited_by old ≡ [] = ap (λ k. awaited_with k old.session.work) are ∙ ap servers_of over.0 in
       let empty : awaited_by new ≡ [] = session_awaits new None without (ap awaited_in between) in
       subst (λ w. IsCalled ghosts servers w (old, parts) (new, parts)) (sym is) (record {
         gone = gone_one ghosts [] (act.replied keys has over lost refl (ap (client_at Open) same), gains_none parts);
         asks = same_asking (awaited_by old) (awaited_by new) (empty ∙ sym nobody);
         left = session_left went.On old new parts parts without tt (subst IsOwn (sym between) tt) (ap awaited_in between) tt (between_ready parts.config new.session between) no_change;
       })
-  ended_called came old new parts ready complete (handing.lost keys are same is) =
+  ended_called came old new parts ready complete nobody (handing.lost keys are same is) =
       let keys_same : complete.keys ≡ keys = (let both : Some complete.keys ≡ Some keys = sym complete.are ∙ are in cc) in
       let over : IsComplete keys = subst IsComplete keys_same complete.complete in
       let has : act.HasKeys (client_at Open old) keys = record { going = refl; at = complete.handed.at; are = are } in
       let without : new.keys ≡ None = ap (λ (it : Answering). it.keys) same in
       let between : new.session.work ≡ work.Between = ap (λ (it : Answering). it.session.work) same in
-      let nobody : awaited_by old ≡ [] = ap (λ k. awaited_with k old.session.work) are ∙ ap servers_of over.0 in
       let empty : awaited_by new ≡ [] = session_awaits new None without (ap awaited_in between) in
       subst (λ w. IsCalled ghosts servers w (old, parts) (new, parts)) (sym is) (record {
         gone = gone_one ghosts [] (act.keys_lost keys has over refl (ap (client_at Short) same), gains_none parts);

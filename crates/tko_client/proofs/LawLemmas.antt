@@ -5,14 +5,15 @@ use Rattle.tko_model.specs.Records.{Gains, Lead}
 use Rattle.tko_pools.specs.Configs.{Configuration}
 use Rattle.tko_reply.specs.Ghosts.{PartsGhosts}
 use Rattle.tko_reply.specs.Interactions.{Interaction}
-use Rattle.tko_keys.specs.KeysActs.{key_came}
+use Rattle.tko_keys.specs.declared.plan.KeyPlan.{KeyPlan}
 use Rattle.tko_session.specs.Acts.{IsAct, came_to}
 use Rattle.tko_session.specs.Clients.{Client, IsClient, Life, life, lived, new_client, no_life}
 use Rattle.tko_session.proofs.ActLemmas.{acted}
 use Rattle.tko_session.proofs.LifeLemmas.{begins}
 use Rattle.tko_port.specs.Talks.{Dropped, Ended, Fed, NotFed, Sent, TalkItem, Took, Went}
 use Rattle.tko_client.specs.Comings.{result_of}
-use Rattle.tko_client.specs.Clients.{ClientOver, Does, DoesAs, by_key, by_session, HasLife, IsOwnTalk, bytes_in}
+use Rattle.tko_client.specs.Clients.{ClientOver, Does, DoesAs, by_keys, by_session, HasLife, IsOwnTalk, bytes_in}
+use Rattle.tko_client.specs.Keys.{came_by}
 
 -- the bytes that a call gives to the client
 abbrev pub bytes_out : TalkItem → Client → List ℕ
@@ -73,9 +74,9 @@ module _ {H T C : Type 0} (ghosts : PartsGhosts H (List ℕ) T C) (config : Conf
   did it old new (Took server came asked) same is (by_session none taken) =
       let adds : Life = life [] [] (came_to taken.it (result_of came) ∷ taken.then) in
       one_act it adds old.0 new.0 is (subst (λ c. IsAct c old.0 adds new.0) same taken.act.0)
-  did it old new (Took server came asked) same is (by_key taken) =
-      let adds : Life = life [] [] (key_came taken.slot taken.waiting (result_of came) ∷ taken.then) in
-      one_act it adds old.0 new.0 is (subst (λ c. IsAct c old.0 adds new.0) same taken.act.0)
+  did it old new (Took server came asked) same is (by_keys taken) =
+      let calls = (came_by (result_of came) taken.keys.slots taken.send ++ taken.then) ∷ taken.calls in
+      gone_life it old calls new is (subst (λ c. Lead (Does ghosts c) old calls new) same taken.gains.leads)
 
   talked : (it : Life) (old : Client) (items : List TalkItem) (new : Client) → IsClient config it old → Lead (IsOwnTalk ghosts config) old items new
       → Takes config it (flat_map bytes_in items) new
@@ -88,6 +89,6 @@ module _ {H T C : Type 0} (ghosts : PartsGhosts H (List ℕ) T C) (config : Conf
         from = grown.from ∙ ap (λ bytes. bytes ++ flat_map bytes_in items) first.from ∙ append_assoc it.bytes (bytes_in item) (flat_map bytes_in items);
       }
 
-  pub has_life : (most : ℕ) (items : List TalkItem) (now : Client) → Gains (IsOwnTalk ghosts config) (new_client most) items now → HasLife config items now
-  has_life most items now gains =
-      let grown = talked no_life (new_client most) items now (begins most config) gains.leads in record { it = grown.more; is = grown.is; bytes = grown.from }
+  pub has_life : (plan : KeyPlan) (items : List TalkItem) (now : Client) → Gains (IsOwnTalk ghosts config) (new_client plan) items now → HasLife config items now
+  has_life plan items now gains =
+      let grown = talked no_life (new_client plan) items now (begins plan config) gains.leads in record { it = grown.more; is = grown.is; bytes = grown.from }

@@ -1,6 +1,8 @@
+pub mod ArrivingLemmas
 pub mod AskLemmas
 pub mod CallLemmas
 pub mod ClientLemmas
+pub mod CountLemmas
 pub mod GoingLemmas
 pub mod HandingLemmas
 pub mod KeysLemmas

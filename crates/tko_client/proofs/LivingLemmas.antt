@@ -7,6 +7,7 @@ use Rattle.tko_reply.specs.declared.parts.Parts.{Parts}
 use Rattle.tko_session.specs.Clients.{IsClient, Life, life, new_client, no_life}
 use Rattle.tko_mux.specs.Awaits.{awaited_one}
 use Rattle.tko_keys.specs.KeysState.{KeysState}
+use Rattle.tko_keys.specs.declared.plan.KeyPlan.{KeyPlan}
 use Rattle.tko_session.specs.Awaiting.{awaited_in}
 use Rattle.tko_session.specs.Driven.{IsReady, MayGoOn}
 use Rattle.tko_session.specs.Outgoing.{outgoing, outgoing_in, sent_from, shifted_work}
@@ -104,8 +105,8 @@ sent_over config old new count over sent ready same =
     }
 
 -- a client that has just come
-pub new_ready : (config : Configuration) (most : ℕ) (it : EventClient) → IsReadyOver config it → client_of it ≡ new_client most → IsReadyAfter config [] [] it
-new_ready config most it over is = record { over = over; done = []; is = subst (λ c. IsClient config no_life c) (sym is) (begins most config) }
+pub new_ready : (config : Configuration) (plan : KeyPlan) (it : EventClient) → IsReadyOver config it → client_of it ≡ new_client plan → IsReadyAfter config [] [] it
+new_ready config plan it over is = record { over = over; done = []; is = subst (λ c. IsClient config no_life c) (sym is) (begins plan config) }
 
 module _ {H T C : Type 0} (ghosts : PartsGhosts H (List ℕ) T C) {servers : H → ℕ} where
   -- these bytes came, and these went

@@ -1,27 +1,29 @@
--- What came of a request that is under way is taken, and counted as a send if it was sent.
-use Rattle.std.proofs.Common.{◌≡◌, ◌≢◌, ◌<◌, ℕ, ◌+◌, Bool, true, false, List, [], ◌∷◌, ◌++◌, length, Option, Some, None, Result, Ok, Err, refl, sym, ap, subst, ◌∙◌, add-zero, slice_index}
-use Rattle.std.specs.Prelude.{MatchBool, IsSome}
+-- What came of a request that is under way is taken, and counted as sends if it was sent.
+use Rattle.std.proofs.Common.{◌≡◌, ◌≢◌, ◌<◌, ℕ, Bool, true, false, List, [], ◌∷◌, ◌++◌, All, length, Option, Some, None, Result, Ok, Err, refl, sym, ap, subst, ◌∙◌, arith, slice_index}
+use Rattle.std.specs.Prelude.{IsSome}
+use Rattle.std.proofs.lemmas.List.Elements.{All-head}
 use Rattle.tko_links.specs.declared.links.NoMemory.{NoMemory}
 use Rattle.tko_links.specs.declared.links.Outcome.{Outcome}
-use Rattle.tko_links.specs.declared.links.Outcome.TheVariants as outcome
-use Rattle.tko_links.specs.Links.{is_sent, most_sends, part_of}
+use Rattle.tko_links.specs.Links.{is_sent, most_sends}
 use Rattle.tko_health.specs.declared.health.Health.{Ghosts as HealthGhosts}
+use Rattle.tko_model.specs.Records.{Lead}
 use Rattle.tko_model.proofs.RecordLemmas.{gains_append, gains_one}
-use Rattle.tko_pools.specs.Configs.{AreServers, Configuration}
+use Rattle.tko_pools.specs.Configs.{Configuration}
 use Rattle.tko_route.specs.Calls.{came as came_as}
-use Rattle.tko_route.specs.Underway.{Awaited}
-use Rattle.tko_route.specs.declared.attempt.Attempt.{Attempt}
 use Rattle.tko_text.specs.declared.request.Request.{Request}
-use Rattle.tko_reply.specs.Interactions.{Interaction, Interacts, Made, Noted, with_links, with_noted}
+use Rattle.tko_reply.specs.Ghosts.{PartsGhosts}
+use Rattle.tko_reply.specs.Interactions.{Interaction, Interacts, Made, Noted, with_noted}
 use Rattle.tko_reply.specs.Sends.{IsSent}
 use Rattle.tko_reply.specs.Standing.{Asking, asking}
 use Rattle.tko_reply.specs.declared.parts.Parts.{Parts}
 use Rattle.tko_reply.specs.declared.trails.Trails.{Ghosts as TrailsGhosts}
 use Rattle.tko_mux.specs.Awaits.{awaited_one, times_due}
 use Rattle.tko_mux.proofs.AwaitsLemmas.{awaits_one}
-use Rattle.tko_keys.specs.KeysActs.{KeysAct, key_came}
-use Rattle.tko_keys.specs.KeysDriven.{AreUnderWay, IsAskedAt}
-use Rattle.tko_keys.specs.KeysState.{KeySlot, KeysState, awaited, first_at}
+use Rattle.tko_keys.specs.declared.plan.Grouping.{Grouping}
+use Rattle.tko_keys.specs.KeysDriven.{AreUnderWay, IsDueAt, IsSentAt}
+use Rattle.tko_keys.specs.KeysDriven as driven
+use Rattle.tko_keys.specs.KeysState.{KeySlot, KeysState, awaited, first_send}
+use Rattle.tko_keys.specs.Lines.{IsSentBy}
 use Rattle.tko_session.specs.Acts.{IsLoss, IsSessionCall, came_to}
 use Rattle.tko_session.specs.Acts as act
 use Rattle.tko_session.specs.Awaiting.{awaited_in}
@@ -30,26 +32,21 @@ use Rattle.tko_session.specs.Driven.{IsAwaiting, IsReady, dropped}
 use Rattle.tko_session.specs.SessionState.{SessionState}
 use Rattle.tko_session.specs.Working.{Work}
 use Rattle.tko_session.specs.Working as work
-use Rattle.tko_text.specs.Reading.{Reading}
 use Rattle.tko_client.specs.declared.answering.Answering.{Answering}
 use Rattle.tko_client.specs.declared.calls.Went.{Went}
 use Rattle.tko_client.specs.declared.calls.Went.TheVariants as went
-use Rattle.tko_client.specs.Answerings.{AreKeysReady, IsAnsweringReady, IsOwn, awaited_by, awaited_with, client_at}
-use Rattle.tko_client.specs.Calls.{IsLeft, IsTakenAs}
-use Rattle.tko_client.specs.Clients.{HasTaken, HasTakenKey, HasTakenSend, by_key, by_session}
-use Rattle.tko_client.specs.Keys.{HasKeyCame, TakesAt}
+use Rattle.tko_client.specs.Answerings.{IsAnsweringReady, IsOwn, awaited_by, awaited_with, client_at}
+use Rattle.tko_client.specs.Calls.{IsTakenAs}
+use Rattle.tko_client.specs.Clients.{Does, by_keys, by_session}
+use Rattle.tko_client.specs.Counts.{IsCounted}
+use Rattle.tko_client.specs.Keys.{DoesForKeys, HaveCome, KeysOver, TakesAt, came_by}
 use Rattle.tko_client.specs.Staying.{stayed_on}
 use Rattle.tko_client.specs.Steps.{HasStayed, IsLostTaking, IsOfSession, IsTaken, WentReading, asked_in, client_ghosts, phase_of}
-use Rattle.tko_client.proofs.AskLemmas.{awaits_first, one_taken, taken_some}
+use Rattle.tko_client.proofs.AskLemmas.{awaits_first, first_server, one_taken}
 use Rattle.tko_client.proofs.CallLemmas.{out_at}
-use Rattle.tko_client.proofs.GoingLemmas.{between_ready, handed_at, keys_left, keys_phase, session_awaits, session_left, short_left, under_way}
-use Rattle.tko_client.proofs.KeysLemmas.{first_asked_at}
-
-ok_same : {A E : Type 0} (x y : A) (one other : Result A E) → one ≡ Ok x → other ≡ Ok y → one ≡ other → x ≡ y
-ok_same x y one other is not_other same = cc
-
-err_ok : {A E : Type 0} (x : E) (y : A) (one other : Result A E) → one ≡ Err x → other ≡ Ok y → one ≡ other → ⊥
-err_ok x y one other is not_other same = cc
+use Rattle.tko_client.proofs.CountLemmas.{counted, one_stays, uncounted}
+use Rattle.tko_client.proofs.GoingLemmas.{between_ready, handed_at, keys_left, session_awaits, session_left, settled, short_left}
+use Rattle.tko_client.proofs.KeysLemmas.{all_first, some_first}
 
 -- the send that is out is to the server that is awaited
 pub record IsSentTo (at : Work) (server : ℕ) : Type 0 where
@@ -71,8 +68,31 @@ sent_to it server none some =
 pub sent_awaits : (at : Work) (server : ℕ) → IsSentTo at server → IsAwaiting at
 sent_awaits at server is = subst IsAwaiting (sym is.is) tt
 
-pub keys_awaits : (it : Answering) (keys : KeysState) (server : ℕ) → it.keys ≡ Some keys → 0 < times_due (awaited_by it) server → IsSome (first_at server keys.asks)
-keys_awaits it keys server are some = awaits_first server keys.asks (subst (λ k. 0 < times_due (awaited_with k it.session.work) server) are some)
+pub keys_awaits : (it : Answering) (keys : KeysState) (server : ℕ) → it.keys ≡ Some keys → 0 < times_due (awaited_by it) server → IsSome (first_send server keys.sends)
+keys_awaits it keys server are some = awaits_first server keys.sends (subst (λ k. 0 < times_due (awaited_with k it.session.work) server) are some)
+
+-- the first request at a server is one to a target of its keys
+record IsFirstSent (config : Configuration) (server : ℕ) : Type 0 where
+  targets : List ℕ
+  it : Asking
+  sent : IsSent config targets it
+  to : it.waiting.server ≡ server
+
+-- a key of it
+one_sent : (config : Configuration) (slots : List KeySlot) (to : ℕ) (places : List ℕ) (unique : Bool) (grouping : Grouping) (line : Option Request)
+    → All (λ place. IsDueAt config slots (driven.due place to)) places → IsSentBy grouping unique slots places line → IsFirstSent config to
+one_sent config slots to [] unique grouping None each one = absurd (omega (arith, one))
+one_sent config slots to [] unique grouping (Some line) each (groups, some, is) = absurd (some refl)
+one_sent config slots to (place ∷ places) unique grouping line each by =
+    let is = All-head (λ (it : ℕ). IsDueAt config slots (driven.due it to)) place places each in
+    record { targets = is.slot.targets; it = asking is.waiting is.slot.key; sent = is.is.sent; to = is.server }
+
+first_to : (config : Configuration) (keys : KeysState) (server : ℕ) → AreUnderWay config keys → IsSome (first_send server keys.sends) → IsFirstSent config server
+first_to config keys server ready some =
+    let found = some_first (first_send server keys.sends) some in
+    let sent = all_first (IsSentAt config keys.plan.grouping keys.unique keys.slots) server keys.sends found.0 ready.sent found.1 in
+    subst (IsFirstSent config) (first_server server keys.sends found.0 found.1)
+    (one_sent config keys.slots found.0.server found.0.places keys.unique keys.plan.grouping found.0.line sent.each sent.by)
 
 -- a server that is awaited is one
 sent_within : (config : Configuration) (targets : List ℕ) (it : Asking) → IsSent config targets it → it.waiting.server < length config.addresses
@@ -87,39 +107,8 @@ awaited_within config it server ready some = by it.keys refl
         let sent = sent_to it server none some in
         subst (λ n. n < length config.addresses) sent.to (sent_within config it.session.targets sent.it (out_at config it.session sent.it sent.is ready.session))
     by (Some keys) are =
-        let found = first_asked_at config keys server (under_way ready are) (keys_awaits it keys server are some) in
+        let found = first_to config keys server (settled ready are).under_way (keys_awaits it keys server are some) in
         subst (λ n. n < length config.addresses) found.to (sent_within config found.targets found.it found.sent)
-
-module _ {H T C : Type 0} (health : HealthGhosts H) (trails : TrailsGhosts T) where
-  -- a send was counted, and came to this
-  counted : (server : ℕ) (request : Request) (result : Outcome) (parts mid : Parts H (List ℕ) T C) → is_sent result ≡ true → slice_index parts.backend.links server ≢ most_sends
-      → ((at : ℕ) → slice_index mid.backend.links at ≡ slice_index parts.backend.links at + part_of true server at)
-      → mid ≡ with_links mid.backend.links parts → Interacts (client_ghosts health trails) parts (Made (came_as server request (Ok result))) mid
-  counted server request result parts mid sent room rises others = (
-    record {
-      item = subst (λ b. MatchBool b (Unit {0}) (mid.backend.links ≡ parts.backend.links)) (sym sent) tt;
-      spent = (
-        λ same. absurd (let is : result ≡ outcome.Spent = ok_same result outcome.Spent _ _ refl refl same in let no : false ≡ true = sym (ap is_sent is) ∙ sent in let never : ⊥ = cc in never),
-        λ full. absurd (room full),
-      );
-      sends = λ at. subst (λ b. slice_index mid.backend.links at ≡ slice_index parts.backend.links at + part_of b server at) (sym sent) (rises at);
-    },
-    λ at. refl,
-    others,
-  )
-
-  -- it was not possible
-  uncounted : (server : ℕ) (request : Request) (parts : Parts H (List ℕ) T C) → slice_index parts.backend.links server ≢ most_sends
-      → Interacts (client_ghosts health trails) parts (Made (came_as server request (Err (record { sent = false })))) parts
-  uncounted server request parts room = (
-    record {
-      item = refl;
-      spent = (λ same. absurd (err_ok _ outcome.Spent _ _ refl refl same), λ full. absurd (room full));
-      sends = λ at. sym (add-zero (slice_index parts.backend.links at));
-    },
-    λ at. refl,
-    refl,
-  )
 
 -- whom a client awaits once what came to its session was taken
 session_takes : (server : ℕ) (asked : Option ℕ) (old new : Answering) → old.keys ≡ None → IsSentTo old.session.work server → new.keys ≡ None
@@ -133,31 +122,24 @@ keys_takes : (server : ℕ) (asked : Option ℕ) (old : Answering) (keys now : K
     → TakesAt server asked (awaited_by old) (awaited now)
 keys_takes server asked old keys now are takes = subst (λ k. TakesAt server asked (awaited_with k old.session.work) (awaited now)) (sym are) takes
 
-keys_some : (server : ℕ) (asked : Option ℕ) (old : Answering) (keys now : KeysState) → old.keys ≡ Some keys → 0 < times_due (awaited_by old) server
-    → TakesAt server asked (awaited keys) (awaited now) → (next : ℕ) → asked ≡ Some next → awaited now ≢ []
-keys_some server asked old keys now are some takes next is =
-    taken_some server next (awaited keys) (awaited now) (subst (λ k. 0 < times_due (awaited_with k old.session.work) server) are some)
-    (subst (λ a. TakesAt server a (awaited keys) (awaited now)) is takes)
-
--- a send to this server was counted
-pub record HasCounted {H T C : Type 0} (server : ℕ) (old new : Parts H (List ℕ) T C) : Type 0 where
-  pub rises : (at : ℕ) → slice_index new.backend.links at ≡ slice_index old.backend.links at + part_of true server at
-  pub room : slice_index old.backend.links server ≢ most_sends
-  pub servers : length new.backend.links ≡ length old.backend.links
-  pub others : new ≡ with_links new.backend.links old
-
-module _ {H T C : Type 0} {servers : H → ℕ} where
-  counted_stays : {server : ℕ} {old new : Parts H (List ℕ) T C} → HasCounted server old new → HasStayed servers old new
-  counted_stays counts = record {
-    config = ap (λ (p : Parts H (List ℕ) T C). p.config) counts.others;
-    health = ap (λ (p : Parts H (List ℕ) T C). servers p.backend.health) counts.others;
-    links = counts.servers;
-  }
+module _ {H T C : Type 0} (ghosts : PartsGhosts H (List ℕ) T C) where
+  -- acts for keys are acts of their client
+  keys_lead : (config : Configuration) (old : Answering) (keys now : KeysState) (parts after : Parts H (List ℕ) T C) (calls : List (List Interaction)) → old.session.work ≡ work.HandedOver
+      → old.keys ≡ Some keys → Lead (DoesForKeys ghosts config) (keys, parts) calls (now, after)
+      → Lead (Does ghosts config) (client_at Open old, parts) calls (client_at Open (record old { keys = Some now }), after)
+  keys_lead config old keys now parts after [] at are same =
+      ap (λ (k : KeysOver H T C). (client_at Open (record old { keys = Some k.0 }), k.1)) same ∙ ap (λ k. (client_at Open (record old { keys = k }), parts)) (sym are)
+  keys_lead config old keys now parts after (done ∷ calls) at are ((mid, between), step, rest) =
+      let has : act.HasKeys (client_at Open old) keys = record { going = refl; at = at; are = are } in (
+        (client_at Open (record old { keys = Some mid }), between),
+        (act.keyed done keys mid has step.0 refl refl, step.1),
+        keys_lead config (record old { keys = Some mid }) mid now between after calls at refl rest,
+      )
 
 module _ {H T C : Type 0} (health : HealthGhosts H) (trails : TrailsGhosts T) (servers : H → ℕ) where
   -- the session took what came of its send
   pub session_taken : (came : Went) (server : ℕ) (result : Outcome) (old new : Answering) (parts mid after : Parts H (List ℕ) T C) → old.keys ≡ None
-      → IsSentTo old.session.work server → is_sent result ≡ true → HasCounted server parts mid → new ≡ record old { session = new.session; told = new.told }
+      → IsSentTo old.session.work server → is_sent result ≡ true → IsCounted parts server mid → new ≡ record old { session = new.session; told = new.told }
       → IsTaken (client_ghosts health trails) result (phase_of came) (old.session, mid) (new.session, after) → IsOfSession came → IsOwn new.session.work
       → awaited_in new.session.work ≡ asked_in came → WentReading came new.session.reading → IsReady after.config new.session → HasStayed servers mid after
       → IsTakenAs (client_ghosts health trails) servers false server (Ok result) came (old, parts) (new, after)
@@ -169,7 +151,7 @@ module _ {H T C : Type 0} (health : HealthGhosts H) (trails : TrailsGhosts T) (s
       let without : new.keys ≡ None = ap (λ (it : Answering). it.keys) same ∙ none in
       let sends : Interacts (client_ghosts health trails) parts (came_to step.it (Ok result)) mid =
       subst (λ n. Interacts (client_ghosts health trails) parts (Made (came_as n step.it.key.request (Ok result))) mid) (sym to)
-      (counted health trails server step.it.key.request result parts mid is_sent_out counts.room counts.rises counts.others) in record {
+      (counted health trails server step.it.key.request result parts mid is_sent_out counts) in record {
         taken = by_session none (record {
           it = step.it;
           at = step.at;
@@ -181,12 +163,12 @@ module _ {H T C : Type 0} (health : HealthGhosts H) (trails : TrailsGhosts T) (s
           );
         });
         takes = session_takes server (asked_in came) old new none sent without asks;
-        left = session_left came old new parts after without goes own asks reading ready (stayed_on (counted_stays counts) stays);
+        left = session_left came old new parts after without goes own asks reading ready (stayed_on (one_stays counts) stays);
       }
 
   -- memory ran out as it did
   pub session_lost : (server : ℕ) (result : Outcome) (old new : Answering) (parts mid after : Parts H (List ℕ) T C) → old.keys ≡ None
-      → IsSentTo old.session.work server → is_sent result ≡ true → HasCounted server parts mid → new ≡ record old { session = new.session; told = new.told }
+      → IsSentTo old.session.work server → is_sent result ≡ true → IsCounted parts server mid → new ≡ record old { session = new.session; told = new.told }
       → IsLostTaking (client_ghosts health trails) result (old.session, mid) (new.session, after) → new.session.work ≡ work.Between → HasStayed servers mid after
       → IsTakenAs (client_ghosts health trails) servers false server (Ok result) went.Short (old, parts) (new, after)
   session_lost server result old new parts mid after none sent is_sent_out counts same step between stays =
@@ -197,7 +179,7 @@ module _ {H T C : Type 0} (health : HealthGhosts H) (trails : TrailsGhosts T) (s
       let without : new.keys ≡ None = ap (λ (it : Answering). it.keys) same ∙ none in
       let sends : Interacts (client_ghosts health trails) parts (came_to step.it (Ok result)) mid =
       subst (λ n. Interacts (client_ghosts health trails) parts (Made (came_as n step.it.key.request (Ok result))) mid) (sym to)
-      (counted health trails server step.it.key.request result parts mid is_sent_out counts.room counts.rises counts.others) in record {
+      (counted health trails server step.it.key.request result parts mid is_sent_out counts) in record {
         taken = by_session none (record {
           it = step.it;
           at = step.at;
@@ -209,63 +191,27 @@ module _ {H T C : Type 0} (health : HealthGhosts H) (trails : TrailsGhosts T) (s
           );
         });
         takes = session_takes server None old new none sent without (ap awaited_in between);
-        left = short_left old new parts after without between (between_ready after.config new.session between) (stayed_on (counted_stays counts) stays);
+        left = short_left old new parts after without between (between_ready after.config new.session between) (stayed_on (one_stays counts) stays);
       }
 
-  -- what came of a request for a key was taken
-  pub keys_taken : (came : Went) (server : ℕ) (result : Outcome) (old : Answering) (keys now : KeysState) (parts mid after : Parts H (List ℕ) T C) → IsAnsweringReady parts.config old
-      → old.keys ≡ Some keys → 0 < times_due (awaited_by old) server → is_sent result ≡ true → HasCounted server parts mid
-      → HasKeyCame (client_ghosts health trails) false server (Ok result) came (keys, mid) (now, after) → HasStayed servers mid after
-      → IsTakenAs (client_ghosts health trails) servers false server (Ok result) came (old, parts) (record old { keys = Some now }, after)
-  keys_taken came server result old keys now parts mid after ready are some is_sent_out counts call stays =
-      let config : mid.config ≡ parts.config = ap (λ (p : Parts H (List ℕ) T C). p.config) counts.others in
-      let at = handed_at ready are in
-      let has : act.HasKeys (client_at Open old) keys = record { going = refl; at = at; are = are } in
-      let done = key_came call.slot call.waiting (Ok result) ∷ call.then in
-      let sends : Interacts (client_ghosts health trails) parts (key_came call.slot call.waiting (Ok result)) mid =
-      subst (λ n. Interacts (client_ghosts health trails) parts (Made (came_as n call.slot.key.request (Ok result))) mid) (sym call.out.to)
-      (counted health trails server call.slot.key.request result parts mid is_sent_out counts.room counts.rises counts.others) in record {
-        taken = by_key (record {
+  -- what came of a request for keys was taken
+  pub keys_taken : (unsent : Bool) (server : ℕ) (result : Result Outcome NoMemory) (old : Answering) (keys now : KeysState) (parts after : Parts H (List ℕ) T C)
+      → IsAnsweringReady parts.config old → old.keys ≡ Some keys → HaveCome (client_ghosts health trails) unsent server result (keys, parts) (now, after) → HasStayed servers parts after
+      → IsTakenAs (client_ghosts health trails) servers unsent server result went.On (old, parts) (record old { keys = Some now }, after)
+  keys_taken unsent server result old keys now parts after ready are come stays =
+      let at = handed_at ready are in record {
+        taken = by_keys (record {
           keys = keys;
           are = are;
-          slot = call.slot;
-          waiting = call.waiting;
-          out = call.out;
-          then = call.then;
-          act = (
-            act.keyed done keys now has (subst (λ c. KeysAct c keys done now) config call.act) refl
-                (ap (λ p. client_at p (record old { keys = Some now })) (keys_phase came call.left.goes)),
-            gains_append (gains_one sends) call.gains,
-          );
+          send = come.send;
+          is = come.is;
+          then = come.then;
+          calls = come.calls;
+          gains = record { leads = keys_lead (client_ghosts health trails) parts.config old keys now parts after ((came_by result keys.slots come.send ++ come.then) ∷ come.calls) at are come.gains.leads };
         });
-        takes = keys_takes server (asked_in came) old keys now are call.takes;
-        left = keys_left came old keys now parts mid after ready at config call.left (keys_some server (asked_in came) old keys now are some call.takes)
-            (stayed_on (counted_stays counts) stays);
-      }
-
-  -- memory ran out for a request for a key
-  pub keys_stopped : (unsent : Bool) (server : ℕ) (old : Answering) (keys now : KeysState) (parts after : Parts H (List ℕ) T C) → IsAnsweringReady parts.config old
-      → old.keys ≡ Some keys → 0 < times_due (awaited_by old) server → slice_index parts.backend.links server ≢ most_sends
-      → HasKeyCame (client_ghosts health trails) unsent server (Err (record { sent = false })) went.On (keys, parts) (now, after) → HasStayed servers parts after
-      → IsTakenAs (client_ghosts health trails) servers unsent server (Err (record { sent = false })) went.On (old, parts) (record old { keys = Some now }, after)
-  keys_stopped unsent server old keys now parts after ready are some room call stays =
-      let at = handed_at ready are in
-      let has : act.HasKeys (client_at Open old) keys = record { going = refl; at = at; are = are } in
-      let done = key_came call.slot call.waiting (Err (record { sent = false })) ∷ call.then in
-      let sends : Interacts (client_ghosts health trails) parts (key_came call.slot call.waiting (Err (record { sent = false }))) parts =
-      subst (λ n. Interacts (client_ghosts health trails) parts (Made (came_as n call.slot.key.request (Err (record { sent = false })))) parts) (sym call.out.to)
-      (uncounted health trails server call.slot.key.request parts room) in record {
-        taken = by_key (record {
-          keys = keys;
-          are = are;
-          slot = call.slot;
-          waiting = call.waiting;
-          out = call.out;
-          then = call.then;
-          act = (act.keyed done keys now has call.act refl refl, gains_append (gains_one sends) call.gains);
-        });
-        takes = keys_takes server None old keys now are call.takes;
-        left = keys_left went.On old keys now parts parts after ready at refl call.left (keys_some server None old keys now are some call.takes) stays;
+        takes = keys_takes server None old keys now are come.takes;
+        left = keys_left went.On old keys now parts parts after ready at refl (record { request = tt; goes = tt; ready = come.ready })
+            (λ next is. absurd (let no : ⊥ = cc in no)) stays;
       }
 
   -- memory ran out for the session's send

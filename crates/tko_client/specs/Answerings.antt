@@ -1,6 +1,6 @@
 -- What a client's requests are answered by: its session, or the keys of a request that the session
 -- handed over.
-use Rattle.std.specs.Prelude.{◌≡◌, ◌≢◌, ◌+◌, ◌-◌, ◌^◌, ℕ, List, [], Option, Some, None, length, min}
+use Rattle.std.specs.Prelude.{◌≡◌, ◌+◌, ◌-◌, ◌^◌, ℕ, List, [], Option, Some, None, length, min}
 use Rattle.tko_text.specs.declared.request.Request.{Request}
 use Rattle.tko_pools.specs.Configs.{Configuration}
 use Rattle.tko_mux.specs.Awaits.{awaited_one}
@@ -16,7 +16,7 @@ use Rattle.tko_client.specs.declared.answering.Answering.{Answering}
 -- the client of a worker that this is, where its session stands so
 abbrev pub client_at : ClientPhase → Answering → Client
 client_at phase it =
-    record { most = it.most; phase = phase; session = it.session; keys = it.keys }
+    record { plan = it.plan; phase = phase; session = it.session; keys = it.keys }
 
 -- the servers that its requests are under way to: one at most, without keys
 abbrev pub awaited_with : Option KeysState → Work → List ℕ
@@ -34,7 +34,7 @@ asked_for (work.Awaits it) = Some it.key.request
 asked_for (work.Ended one) = None
 asked_for work.HandedOver = None
 
--- the request that was asked last
+-- the request that is to be sent
 abbrev pub asked_with : Option KeysState → Work → Option Request
 asked_with None at = asked_for at
 asked_with (Some keys) at = asked_last keys
@@ -67,10 +67,15 @@ IsOwn (work.Awaits it) = Unit {0}
 IsOwn (work.Ended one) = Unit {0}
 IsOwn work.HandedOver = ⊥
 
--- the keys of a request can be called, and their session handed it over; or there are none
+-- the keys of a request can be called, and each that something came for was taken on
+pub record AreSettled (config : Configuration) (keys : KeysState) : Type 0 where
+  pub under_way : AreUnderWay config keys
+  pub settled : keys.came.places ≡ []
+
+-- such keys are there, and their session handed the request over; or there are none
 abbrev pub AreKeysReady : Configuration → Option KeysState → Work → Type 0
 AreKeysReady config None at = IsOwn at
-AreKeysReady config (Some keys) at = (at ≡ work.HandedOver) × AreUnderWay config keys
+AreKeysReady config (Some keys) at = (at ≡ work.HandedOver) × AreSettled config keys
 
 pub record IsAnsweringReady (config : Configuration) (it : Answering) : Type 0 where
   pub session : IsReady config it.session

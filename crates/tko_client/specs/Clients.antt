@@ -1,16 +1,14 @@
 -- A client of an event-driven worker: how it stands, and what each call of it is to its life.
-use Rattle.std.specs.Prelude.{◌≡◌, ◌≢◌, ℕ, Bool, List, [], ◌∷◌, Option, Some, None, Result, flat_map, slice_get, take}
+use Rattle.std.specs.Prelude.{◌≡◌, ◌≢◌, ℕ, Bool, List, [], ◌∷◌, ◌++◌, Some, None, Result, flat_map, take}
 use Rattle.tko_model.specs.Records.{Gains}
 use Rattle.tko_links.specs.declared.links.NoMemory.{NoMemory}
 use Rattle.tko_links.specs.declared.links.Outcome.{Outcome}
 use Rattle.tko_pools.specs.Configs.{Configuration}
-use Rattle.tko_route.specs.Underway.{Awaited}
 use Rattle.tko_reply.specs.Ghosts.{PartsGhosts}
 use Rattle.tko_reply.specs.Interactions.{Interaction}
 use Rattle.tko_reply.specs.Standing.{Asking}
 use Rattle.tko_reply.specs.declared.parts.Parts.{Parts}
-use Rattle.tko_keys.specs.KeysActs.{key_came}
-use Rattle.tko_keys.specs.KeysState.{KeySlot, KeysState}
+use Rattle.tko_keys.specs.KeysState.{KeySend, KeysState}
 use Rattle.tko_session.specs.Acts.{came_to}
 use Rattle.tko_session.specs.Clients.{Client, ClientPhase, IsClient, Life, Open, Over as PhaseOver, Short as PhaseShort, life}
 use Rattle.tko_session.specs.ManyClients.{ActsOn}
@@ -26,7 +24,7 @@ use Rattle.tko_client.specs.declared.client.Course.TheVariants.{Ended as CourseE
 use Rattle.tko_client.specs.declared.client.EventClient.{EventClient}
 use Rattle.tko_client.specs.Answerings.{IsAnsweringReady, IsIdle, MayCall, awaited_by, client_at, held_by}
 use Rattle.tko_client.specs.Comings.{is_unsent, result_of}
-use Rattle.tko_client.specs.Keys.{IsOutAt}
+use Rattle.tko_client.specs.Keys.{IsSendOf, came_by}
 
 abbrev pub stage_of : Course → Stage
 stage_of Going = stage.Going
@@ -124,23 +122,24 @@ module _ {H T C : Type 0} (ghosts : PartsGhosts H (List ℕ) T C) where
     pub then : List Interaction
     pub act : Does old.1.config old (came_to it result ∷ then) new
 
-  -- an act in which this came of the request of one of the keys that were handed over, and then more
-  -- was done: of the first that is under way to this server; or of the last, which was not sent
-  pub record HasTakenKey (unsent : Bool) (server : ℕ) (result : Result Outcome NoMemory)
+  -- acts of which the first is that this came of a request for keys that were handed over, for each
+  -- of its keys, and then more was done: of the first that is under way to this server; or of the
+  -- last, which was not sent
+  pub record HasTakenKeys (unsent : Bool) (server : ℕ) (result : Result Outcome NoMemory)
       (old new : ClientOver H T C) : Type 0 where
     pub keys : KeysState
     pub are : old.0.keys ≡ Some keys
-    pub slot : KeySlot
-    pub waiting : Awaited
-    pub out : IsOutAt unsent server keys slot waiting
+    pub send : KeySend
+    pub is : IsSendOf unsent server keys.sends send
     pub then : List Interaction
-    pub act : Does old.1.config old (key_came slot waiting result ∷ then) new
+    pub calls : List (List Interaction)
+    pub gains : Gains (Does old.1.config) old ((came_by result keys.slots send ++ then) ∷ calls) new
 
   pub data HasTaken (unsent : Bool) (server : ℕ) (result : Result Outcome NoMemory)
       (old new : ClientOver H T C) : Type 0 where
     by_session : old.0.keys ≡ None → HasTakenSend server result old new
         → HasTaken unsent server result old new
-    by_key : HasTakenKey unsent server result old new → HasTaken unsent server result old new
+    by_keys : HasTakenKeys unsent server result old new → HasTaken unsent server result old new
 
   -- what is done with a client is acts of its life: its session makes calls, or calls are made for
   -- the keys of its request; memory runs out for it; bytes come, or there is no memory for them;

@@ -2,6 +2,7 @@ pub mod Answerings
 pub mod Calls
 pub mod Clients
 pub mod Comings
+pub mod Counts
 pub mod Handings
 pub mod Keys
 pub mod Staying

@@ -1,5 +1,5 @@
 -- What calls of clients leave of the parts that all share.
-use Rattle.std.proofs.Common.{◌≡◌, ℕ, List, length, refl, sym, subst, ◌∙◌}
+use Rattle.std.proofs.Common.{ℕ, List, refl, sym, subst, ◌∙◌}
 use Rattle.tko_reply.specs.declared.parts.Parts.{Parts}
 use Rattle.tko_session.specs.Clients.{IsClient, life}
 use Rattle.tko_client.specs.declared.client.EventClient.{EventClient}

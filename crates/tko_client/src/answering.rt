@@ -8,7 +8,7 @@ ghost use Rattle.tko_session.specs.Clients.{Open, new_client};
 ghost use Rattle.tko_client.specs.Answerings.{IsAnsweringReady, IsIdle, MayCall, asked_by, awaited_by, client_at, held_by, waited_by};
 
 use std::alloc::Global;
-use tko_keys::KeysAtOnce;
+use tko_keys::{KeyPlan, KeysAtOnce};
 use tko_session::Session;
 use tko_text::Request;
 
@@ -18,16 +18,16 @@ use tko_text::Request;
 pub(crate) struct Answering {
     pub session: Session,
     pub keys: Option<KeysAtOnce>,
-    /// How many keys of a request may be under way at once.
-    pub most: usize,
+    /// How the keys of a request may be sent.
+    pub plan: KeyPlan,
     /// How many of the attempts at the session's key were told.
     pub told: usize,
 }
 
 impl Answering {
     /// Nothing came yet.
-    pub(crate) fn new(alloc: Global, most: usize) -> Answering
-        ensures client { client_at Open result ≡ new_client most }
+    pub(crate) fn new(alloc: Global, plan: KeyPlan) -> Answering
+        ensures client { client_at Open result ≡ new_client plan }
         ensures here { awaited_by result ≡ [] }
         ensures idle { IsIdle result }
         ensures ready { (config : Configuration) → IsAnsweringReady config result }
@@ -35,7 +35,7 @@ impl Answering {
         Answering {
             session: Session::new(alloc),
             keys: None,
-            most,
+            plan,
             told: 0,
         }
     }
@@ -51,17 +51,17 @@ impl Answering {
         }
     }
 
-    /// Whether one more request can be asked for while others are under way.
-    pub(crate) fn may_ask_more(&self) -> bool
+    /// Whether more can be done while requests are under way.
+    pub(crate) fn may_do_more(&self) -> bool
         ensures { OnTrue result (MayCall self.now) }
     {
         match &self.keys {
-            Some(keys) => keys.may_begin(),
+            Some(keys) => keys.next_send().is_some() || keys.may_begin(),
             None => false,
         }
     }
 
-    /// The request that was asked last.
+    /// The request that is to be sent.
     pub(crate) fn request(&self) -> &Request
         requires { IsSome (asked_by self.now) }
         ensures { asked_by self.now ≡ Some result.now }

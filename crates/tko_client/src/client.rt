@@ -11,6 +11,7 @@ use crate::taking::take;
 use std::alloc::Global;
 use tko_bytes::NoMemory;
 use tko_io::IoRuntime;
+use tko_keys::KeyPlan;
 use tko_model::Clear;
 use tko_mux::Came;
 use tko_port::{Stage, Talking, Tally};
@@ -49,14 +50,14 @@ pub struct EventClient {
 }
 
 impl EventClient {
-    /// A client that has just come, of whose requests so many keys may be under way at once.
-    pub fn new(alloc: Global, keys_at_once: usize) -> EventClient
-        ensures client { client_of result ≡ new_client keys_at_once }
+    /// A client that has just come, of whose requests the keys are sent by this plan.
+    pub fn new(alloc: Global, plan: KeyPlan) -> EventClient
+        ensures client { client_of result ≡ new_client plan }
         ensures here { awaits result ≡ [] }
         ensures ready { (config : Configuration) → IsReadyAfter config [] [] result }
     {
         EventClient {
-            answering: Answering::new(alloc, keys_at_once),
+            answering: Answering::new(alloc, plan),
             course: Course::Going,
             taken: 0,
         }
@@ -157,7 +158,14 @@ impl<'r, R: IoRuntime, H: Health, T: Trails, C> Talking<Lent<'r, R, H, T, C>> fo
         server: usize,
         came: Came,
     ) -> Option<Clear> {
-        let halt = take(lent.rt, &mut self.answering, &mut lent.parts, server, came);
+        let halt = take(
+            lent.rt,
+            lent.alloc,
+            &mut self.answering,
+            &mut lent.parts,
+            server,
+            came,
+        );
         self.course = halt.course;
         halt.asked
     }

@@ -68,7 +68,8 @@ fn has_output(session: &Session) -> bool
     !session.output().is_empty()
 }
 
-/// Makes one call: for the keys of a request that was handed over, or else of the session.
+/// Makes one call: for the keys of a request that was handed over, of which a request is made as
+/// soon as it can be; or else of the session.
 fn call_once<R: IoRuntime, H: Health, T: Trails, C>(
     rt: &R,
     alloc: Global,
@@ -83,8 +84,12 @@ fn call_once<R: IoRuntime, H: Health, T: Trails, C>(
 {
     match &mut it.keys {
         Some(keys) => {
-            if keys.may_begin() {
-                begin_key(rt, alloc, keys, parts)
+            if let Some(server) = keys.next_send() {
+                let sending = keys.send(alloc, server);
+                Went::Asks(sending.clear)
+            } else if keys.may_begin() {
+                begin_key(rt, alloc, keys, parts);
+                Went::On
             } else if keys.is_waiting() {
                 Went::Waits
             } else {

@@ -67,7 +67,7 @@ impl Halt {
 fn course_asking(it: &Answering) -> Course
     ensures { IsAsked result it.now }
 {
-    if it.may_ask_more() {
+    if it.may_do_more() {
         Course::Going
     } else {
         Course::Waits

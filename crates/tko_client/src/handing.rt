@@ -13,13 +13,13 @@ pub(crate) fn hand_over(alloc: Global, it: &mut Answering) -> Option<Went>
     ensures handed { IfSome result (λ went. HasHanded went it.old it.new) }
     ensures none { IfNone result (it.new ≡ it.old) }
 {
-    if it.most <= 1 {
+    if it.plan.most <= 1 {
         return None;
     }
     let Some(request) = it.session.hand_over() else {
         return None;
     };
-    match KeysAtOnce::new(alloc, request, it.most) {
+    match KeysAtOnce::new(alloc, request, it.plan) {
         Ok(keys) => {
             it.keys = Some(keys);
             Some(Went::On)

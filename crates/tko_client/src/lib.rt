@@ -9,8 +9,10 @@
 #![tactic(auto)]
 
 mod answering;
+mod arriving;
 mod calls;
 mod client;
+mod counting;
 mod going;
 mod halt;
 mod handing;
@@ -25,6 +27,8 @@ pub use law::each_lives;
 pub use lent::Lent;
 pub use sends::Sends;
 
+#[cfg(test)]
+mod group_tests;
 #[cfg(test)]
 mod keys_tests;
 #[cfg(test)]

@@ -1,7 +1,7 @@
 //! A client takes what came of a request of it.
-ghost use Rattle.std.specs.Prelude.{◌≡◌, ◌≢◌, ◌+◌, ◌<◌, ℕ, false, true, Err, IfErr, IfOk, IsOk, IsSome, None, Ok, length, slice_index};
-ghost use Rattle.tko_links.specs.Links.{is_sent, most_sends, part_of};
-ghost use Rattle.tko_reply.specs.Interactions.{with_links, with_noted};
+ghost use Rattle.std.specs.Prelude.{◌≡◌, ◌<◌, false, true, Err, IfErr, IfOk, IsOk, IsSome, None, Ok, length};
+ghost use Rattle.tko_links.specs.Links.{is_sent};
+ghost use Rattle.tko_reply.specs.Interactions.{with_noted};
 ghost use Rattle.tko_reply.specs.Standing.{Asking};
 ghost use Rattle.tko_mux.specs.Awaits.{times_due};
 ghost use Rattle.tko_session.specs.Driven.{IsAwaiting, dropped};
@@ -13,9 +13,11 @@ ghost use Rattle.tko_client.specs.Steps.{HasStayed, asked_in, client_ghosts};
 
 use crate::Sends;
 use crate::answering::Answering;
+use crate::arriving::{stop_keys, take_keys};
 use crate::calls::{Went, take_once};
+use crate::counting::{count_sends, tell_unsent};
 use crate::halt::Halt;
-use crate::keys::{stop_key, take_key};
+use std::alloc::Global;
 use tko_io::IoRuntime;
 use tko_links::Outcome;
 use tko_mux::Came;
@@ -26,6 +28,7 @@ use tko_session::{Parts, Session, Trails, observe_drop};
 /// Takes what came of a request to this server.
 pub(crate) fn take<R: IoRuntime, H: Health, T: Trails, C>(
     rt: &R,
+    alloc: Global,
     it: &mut Answering,
     parts: &mut Parts<H, Sends, T, C>,
     server: usize,
@@ -41,11 +44,11 @@ pub(crate) fn take<R: IoRuntime, H: Health, T: Trails, C>(
 {
     match outcome_of(came) {
         Ok(outcome) => {
-            let went = take_in(rt, it, parts, server, outcome);
+            let went = take_in(rt, alloc, it, parts, server, outcome);
             Halt::after(it, went)
         }
         Err(unsent) => {
-            let went = stop(rt, it, parts, server, unsent);
+            let went = stop(rt, alloc, it, parts, server, unsent);
             Halt::after(it, went)
         }
     }
@@ -69,9 +72,11 @@ fn outcome_of(came: Came) -> Result<Outcome, bool>
     }
 }
 
-/// Takes what came of a request that was sent to this server, and counts it.
+/// Takes what came of a request that was sent to this server, and counts it, once for each of its
+/// keys.
 fn take_in<R: IoRuntime, H: Health, T: Trails, C>(
     rt: &R,
+    alloc: Global,
     it: &mut Answering,
     parts: &mut Parts<H, Sends, T, C>,
     server: usize,
@@ -85,57 +90,32 @@ fn take_in<R: IoRuntime, H: Health, T: Trails, C>(
     ensures { IsTakenAs (client_ghosts H.Health T.Trails) H.servers false server (Ok outcome) result
         (it.old, parts.old) (it.new, parts.new) }
 {
-    count_send(rt, parts, server);
     match &mut it.keys {
-        Some(keys) => take_key(rt, keys, parts, server, outcome),
-        None => match take_once(rt, &mut it.session, parts, &mut it.told, outcome) {
-            Ok(went) => went,
-            Err(_) => Went::Short,
-        },
+        Some(keys) => {
+            take_keys(rt, alloc, keys, parts, server, outcome);
+            Went::On
+        }
+        None => {
+            count_sends(rt, parts, server, 1);
+            match take_once(rt, &mut it.session, parts, &mut it.told, outcome) {
+                Ok(went) => went,
+                Err(_) => Went::Short,
+            }
+        }
     }
 }
 
-/// Counts a send, and tells how often its server was sent to.
-fn count_send<R: IoRuntime, H, T: Trails, C>(
-    rt: &R,
-    parts: &mut Parts<H, Sends, T, C>,
-    server: usize,
-)
-    requires { server < length parts.old.backend.links }
-    ensures counted { (at : ℕ) → slice_index parts.new.backend.links at
-        ≡ slice_index parts.old.backend.links at + part_of true server at }
-    ensures room { slice_index parts.old.backend.links server ≢ most_sends }
-    ensures servers { length parts.new.backend.links ≡ length parts.old.backend.links }
-    ensures others { parts.new ≡ with_links parts.new.backend.links parts.old }
-{
-    parts.backend.links.room(rt, server);
-    parts.backend.links.count(rt, server);
-    parts.trails.sent(server, parts.backend.links.of(server));
-}
-
-/// Tells how often a server was sent to, where a send to it was not possible.
-fn tell_unsent<R: IoRuntime, H, T: Trails, C>(
-    rt: &R,
-    parts: &mut Parts<H, Sends, T, C>,
-    server: usize,
-)
-    requires { server < length parts.old.backend.links }
-    ensures room { slice_index parts.old.backend.links server ≢ most_sends }
-    ensures same { parts.new ≡ parts.old }
-{
-    parts.backend.links.room(rt, server);
-    parts.trails.sent(server, parts.backend.links.of(server));
-}
-
-/// Memory ran out for a request to this server, which is not counted: its session drops it, or no
-/// other key of it is begun.
+/// Memory ran out for a request to this server, which is not counted: its session drops it; or its
+/// keys are dropped, and no other is begun.
 fn stop<R: IoRuntime, H: Health, T: Trails, C>(
     rt: &R,
+    alloc: Global,
     it: &mut Answering,
     parts: &mut Parts<H, Sends, T, C>,
     server: usize,
     unsent: bool,
 ) -> Went
+    requires servers { H.servers parts.old.backend.health ≡ length parts.old.config.addresses }
     requires links { length parts.old.backend.links ≡ length parts.old.config.addresses }
     requires ready { IsAnsweringReady parts.old.config it.old }
     requires awaits { 0 < times_due (awaited_by it.old) server }
@@ -146,7 +126,7 @@ fn stop<R: IoRuntime, H: Health, T: Trails, C>(
     tell_unsent(rt, parts, server);
     match &mut it.keys {
         Some(keys) => {
-            stop_key(rt, keys, parts, server, unsent);
+            stop_keys(rt, alloc, keys, parts, server, unsent);
             Went::On
         }
         None => {

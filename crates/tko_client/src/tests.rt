@@ -7,6 +7,7 @@ use std::sync::Wait;
 use std::test::Fail;
 use std::time::Clock;
 use tko_io::FrozenClock;
+use tko_keys::{Grouping, KeyPlan};
 use tko_model::{OneGroup, Plain};
 use tko_mux::{Delivery, Mux};
 use tko_pipe::ShutCause;
@@ -55,16 +56,20 @@ fn two_clients<'r, R: Wait + Net<Stream = TcpStream> + Clock>(
     input: &[u8],
     room: usize,
 ) -> Result<MemoryMux<'r, R>, Fail> {
-    two_clients_with(rt, alloc, input, room, 1)
+    let plan = KeyPlan {
+        most: 1,
+        grouping: Grouping::ByKey,
+    };
+    two_clients_with(rt, alloc, input, room, plan)
 }
 
-/// The same, where so many keys of a request may be under way at once.
+/// The same, where the keys of a request are sent by this plan.
 pub(crate) fn two_clients_with<'r, R: Wait + Net<Stream = TcpStream> + Clock>(
     rt: &'r R,
     alloc: Global,
     input: &[u8],
     room: usize,
-    keys_at_once: usize,
+    plan: KeyPlan,
 ) -> Result<MemoryMux<'r, R>, Fail> {
     let shared = Shared {
         parts: Lent::new(rt, alloc, parts(alloc)?),
@@ -76,7 +81,7 @@ pub(crate) fn two_clients_with<'r, R: Wait + Net<Stream = TcpStream> + Clock>(
     for _ in 0..2 {
         mux.open(Guest {
             port: MemoryPort::new(alloc, input.to_vec(alloc)?, room),
-            talk: EventClient::new(alloc, keys_at_once),
+            talk: EventClient::new(alloc, plan),
             presence: Presence::Here,
         })?;
     }

@@ -1,4 +1,4 @@
-use Rattle.std.proofs.Common.{refl, rules, subst, sym}
+use Rattle.std.proofs.Common.{refl, subst, sym}
 use Rattle.tko_client.specs.Answerings.{IsIdle}
 use Rattle.tko_client.specs.Calls.{IsCalled}
 use Rattle.tko_client.specs.declared.calls.Went.TheVariants.{Short}

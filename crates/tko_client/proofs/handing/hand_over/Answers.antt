@@ -1,4 +1,4 @@
-use Rattle.std.proofs.Common.{arith, ap, refl, rules}
+use Rattle.std.proofs.Common.{arith, ap, refl}
 use Rattle.tko_client.specs.Handings.{refused, taken}
 use Rattle.tko_client.proofs.handing.hand_over.Goals as goal
 

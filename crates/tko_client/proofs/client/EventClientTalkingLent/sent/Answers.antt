@@ -1,6 +1,5 @@
 use Rattle.std.proofs.Common.{ap, refl}
 use Rattle.tko_model.proofs.RecordLemmas.{gains_none}
-use Rattle.tko_client.specs.declared.answering.Answering.{Answering}
 use Rattle.tko_client.specs.Clients.{phase_at}
 use Rattle.tko_client.specs.Staying.{no_change}
 use Rattle.tko_client.specs.Steps.{client_ghosts}
