@@ -1,5 +1,5 @@
 -- What `serve` runs on, and why its options name none of it.
-use Rattle.std.specs.Prelude.{◌≡◌, ℕ, length, true, false, Option, Some, string_bytes}
+use Rattle.std.specs.Prelude.{◌≡◌, ℕ, Bool, length, true, false, Option, Some, string_bytes}
 use Rattle.tko_model.specs.Ranges.{IsWithinRanges, first_fault}
 use Rattle.tko_model.specs.Settings.{Settings, in_one_group}
 use Rattle.tko_model.specs.declared.settings.SettingsFault.{SettingsFault}
@@ -7,6 +7,9 @@ use Rattle.tko_pools.specs.Addresses.{is_address}
 use Rattle.tko_pools.specs.Configs.{Configuration, Means, Refuses}
 use Rattle.tko_pools.specs.declared.fault.ConfigFault.{ConfigFault}
 use Rattle.tko_prober.specs.Delay.{IsRange}
+use Rattle.tko_keys.specs.declared.plan.Grouping.{Grouping}
+use Rattle.tko_keys.specs.declared.plan.Grouping.TheVariants.{ByKey, ByServer}
+use Rattle.tko_keys.specs.declared.plan.KeyPlan.{KeyPlan}
 use Rattle.tko_threads.specs.declared.patience.Patience.{Patience}
 use Rattle.tko_server.specs.declared.running.Options.{Options as Server}
 use Rattle.tko_options.specs.Trackers.{serve_settings}
@@ -24,6 +27,16 @@ serve_patience options = record {
   write_timeout = options.write_timeout;
   idle_timeout = options.idle_timeout;
 }
+
+-- how the keys of one request are sent: each in a request of its own, or those that go to one
+-- server in one
+abbrev pub serve_grouping : Bool → Grouping
+serve_grouping true = ByServer
+serve_grouping false = ByKey
+
+abbrev pub serve_keys : ServeOptions → KeyPlan
+serve_keys options =
+    record { most = options.keys_at_once; grouping = serve_grouping options.group_keys }
 
 -- what the options say of a tracker of a configuration's servers, as if these were in one group
 abbrev pub plan_options : ServeOptions → Configuration → Settings
@@ -43,8 +56,9 @@ pub record IsPlanned (options : ServeOptions) (plan : Plan) : Type 0 where
   pub greatest : plan.delays.greatest ≡ options.greatest_delay
   pub listen : is_address (string_bytes options.listen) ≡ true
 
--- a server of this plan, with the time limits, the limit of clients, the number of keys at once and
--- that of connections that the options name, in a process that may have `allowed` files open
+-- a server of this plan, with the time limits, the limit of clients, the number of keys at once,
+-- how these are sent, and the number of connections that the options name, in a process that may
+-- have `allowed` files open
 pub record IsServerOf (plan : Plan) (options : ServeOptions) (allowed : Option ℕ)
     (server : Server) : Type 0 where
   pub config : server.config ≡ plan.config
@@ -54,7 +68,7 @@ pub record IsServerOf (plan : Plan) (options : ServeOptions) (allowed : Option �
   pub patience : server.patience ≡ serve_patience options
   pub open_files : server.open_files ≡ allowed
   pub clients : server.clients ≡ options.clients
-  pub keys : server.keys_at_once ≡ options.keys_at_once
+  pub keys : server.keys ≡ serve_keys options
   pub connections : server.connections ≡ options.connections
 
 -- this is what is wrong with the JSON

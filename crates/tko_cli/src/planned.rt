@@ -1,9 +1,10 @@
 //! What `serve` runs on, read from its options before anything is opened.
 ghost use Rattle.std.specs.Prelude.{◌≡◌, IfOk, IfErr};
-ghost use Rattle.tko_cli.specs.Planned.{IsPlanned, IsServerOf, NoPlan, serve_patience};
+ghost use Rattle.tko_cli.specs.Planned.{IsPlanned, IsServerOf, NoPlan, serve_grouping, serve_keys, serve_patience};
 
 use std::alloc::Global;
 use tko_commands::{Fault, ListenFault, settings_over};
+use tko_keys::{Grouping, KeyPlan};
 use tko_model::Settings;
 use tko_options::ServeOptions;
 use tko_pools::{Config, is_address};
@@ -31,9 +32,30 @@ impl Plan {
             patience: patience_of(options),
             open_files,
             clients: options.clients,
-            keys_at_once: options.keys_at_once,
+            keys: keys_of(options),
             connections: options.connections,
         }
+    }
+}
+
+/// How the keys of one request are sent.
+fn keys_of(options: &ServeOptions) -> KeyPlan
+    ensures { result ≡ serve_keys options.now }
+{
+    KeyPlan {
+        most: options.keys_at_once as usize,
+        grouping: grouping_of(options.group_keys),
+    }
+}
+
+/// Whether the keys that go to one server go out in one request.
+fn grouping_of(group_keys: bool) -> Grouping
+    ensures { result ≡ serve_grouping group_keys }
+{
+    if group_keys {
+        Grouping::ByServer
+    } else {
+        Grouping::ByKey
     }
 }
 

@@ -1,5 +1,5 @@
 //! What the loop of an event-driven worker calls.
-ghost use Rattle.std.specs.Prelude.{◌≡◌, [], max, sum_by};
+ghost use Rattle.std.specs.Prelude.{◌≡◌, [], sum_by};
 ghost use Rattle.tko_io.specs.Io.{capped};
 ghost use Rattle.tko_client.specs.Clients.{IsReadyAfter, awaits, client_of, talk_of};
 ghost use Rattle.tko_pools.specs.Configs.{Configuration};
@@ -7,6 +7,7 @@ ghost use Rattle.tko_session.specs.Clients.{new_client};
 ghost use Rattle.tko_rounds.specs.Workers.{is_ready, parts_in};
 ghost use Rattle.tko_worker.specs.Counts.{no_ends};
 ghost use Rattle.tko_worker.specs.Workers.{IsInOrder};
+ghost use Rattle.tko_event_threads.specs.Hosts.{for_client};
 ghost use Rattle.tko_event_threads.specs.Turns.{IsTurnEnd};
 
 use crate::accounted::Accounted;
@@ -18,6 +19,7 @@ use tko_bytes::NoMemory;
 use tko_client::{EventClient, Lent};
 use tko_health::Health;
 use tko_io::IoRuntime;
+use tko_keys::KeyPlan;
 use tko_loop::{Host, Load};
 use tko_port::Port;
 use tko_roster::Visit;
@@ -29,8 +31,8 @@ use tko_worker::{EndCounts, EventWorker};
 pub(crate) struct EventHost<'r, R> {
     rt: &'r R,
     rounds: Rounds,
-    /// How many keys of a client's request are under way at most.
-    keys_at_once: u32,
+    /// How the keys of a client's request are sent.
+    keys: KeyPlan,
     /// The clients that could not be taken in since the last turn.
     refused: u64,
     /// How much the worker serves, if there was a walk since the last turn.
@@ -51,14 +53,14 @@ struct TurnEnd<'r, R> {
 }
 
 impl<'r, R: IoRuntime> EventHost<'r, R> {
-    /// No round was run yet. Of each client's request so many keys are under way at most.
-    pub(crate) fn new(rt: &'r R, rounds: Rounds, keys_at_once: u32) -> EventHost<'r, R>
-        ensures keys { result.keys_at_once ≡ keys_at_once }
+    /// No round was run yet. The keys of each client's request are sent so.
+    pub(crate) fn new(rt: &'r R, rounds: Rounds, keys: KeyPlan) -> EventHost<'r, R>
+        ensures keys { result.keys ≡ keys }
     {
         EventHost {
             rt,
             rounds,
-            keys_at_once,
+            keys,
             refused: 0,
             load: None,
         }
@@ -138,7 +140,7 @@ impl<'r, 'c, 'a, 'm, R: IoRuntime, H: Health, N: Opening, C: Drop> Host<
         &mut self,
         lent: &Lent<'c, R, H, Accounted<'a, 'm, N>, C>,
     ) -> Result<EventClient, NoMemory> {
-        Ok(make_client(lent.alloc, self.keys_at_once))
+        Ok(make_client(lent.alloc, self.keys))
     }
 
     fn round<L: Port + Drop>(
@@ -161,12 +163,16 @@ impl<'r, 'c, 'a, 'm, R: IoRuntime, H: Health, N: Opening, C: Drop> Host<
     }
 }
 
-/// A client that has just come. Of a request of it so many keys may be under way at once, and one
-/// in any case.
-fn make_client(alloc: Global, keys_at_once: u32) -> EventClient
-    ensures client { client_of result ≡ new_client (max keys_at_once 1) }
+/// A client that has just come. The keys of its requests are sent so, and one may be under way in
+/// any case.
+fn make_client(alloc: Global, keys: KeyPlan) -> EventClient
+    ensures client { client_of result ≡ new_client (for_client keys) }
     ensures here { awaits result ≡ [] }
     ensures ready { (config : Configuration) → IsReadyAfter config [] [] result }
 {
-    EventClient::new(alloc, keys_at_once.max(1) as usize)
+    let plan = KeyPlan {
+        most: keys.most.max(1),
+        grouping: keys.grouping,
+    };
+    EventClient::new(alloc, plan)
 }

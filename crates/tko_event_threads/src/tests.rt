@@ -12,6 +12,7 @@ use tko_accept::first_asks_of;
 use tko_desk::Book;
 use tko_events::WorkerLog;
 use tko_health::{LockedSeating, TrackerSettings};
+use tko_keys::{Grouping, KeyPlan};
 use tko_loop::{Addresses, Arrival, Entry, Handover, LoopLimits};
 use tko_model::{Counts, Kind, OneGroup};
 use tko_pools::Config;
@@ -115,7 +116,10 @@ fn work<R: Wait + Net<Stream = TcpStream, Listener = TcpListener> + Clock>(
         log: WorkerLog::off(),
         servers,
         limits: LIMITS,
-        keys_at_once: 1,
+        keys: KeyPlan {
+            most: 1,
+            grouping: Grouping::ByKey,
+        },
         way_in,
         first_ask,
     };

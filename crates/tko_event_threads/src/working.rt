@@ -17,6 +17,7 @@ use tko_client::{Lent, Sends};
 use tko_events::WorkerLog;
 use tko_health::{Health, Seating};
 use tko_io::IoRuntime;
+use tko_keys::KeyPlan;
 use tko_loop::{Addresses, Entry, EventLoop, Load, LoopLimits};
 use tko_pools::Config;
 use tko_prober::{Backend, Probers};
@@ -26,8 +27,8 @@ use tko_threads::{Account, Metered, WorkerReport, leave};
 
 /// What an event-driven worker works with: the seating that its seat is of, the configuration, the
 /// probers, its account, its end of the log and of the meter; and for its loop the addresses of the
-/// servers, the limits, how many keys of a request are asked for at once, where clients come, and
-/// with whom it reports that it asks for them.
+/// servers, the limits, how the keys of a request are sent, where clients come, and with whom it
+/// reports that it asks for them.
 #[derive(Drop)]
 pub struct EventParts<'a, S, K> {
     pub seating: &'a S,
@@ -37,8 +38,8 @@ pub struct EventParts<'a, S, K> {
     pub log: WorkerLog,
     pub servers: Vec<Addresses>,
     pub limits: LoopLimits,
-    /// How many keys of one request are under way at most.
-    pub keys_at_once: u32,
+    /// How the keys of one request are sent.
+    pub keys: KeyPlan,
     pub way_in: Entry<K>,
     pub first_ask: FirstAsk,
 }
@@ -48,7 +49,7 @@ pub struct EventParts<'a, S, K> {
 struct Ways<K> {
     servers: Vec<Addresses>,
     limits: LoopLimits,
-    keys_at_once: u32,
+    keys: KeyPlan,
     way_in: Entry<K>,
     first_ask: FirstAsk,
 }
@@ -104,7 +105,7 @@ fn work<N: Origin<H> + Opening, R: IoRuntime, H: Health + Drop, S: Seating<Worke
         log,
         servers,
         limits,
-        keys_at_once,
+        keys,
         way_in,
         first_ask,
     } = parts;
@@ -132,7 +133,7 @@ fn work<N: Origin<H> + Opening, R: IoRuntime, H: Health + Drop, S: Seating<Worke
     let ways = Ways {
         servers,
         limits,
-        keys_at_once,
+        keys,
         way_in,
         first_ask,
     };
@@ -170,11 +171,11 @@ fn serve_all<
     let Ways {
         servers,
         limits,
-        keys_at_once,
+        keys,
         way_in,
         first_ask,
     } = ways;
-    let mut host = EventHost::new(rt, rounds, keys_at_once);
+    let mut host = EventHost::new(rt, rounds, keys);
     lent.parts.trails.set_load(Some(Load::none()));
     let (lent, ran_out) = match EventLoop::new(rt, alloc, way_in, lent, servers, limits) {
         Ok(mut it) => {

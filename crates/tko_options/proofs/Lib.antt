@@ -1,3 +1,4 @@
 pub mod AskedLemmas
 pub mod CommandLineLemmas
+pub mod FitLemmas
 pub mod MisfitLemmas

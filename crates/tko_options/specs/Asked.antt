@@ -6,7 +6,7 @@ use Rattle.clap.specs.declared.parser.matches.ArgMatches.{ArgMatches}
 use Rattle.tko_options.specs.Commands.{IsCommandWith}
 use Rattle.tko_options.specs.Found.{AreCheckFound, AreDryFound, AreFound, is_log_place}
 use Rattle.tko_options.specs.Misfits.{AreMisread}
-use Rattle.tko_options.specs.Modes.{may_ask, may_limit}
+use Rattle.tko_options.specs.Modes.{may_ask, may_group, may_limit}
 use Rattle.tko_options.specs.Program.{program_app}
 use Rattle.tko_options.specs.declared.asked.Asked.{Asked}
 use Rattle.tko_options.specs.declared.asked.Asked.TheVariants as asked
@@ -37,6 +37,11 @@ may_limit_clients wanted = true
 abbrev pub may_ask_at_once : Asked → Bool
 may_ask_at_once (asked.Serve options) = may_ask options.mode options.keys_at_once
 may_ask_at_once wanted = true
+
+-- a server asks for keys of one server by one `get` only where its workers may
+abbrev pub may_group_keys : Asked → Bool
+may_group_keys (asked.Serve options) = may_group options.mode options.keys_at_once options.group_keys
+may_group_keys wanted = true
 
 -- what was asked for is what clap finds in the words, as it reads the program
 pub record IsReadFrom (words : List (List ℕ)) (wanted : Asked) : Type 0 where

@@ -54,12 +54,12 @@ config_file_option = record (text_option (codes "config-file")) { is_free = fals
 abbrev pub outcomes_option : Rule
 outcomes_option = record (text_option (codes "outcomes")) { defaults = [] ∷ [] }
 
--- `--trail`, a switch that is off by default
+-- `--name`, a switch that is off by default
+abbrev pub switch_option : Text → Rule
+switch_option name = record (new_rule name) { long = Some name; action = Some SetTrue }
+
 abbrev pub trail_option : Rule
-trail_option = record (new_rule (codes "trail")) {
-  long = Some (codes "trail");
-  action = Some SetTrue;
-}
+trail_option = switch_option (codes "trail")
 
 abbrev pub servers_option : Rule
 servers_option = number_option (codes "servers") default_servers

@@ -75,6 +75,7 @@ pub record AreFound (found : Found) (options : ServeOptions) : Type 0 where
   pub threads : IsNumberOr (default_workers options.mode) 32 found (codes "threads") options.threads
   pub clients : IsNumberIfAny 64 found (codes "clients") options.clients
   pub keys_at_once : IsNumberAt 32 found (codes "keys-at-once") options.keys_at_once
+  pub group_keys : IsSwitchAt found (codes "group-keys") options.group_keys
   pub connections : IsNumberAt 64 found (codes "connections") options.connections
   pub timeout : IsNumberAt 32 found (codes "timeout") options.timeout
   pub write_timeout : IsNumberAt 32 found (codes "write-timeout") options.write_timeout

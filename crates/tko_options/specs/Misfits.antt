@@ -1,18 +1,20 @@
 -- Words that clap takes, and that ask for nothing.
-use Rattle.std.specs.Prelude.{◌≡◌, ◌≢◌, ◌<◌, ℕ, List, [], Some, None, codes, false, is_some, true, unwrap_or}
+use Rattle.std.specs.Prelude.{◌≡◌, ◌≢◌, ◌<◌, ◌⊎◌, ℕ, List, [], Some, None, codes, false, is_some, string_bytes, true, unwrap_or}
 use Rattle.clap.specs.Words.{HasMatchesOf, first_value, one_text, subcommand_name_of}
 use Rattle.clap.specs.declared.parser.matches.ArgMatches.{ArgMatches}
 use Rattle.clap.specs.declared.parser.matches.Found.{Found}
 use Rattle.tko_options.specs.Commands.{IsCommandWith}
-use Rattle.tko_options.specs.Found.{IsNumberAt, is_log_place}
-use Rattle.tko_options.specs.Modes.{mode_at}
+use Rattle.tko_options.specs.Found.{IsNumberAt, IsSwitchAt, is_log_place}
+use Rattle.tko_options.specs.Modes.{may_ask, may_group, may_limit, mode_at}
 use Rattle.tko_options.specs.Program.{program_app}
 use Rattle.tko_options.specs.declared.mode.Mode.TheVariants as mode
 use Rattle.tko_options.specs.declared.refusal.Refusal.{Refusal}
 use Rattle.tko_options.specs.declared.refusal.Refusal.TheVariants as refusal
+use Rattle.tko_options.specs.declared.serve_options.ServeOptions.{ServeOptions}
 
 -- what is wrong with the options of `serve`: a log that goes nowhere, a mode that is none, a limit
--- of clients in threads, or several keys at once there
+-- of clients, several keys at once or grouped keys in threads, or grouped keys where one is asked for
+-- at once
 pub data IsMisfit (found : Found) : Type 0 where
   LogNowhere : is_log_place (unwrap_or (first_value found (codes "log")) []) ≡ false
       → IsMisfit found
@@ -21,12 +23,28 @@ pub data IsMisfit (found : Found) : Type 0 where
       → is_some (one_text found (codes "clients")) ≡ true → IsMisfit found
   KeysInThreads : mode_at found ≡ Some mode.Threads → (keys : ℕ)
       → IsNumberAt 32 found (codes "keys-at-once") keys → 1 < keys → IsMisfit found
+  GroupsInThreads : mode_at found ≡ Some mode.Threads → IsSwitchAt found (codes "group-keys") true
+      → IsMisfit found
+  GroupsOfOneKey : IsSwitchAt found (codes "group-keys") true → (keys : ℕ)
+      → IsNumberAt 32 found (codes "keys-at-once") keys → keys < 2 → IsMisfit found
 
--- they are refused for that, and no text is shown in place of a command
+-- options of `serve` that do not fit one another: the log goes nowhere, or they are for events and
+-- the mode is threads, or keys are grouped of which one is asked for at a time
+abbrev pub AreUnfit : ServeOptions → Type 0
+AreUnfit options = (is_log_place (string_bytes options.log) ≡ false)
+    ⊎ ((may_limit options.mode options.clients ≡ false)
+    ⊎ ((may_ask options.mode options.keys_at_once ≡ false)
+    ⊎ (may_group options.mode options.keys_at_once options.group_keys ≡ false)))
+
+-- words are refused for this reason, and no text is shown in place of a command
+abbrev pub IsRefusedAs : Type 0 → Refusal → Type 0
+IsRefusedAs reason (refusal.Answer text) = ⊥
+IsRefusedAs reason (refusal.Wrong text) = reason
+IsRefusedAs reason refusal.Memory = Unit {0}
+
+-- the options of `serve` are refused for what is wrong with them
 abbrev pub IsUnfit : Found → Refusal → Type 0
-IsUnfit found (refusal.Answer text) = ⊥
-IsUnfit found (refusal.Wrong text) = IsMisfit found
-IsUnfit found refusal.Memory = Unit {0}
+IsUnfit found = IsRefusedAs (IsMisfit found)
 
 -- what is wrong with a command: there is none, or the options of `serve` are wrong
 pub data IsMisread (matches : ArgMatches) : Type 0 where
@@ -38,9 +56,7 @@ pub data IsMisread (matches : ArgMatches) : Type 0 where
 
 -- it is refused for that
 abbrev pub IsRefusedFor : ArgMatches → Refusal → Type 0
-IsRefusedFor matches (refusal.Answer text) = ⊥
-IsRefusedFor matches (refusal.Wrong text) = IsMisread matches
-IsRefusedFor matches refusal.Memory = Unit {0}
+IsRefusedFor matches = IsRefusedAs (IsMisread matches)
 
 -- clap takes these words, and something is wrong with the command that they name
 pub record AreMisread (words : List (List ℕ)) : Type 0 where

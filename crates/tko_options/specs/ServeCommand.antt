@@ -3,7 +3,7 @@ use Rattle.std.specs.Prelude.{ℕ, true, pos, Some, [], ◌∷◌, codes}
 use Rattle.clap.specs.Words.{App, Rule, Text, new_app, with_rule}
 use Rattle.clap.specs.declared.builder.value_parser.ValueParser.{ValueParser}
 use Rattle.clap.specs.declared.builder.value_parser.ValueParser.TheVariants as parser
-use Rattle.tko_options.specs.CommandLine.{any_number, config_file_option, max_number, number_option, required_config, text_option, with_tracker}
+use Rattle.tko_options.specs.CommandLine.{any_number, config_file_option, max_number, number_option, required_config, switch_option, text_option, with_tracker}
 
 abbrev pub default_mode : Text
 default_mode = codes "events"
@@ -83,6 +83,10 @@ keys_option = record (number_option (codes "keys-at-once") default_keys_at_once)
   parser = Some (parser.Signed (pos 1) (pos max_keys_at_once));
 }
 
+-- `--group-keys`, a switch
+abbrev pub group_option : Rule
+group_option = switch_option (codes "group-keys")
+
 -- `--connections N`, a number of 64 bits
 abbrev pub connections_option : Rule
 connections_option = record (number_option (codes "connections") default_connections) {
@@ -101,8 +105,8 @@ with_ends app =
 -- how it serves its clients, and how many
 abbrev pub with_clients : App → App
 with_clients app =
-    with_rule (with_rule (with_rule (with_rule (with_rule app mode_option) threads_option)
-    clients_option) keys_option) connections_option
+    with_rule (with_rule (with_rule (with_rule (with_rule (with_rule app mode_option) threads_option)
+    clients_option) keys_option) group_option) connections_option
 
 -- how long it waits for a client
 abbrev pub with_patience : App → App

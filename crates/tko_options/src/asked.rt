@@ -1,6 +1,6 @@
 //! What the words of the command line ask for.
 ghost use Rattle.std.specs.Prelude.{◌≡◌, true, IfErr, IfOk, map, string_bytes};
-ghost use Rattle.tko_options.specs.Asked.{AsksFor, IsReadFrom, IsRefusal, may_ask_at_once, may_limit_clients, names_log};
+ghost use Rattle.tko_options.specs.Asked.{AsksFor, IsReadFrom, IsRefusal, may_ask_at_once, may_group_keys, may_limit_clients, names_log};
 ghost use Rattle.tko_options.specs.Misfits.{IsRefusedFor};
 
 use crate::check_options::CheckOptions;
@@ -30,6 +30,7 @@ impl Asked {
         ensures log { IfOk result (λ asked. names_log asked ≡ true) }
         ensures clients { IfOk result (λ asked. may_limit_clients asked ≡ true) }
         ensures keys { IfOk result (λ asked. may_ask_at_once asked ≡ true) }
+        ensures groups { IfOk result (λ asked. may_group_keys asked ≡ true) }
         ensures refused { IfErr result (IsRefusal (map string_bytes words.now)) }
     {
         match program(alloc)?.try_get_matches_from(words) {
@@ -44,6 +45,7 @@ impl Asked {
         ensures log { IfOk result (λ asked. names_log asked ≡ true) }
         ensures clients { IfOk result (λ asked. may_limit_clients asked ≡ true) }
         ensures keys { IfOk result (λ asked. may_ask_at_once asked ≡ true) }
+        ensures groups { IfOk result (λ asked. may_group_keys asked ≡ true) }
         ensures refused { IfErr result (IsRefusedFor matches.now) }
     {
         if let Some(found) = matches.subcommand_matches("serve") {

@@ -1,13 +1,13 @@
 //! The program as clap reads it, and the options that several commands have.
 ghost use Rattle.std.specs.Prelude.{◌≡◌, false, IfOk};
 ghost use Rattle.clap.specs.Words.{App, rule_of};
-ghost use Rattle.tko_options.specs.CommandLine.{IsOption, ReadsAs, config_file_option, number_option, replay_command, text_option, with_tracker};
+ghost use Rattle.tko_options.specs.CommandLine.{IsOption, ReadsAs, config_file_option, number_option, replay_command, switch_option, text_option, with_tracker};
 ghost use Rattle.tko_options.specs.Program.{named_program, program_app, titled_program};
 
 use crate::check_command::check;
 use crate::dry_command::dry;
 use crate::serve_command::serve;
-use clap::{Arg, Command, value_parser};
+use clap::{Arg, ArgAction, Command, value_parser};
 use std::alloc::{AllocError, Global};
 
 const DEFAULT_FAILURES: &str = "3";
@@ -107,6 +107,14 @@ pub(crate) fn text<'a>(alloc: Global, name: &'a str, value: &'a str) -> Arg<'a>
     ensures local { result.global ≡ false }
 {
     Arg::new(alloc, name).long(name).value_name(value)
+}
+
+/// `--name`, a switch that is off where it is not given.
+pub(crate) fn switch<'a>(alloc: Global, name: &'a str) -> Arg<'a>
+    ensures rule { rule_of result ≡ switch_option name.now }
+    ensures local { result.global ≡ false }
+{
+    Arg::new(alloc, name).long(name).action(ArgAction::SetTrue)
 }
 
 /// `--name N`, a number of 32 bits.

@@ -3,8 +3,8 @@ ghost use Rattle.std.specs.Prelude.{◌≡◌, false, IfOk};
 ghost use Rattle.clap.specs.Words.{App, rule_of};
 ghost use Rattle.tko_options.specs.CommandLine.{ReadsAs, config_option, dry_command, outcomes_option, servers_option, trail_option, with_script};
 
-use crate::command_line::{config_file, number, text, with_tracker};
-use clap::{Arg, ArgAction, Command};
+use crate::command_line::{config_file, number, switch, text, with_tracker};
+use clap::{Arg, Command};
 use std::alloc::{AllocError, Global};
 
 const DEFAULT_SERVERS: &str = "1";
@@ -70,8 +70,5 @@ fn trail<'a>(alloc: Global) -> Arg<'a>
     ensures rule { rule_of result ≡ trail_option }
     ensures local { result.global ≡ false }
 {
-    Arg::new(alloc, "trail")
-        .long("trail")
-        .action(ArgAction::SetTrue)
-        .help("Prints one line an attempt after the replies")
+    switch(alloc, "trail").help("Prints one line an attempt after the replies")
 }

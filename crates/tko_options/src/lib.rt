@@ -12,6 +12,7 @@ mod check_options;
 mod command_line;
 mod dry_command;
 mod dry_options;
+mod fits;
 mod found;
 mod mode;
 mod refusal;

@@ -2,9 +2,9 @@
 ghost use Rattle.std.specs.Prelude.{◌≡◌, false, IfOk};
 ghost use Rattle.clap.specs.Words.{App, rule_of};
 ghost use Rattle.tko_options.specs.CommandLine.{ReadsAs};
-ghost use Rattle.tko_options.specs.ServeCommand.{clients_option, connections_option, keys_option, mode_option, threads_option, with_clients, with_patience};
+ghost use Rattle.tko_options.specs.ServeCommand.{clients_option, connections_option, group_option, keys_option, mode_option, threads_option, with_clients, with_patience};
 
-use crate::command_line::{number, text};
+use crate::command_line::{number, switch, text};
 use crate::serve_command::{delay, from_one, limit};
 use clap::builder::ValueParser;
 use clap::{Arg, Command, value_parser};
@@ -35,6 +35,7 @@ pub(crate) fn with_clients<'a>(
         .arg(threads(alloc))?
         .arg(clients(alloc))?
         .arg(keys_at_once(alloc))?
+        .arg(group_keys(alloc))?
         .arg(connections(alloc))
 }
 
@@ -91,6 +92,17 @@ fn keys_at_once<'a>(alloc: Global) -> Arg<'a>
     let help = "How many keys of a request are asked for at once in events, 1 to 256";
     let keys = number(alloc, "keys-at-once", DEFAULT_KEYS_AT_ONCE, help);
     keys.value_parser(ValueParser::signed(KEYS_AT_ONCE.0, KEYS_AT_ONCE.1))
+}
+
+/// `--group-keys`.
+fn group_keys<'a>(alloc: Global) -> Arg<'a>
+    ensures rule { rule_of result ≡ group_option }
+    ensures local { result.global ≡ false }
+{
+    switch(alloc, "group-keys").help(
+        "Keys asked for at once that go to the same server go out as one get; with \
+            --keys-at-once from 2",
+    )
 }
 
 fn connections<'a>(alloc: Global) -> Arg<'a>

@@ -1,12 +1,12 @@
 //! The options of `serve`.
 ghost use Rattle.std.specs.Prelude.{◌≡◌, IfErr, IfOk, Some, bytes_eq, codes, string_bytes, true};
 ghost use Rattle.clap.specs.Words.{found_of};
-ghost use Rattle.tko_options.specs.Found.{AreFound, IsNumberAt, IsNumberIfAny, IsNumberOr, is_log_place};
+ghost use Rattle.tko_options.specs.Found.{AreFound, IsNumberAt, IsNumberIfAny, IsNumberOr, IsSwitchAt, is_log_place};
 ghost use Rattle.tko_options.specs.Misfits.{IsUnfit};
-ghost use Rattle.tko_options.specs.Modes.{default_workers, may_ask, may_limit, mode_at};
+ghost use Rattle.tko_options.specs.Modes.{default_workers, may_ask, may_group, may_limit, mode_at};
 ghost use Rattle.tko_options.specs.Trackers.{serve_settings};
 
-use crate::found::{number_of, optional_text, text_of};
+use crate::found::{number_of, optional_text, switch_of, text_of};
 use crate::mode::Mode;
 use crate::refusal::Refusal;
 use clap::ArgMatches;
@@ -14,15 +14,7 @@ use clap::error::ErrorKind;
 use std::alloc::{AllocError, Global};
 use tko_model::OneGroup;
 
-const LOG_NOWHERE: &str = "invalid value for '--log <WHERE>'\n  [possible values: stderr, off]";
-
 const NO_MODE: &str = "invalid value for '--mode <MODE>'\n  [possible values: threads, events]";
-
-const CLIENTS_IN_THREADS: &str =
-    "the argument '--clients <N>' cannot be used with '--mode threads'";
-
-const KEYS_IN_THREADS: &str =
-    "more than 1 of '--keys-at-once <N>' cannot be used with '--mode threads'";
 
 /// The options of `serve`.
 #[derive(Debug, Drop)]
@@ -40,6 +32,9 @@ pub struct ServeOptions {
     pub clients: Option<u64>,
     /// How many keys of a request are asked for at once; in threads 1.
     pub keys_at_once: u32,
+    /// Whether those of them that go to one server go out as one `get`; never in threads, nor
+    /// where one key is asked for at once.
+    pub group_keys: bool,
     /// After how many connections it ends; 0 for never.
     pub connections: u64,
     /// How long an exchange may take, in milliseconds.
@@ -64,27 +59,21 @@ pub struct ServeOptions {
 impl ServeOptions {
     /// Reads the options. clap's own parser of names takes a list by reference, which no definition
     /// of the command can name, so clap reads any text of `--log` and `--mode`.
-    #[tactic(auto, using(crate::proofs::MisfitLemmas::unfit_keys))]
+    #[tactic(auto, using(crate::proofs::MisfitLemmas::unfit))]
     pub(crate) fn of(alloc: Global, found: &ArgMatches<'_>) -> Result<ServeOptions, Refusal>
         ensures ok { IfOk result (AreFound (found_of found.now)) }
         ensures log { IfOk result (λ options. is_log_place (string_bytes options.log) ≡ true) }
         ensures clients { IfOk result (λ options. may_limit options.mode options.clients ≡ true) }
         ensures keys { IfOk result (λ options. may_ask options.mode options.keys_at_once ≡ true) }
+        ensures groups { IfOk result (λ options.
+            may_group options.mode options.keys_at_once options.group_keys ≡ true) }
         ensures err { IfErr result (IsUnfit (found_of found.now)) }
     {
         let Some(mode) = mode_of(found) else {
             return Err(Refusal::by(alloc, ErrorKind::InvalidValue, NO_MODE));
         };
         let options = ServeOptions::in_mode(alloc, found, mode)?;
-        if !options.names_log() {
-            return Err(Refusal::by(alloc, ErrorKind::InvalidValue, LOG_NOWHERE));
-        }
-        if !options.may_limit_clients() {
-            return Err(Refusal::by(alloc, ErrorKind::ArgumentConflict, CLIENTS_IN_THREADS));
-        }
-        if !options.may_ask_at_once() {
-            return Err(Refusal::by(alloc, ErrorKind::ArgumentConflict, KEYS_IN_THREADS));
-        }
+        options.check(alloc)?;
         Ok(options)
     }
 
@@ -105,6 +94,7 @@ impl ServeOptions {
             threads: threads_of(found, mode),
             clients: clients_of(found),
             keys_at_once: number_of(found, "keys-at-once"),
+            group_keys: switch_of(found, "group-keys"),
             connections: connections_of(found),
             timeout: number_of(found, "timeout"),
             write_timeout: number_of(found, "write-timeout"),
@@ -124,27 +114,6 @@ impl ServeOptions {
         ensures { result ≡ bytes_eq (string_bytes self.now.log) (codes "stderr") }
     {
         self.log.as_str() == "stderr"
-    }
-
-    /// Whether the event log goes where one can go.
-    fn names_log(&self) -> bool
-        ensures { result ≡ is_log_place (string_bytes self.now.log) }
-    {
-        self.has_log() || self.log.as_str() == "off"
-    }
-
-    /// Whether the number of clients may be limited, where it is.
-    fn may_limit_clients(&self) -> bool
-        ensures { result ≡ may_limit self.now.mode self.now.clients }
-    {
-        self.mode == Mode::Events || self.clients.is_none()
-    }
-
-    /// Whether so many keys of a request may be asked for at once.
-    fn may_ask_at_once(&self) -> bool
-        ensures { result ≡ may_ask self.now.mode self.now.keys_at_once }
-    {
-        self.mode == Mode::Events || self.keys_at_once <= 1
     }
 
     /// The settings of a tracker of `servers` servers without groups, with the limit of all that

@@ -43,7 +43,7 @@ pub record HasEventOptions {S : Type 0} (options : Options) (parts : EventParts 
     pub config : parts.config ≡ options.config
     pub servers : AreAt options.config.addresses parts.servers.items
     pub limits : parts.limits ≡ event_limits options
-    pub keys : parts.keys_at_once ≡ options.keys_at_once
+    pub keys : parts.keys ≡ options.keys
     pub probers : parts.probers ≡ no_probers options.delays (length options.config.addresses)
 
 -- ready at this tracker without a lock

@@ -122,7 +122,7 @@ impl<'o, N: Named> Shared<'o, N> {
             log,
             servers: self.event_servers(alloc)?,
             limits: limits_of(self.options),
-            keys_at_once: self.options.keys_at_once,
+            keys: self.options.keys,
             way_in,
             first_ask: first_ask.another()?,
         })

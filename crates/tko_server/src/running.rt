@@ -1,5 +1,6 @@
 //! The server over TCP.
-ghost use Rattle.std.specs.Prelude.{◌≡◌, ◌<◌, ◌-◌, ◌^◌, ◌↔◌, Err, IfOk, MatchOption, Some, unwrap_or};
+ghost use Rattle.std.specs.Prelude.{◌≡◌, ◌<◌, ◌↔◌, Err, IfOk, MatchOption, Some, unwrap_or};
+ghost use Rattle.tko_accept.specs.Allotments.{clients_without_limit};
 ghost use Rattle.tko_model.specs.Ranges.{first_fault};
 ghost use Rattle.tko_server.specs.Announcing.{IsAnnounced};
 ghost use Rattle.tko_server.specs.Closing.{HasEnded};
@@ -20,6 +21,7 @@ use tko_accept::Allotment;
 use tko_desk::Totals;
 use tko_events::Log;
 use tko_io::IoRuntime;
+use tko_keys::KeyPlan;
 use tko_model::{Settings, SettingsFault};
 use tko_pools::Config;
 use tko_prober::Delays;
@@ -41,8 +43,8 @@ pub struct Options {
     pub open_files: Option<u64>,
     /// How many clients event-driven workers have at most; `None` is what the descriptors allow.
     pub clients: Option<u64>,
-    /// How many keys of one request an event-driven worker asks for at once.
-    pub keys_at_once: u32,
+    /// How an event-driven worker sends the keys of one request.
+    pub keys: KeyPlan,
     /// How many connections are accepted; 0 is no limit.
     pub connections: u64,
 }
@@ -95,7 +97,7 @@ impl Options {
 /// How many clients may be connected, but one in any case.
 fn at_least_one(clients: Option<u64>) -> Option<u64>
     ensures some { MatchOption result (Unit {0}) (λ count. 0 < count) }
-    ensures asked { unwrap_or result (2 ^ 32 - 1) ≡ clients_asked clients }
+    ensures asked { unwrap_or result clients_without_limit ≡ clients_asked clients }
 {
     match clients {
         Some(count) => Some(count.max(1)),

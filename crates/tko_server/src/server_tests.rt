@@ -12,6 +12,7 @@ use std::thread::Threads;
 use std::time::{Clock, Duration};
 use std::{io, thread};
 use tko_desk::Totals;
+use tko_keys::{Grouping, KeyPlan};
 use tko_model::{Kind, OneGroup};
 use tko_pools::Config;
 use tko_prober::Delays;
@@ -102,7 +103,10 @@ fn options(alloc: Global, port: u16) -> Result<Options, Fail> {
         patience: PATIENCE,
         open_files: None,
         clients: None,
-        keys_at_once: 1,
+        keys: KeyPlan {
+            most: 1,
+            grouping: Grouping::ByKey,
+        },
         connections: 2,
     })
 }

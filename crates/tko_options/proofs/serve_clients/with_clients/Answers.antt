@@ -12,6 +12,8 @@ returns c app reads =
     c.clients.ensures.local c.clients.ensures.rule in
     let four = adds_option _ _ _ _ c.in_ok-arg-4.field-0 three c.in_ok-arg-4.ensures
     c.keys_at_once.ensures.local c.keys_at_once.ensures.rule in
-    IfOk-weaker c.arg-5.result _ _
-    (λ command added. adds_option _ _ _ _ command four added c.connections.ensures.local
-    c.connections.ensures.rule) c.arg-5.ensures
+    let five = adds_option _ _ _ _ c.in_ok-arg-5.field-0 four c.in_ok-arg-5.ensures
+    c.group_keys.ensures.local c.group_keys.ensures.rule in
+    IfOk-weaker c.arg-6.result _ _
+    (λ command added. adds_option _ _ _ _ command five added c.connections.ensures.local
+    c.connections.ensures.rule) c.arg-6.ensures
