@@ -102,7 +102,10 @@ def configuration(failover_exptime=60, **pools):
 
 
 def serve_words(port, config, options):
-    named = [word for name, value in options.items() for word in ("--" + name.replace("_", "-"), str(value))]
+    """An option that is True is a switch, which has no value."""
+    named = []
+    for name, value in options.items():
+        named += ["--" + name.replace("_", "-"), *([] if value is True else [str(value)])]
     return [PROGRAM, "serve", *MODE_WORDS, "--listen", f"{HOST}:{port}", "--config", config, *named]
 
 

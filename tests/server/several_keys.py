@@ -15,6 +15,9 @@ WHY = "there several keys may be under way"
 CAS = 7
 # How many keys are under way at once; few `get` of the tests have as many as the last.
 NUMBERS = [1, 2, 3, 256] if MODE == "events" else [1]
+# Each of these alone, and those that are more than one in one `get` for each server.
+GROUPED = {"group_keys": True}
+WAYS = [(number, {}) for number in NUMBERS] + [(number, GROUPED) for number in NUMBERS if number > 1]
 # How long a test waits for what comes at once on an idle machine, and how long nothing may come after it.
 SLACK, QUIET = 10, 0.3
 
@@ -36,8 +39,8 @@ def value_of(key):
 
 def found(_, request):
     """Each key has its value."""
-    word, key = request.split()
-    return values_of(word, (key, value_of(key)))
+    word, *keys = request.split()
+    return values_of(word, *((key, value_of(key)) for key in keys))
 
 
 def keys_on(place, servers, count, name=b"key"):
@@ -79,6 +82,10 @@ class KeysAtOnce(ServerTest):
         named = {f"pool{place}": pool for place, pool in enumerate(pools)}
         return self.proxy(configuration(**named), **{"threads": 1, **options})
 
+    def grouped(self, number, *pools, **options):
+        """The same, where keys that go to one server go out as one `get`."""
+        return self.over(number, *pools, **GROUPED, **options)
+
     def held(self, answer=found):
         """A server that keeps its answers, and what it keeps."""
         keeps = Held(answer)
@@ -91,3 +98,50 @@ class KeysAtOnce(ServerTest):
         wait_until(lambda: number() >= count, SLACK, f"{count} requests are under way")
         time.sleep(QUIET)
         self.assertEqual(number(), count)
+
+
+class Rows(KeysAtOnce):
+    """What a `get` of keys is answered each of which is of a kind: it has a value, has none, or is on a server that
+    gives an error or is down."""
+    KINDS = ("value", "missing", "error", "down")
+
+    def have(self, **keys):
+        """There are these keys, by their kind: as many of each kind as a row has places."""
+        self.keys = keys
+        self.kinds = {key: kind for kind, named in keys.items() for key in named}
+
+    def values_there(self, _, request):
+        """What a server answers that has the values."""
+        word, *keys = request.split()
+        return values_of(word, *((key, value_of(key)) for key in keys if self.kinds[key] == "value"))
+
+    def expected(self, word, keys):
+        """The values of all keys, or the whole reply to the first one that has no list of values."""
+        for key in keys:
+            if self.kinds[key] in ("error", "down"):
+                return BUSY if self.kinds[key] == "error" else NO_SERVER
+        return values_of(word, *((key, value_of(key)) for key in keys if self.kinds[key] == "value"))
+
+    def rows_of_three(self):
+        """Each kind at each place of three keys."""
+        kinds = itertools.product(self.KINDS, repeat=3)
+        return [[self.keys[kind][place] for place, kind in enumerate(row)] for row in kinds]
+
+    def rows_with_a_key_twice(self):
+        rows = []
+        for kind, other in itertools.product(self.KINDS, repeat=2):
+            twice, once = self.keys[kind][0], self.keys[other][1]
+            rows += [[twice, twice], [twice, twice, once], [twice, once, twice], [once, twice, twice],
+                     [twice, twice, twice]]
+        return rows
+
+    def rows_of_one(self):
+        return [[keys[0]] for keys in self.keys.values()]
+
+    def each_row(self, proxy, rows, **way):
+        """Is answered as it is to be, by one client. Nothing is left that its next request could take for its own."""
+        with proxy.client() as client:
+            for word, keys in itertools.product((b"get", b"gets"), rows):
+                with self.subTest(word=word, kinds=[self.kinds[key] for key in keys], **way):
+                    self.assertEqual(client.ask(get(*keys, word=word)), self.expected(word, keys))
+            self.assertEqual(client.ask(b"version\r\n"), b"VERSION tkoproxy 1\r\n")

@@ -6,60 +6,35 @@ import random
 from fakes import key_of
 from parts import only_in
 from ports import wait_until
-from several_keys import (BUSY, NO_SERVER, NUMBERS, QUIET, SLACK, WHY, KeysAtOnce, found, get, keys_on, value_of,
+from several_keys import (BUSY, NUMBERS, QUIET, SLACK, WHY, KeysAtOnce, Rows, found, get, keys_on, value_of,
                           values_of)
 from talk import values
 
 
-class Replies(KeysAtOnce):
-    """What a `get` of keys is answered each of which has a value, has none, gets an error of its server, or is on a
-    server that is down."""
-
+class Replies(Rows):
     def setUp(self):
         up, down = self.fake(self.answer), self.closed()
         self.servers = [up, down]
-        there, gone = (iter(keys_on(place, 2, 20)) for place in (0, 1))
-        # By kind, a key for each place.
-        self.keys = {kind: [next(gone if kind == "down" else there) for _ in range(3)]
-                     for kind in ("value", "missing", "error", "down")}
-        self.kinds = {key: kind for kind, keys in self.keys.items() for key in keys}
+        there, gone = keys_on(0, 2, 9), keys_on(1, 2, 3)
+        self.have(value=there[:3], missing=there[3:6], error=there[6:], down=gone)
 
-    def answer(self, _, request):
-        word, key = request.split()
-        return {"value": values_of(word, (key, value_of(key))), "missing": b"END\r\n", "error": BUSY}[self.kinds[key]]
+    def answer(self, connection, request):
+        return BUSY if self.kinds[key_of(request)] == "error" else self.values_there(connection, request)
 
-    def expected(self, word, keys):
-        """The values of all keys, or the whole reply to the first one that has no list of values."""
-        for key in keys:
-            if self.kinds[key] in ("error", "down"):
-                return BUSY if self.kinds[key] == "error" else NO_SERVER
-        return values_of(word, *((key, value_of(key)) for key in keys if self.kinds[key] == "value"))
-
-    def each_row(self, rows):
+    def over_each(self, rows):
         for number in NUMBERS:
             proxy = self.over(number, self.servers)
-            with proxy.client() as client:
-                for word, keys in itertools.product((b"get", b"gets"), rows):
-                    with self.subTest(number=number, word=word, kinds=[self.kinds[key] for key in keys]):
-                        self.assertEqual(client.ask(get(*keys, word=word)), self.expected(word, keys))
-                # Nothing is left that the next request could take for its own.
-                self.assertEqual(client.ask(b"version\r\n"), b"VERSION tkoproxy 1\r\n")
+            self.each_row(proxy, rows, number=number)
             self.assertEqual(proxy.marks()[self.servers[0].address], "up:0")
 
     def test_each_kind_at_each_place_of_three_keys(self):
-        kinds = itertools.product(self.keys, repeat=3)
-        self.each_row([[self.keys[kind][place] for place, kind in enumerate(row)] for row in kinds])
+        self.over_each(self.rows_of_three())
 
     def test_a_key_that_is_asked_for_twice(self):
-        rows = []
-        for kind, other in itertools.product(self.keys, repeat=2):
-            twice, once = self.keys[kind][0], self.keys[other][1]
-            rows += [[twice, twice], [twice, twice, once], [twice, once, twice], [once, twice, twice],
-                     [twice, twice, twice]]
-        self.each_row(rows)
+        self.over_each(self.rows_with_a_key_twice())
 
     def test_one_key_alone(self):
-        self.each_row([[keys[0]] for keys in self.keys.values()])
+        self.over_each(self.rows_of_one())
 
     def test_each_key_that_is_asked_for_is_counted(self):
         """Also those behind the first one, which fails and is the whole reply."""

@@ -6,7 +6,7 @@ import time
 from fakes import key_of
 from parts import MODE, only_in
 from ports import wait_until
-from several_keys import NO_SERVER, NUMBERS, QUIET, SLACK, WHY, KeysAtOnce, found, get, keys_on, value_of
+from several_keys import NO_SERVER, QUIET, SLACK, WAYS, WHY, KeysAtOnce, found, get, keys_on, value_of
 from talk import fnv1a, store, values
 
 MIB = 1_048_576
@@ -200,17 +200,17 @@ class Large(KeysAtOnce):
         self.servers = [self.memcached("-I", "2m", "-m", "256") for _ in range(3)]
 
     def test_values_of_a_mebibyte(self):
-        for number in NUMBERS:
-            with self.subTest(number=number), self.over(number, self.servers).client() as client:
+        for number, way in WAYS:
+            with self.subTest(number=number, **way), self.over(number, self.servers, **way).client() as client:
                 for key in self.keys:
                     self.assertEqual(client.ask(store(key, self.value)), b"STORED\r\n")
                 for _ in range(3):
                     self.assertTrue(client.ask(get(*self.keys)) == values(*((key, self.value) for key in self.keys)))
 
     def test_beside_small_ones_and_a_client_that_reads_slowly(self):
-        for number in NUMBERS:
-            proxy = self.over(number, self.servers)
-            with self.subTest(number=number), proxy.client() as slow, proxy.client() as other:
+        for number, way in WAYS:
+            proxy = self.over(number, self.servers, **way)
+            with self.subTest(number=number, **way), proxy.client() as slow, proxy.client() as other:
                 for key in self.keys[:4]:
                     self.assertEqual(slow.ask(store(key, self.value)), b"STORED\r\n")
                 self.assertEqual(slow.ask(store(b"small", b"x")), b"STORED\r\n")

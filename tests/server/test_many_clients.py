@@ -18,6 +18,8 @@ SPARE = 200
 SLACK = 10
 LARGE = b"x" * 100_000
 MIB = b"y" * 1_000_000
+# More failures in a row than a server's death makes of the connections to it, and fewer than the requests that wait then.
+ABOVE_CONNECTIONS = 50
 
 
 @only_in("events", "there a worker serves many clients at once")
@@ -125,8 +127,10 @@ class ManyUnderFailures(ServerTest):
     def setUp(self):
         self.near, self.far = self.memcached(), self.memcached()
         self.allow_files(1000 + SPARE)
+
+    def begin(self, **options):
         self.through = self.proxy(configuration(near=[self.near], far=[self.far]), threads=WORKERS, timeout=1000,
-                                  first_delay=300, greatest_delay=300)
+                                  first_delay=300, greatest_delay=300, **options)
         self.crowd = Crowd(self.through.port, 1000)
         self.addCleanup(self.crowd.stop)
         self.all_are_answered()
@@ -158,6 +162,7 @@ class ManyUnderFailures(ServerTest):
         return [re.search(r" mark=(\w+)", line).group(1) for line in lines]
 
     def test_a_server_that_is_killed_comes_back(self):
+        self.begin(failures=ABOVE_CONNECTIONS)
         self.near.kill()
         wait_until(lambda: self.mark().startswith("hard"), SLACK, "the killed server is marked")
         self.all_are_answered()
@@ -166,6 +171,7 @@ class ManyUnderFailures(ServerTest):
         self.ends_well()
 
     def test_a_server_that_is_stopped_comes_back(self):
+        self.begin()
         self.near.pause()
         wait_until(lambda: self.mark().startswith("soft"), 3 + SLACK, "the stopped server is marked")
         self.all_are_answered()
@@ -174,6 +180,9 @@ class ManyUnderFailures(ServerTest):
         self.ends_well()
 
     def test_a_server_that_restarts_is_not_marked_soft(self):
+        """A connection that ends is one failure, and not one for each request that waits on it. A server that dies may
+        have accepted some more connections meanwhile, which are failures of their own."""
+        self.begin(failures=ABOVE_CONNECTIONS)
         for _ in range(5):
             self.near.kill()
             self.near.start()
@@ -184,6 +193,7 @@ class ManyUnderFailures(ServerTest):
         self.assertLessEqual(set(self.marks_made()), {"hard"})
 
     def test_each_server_has_a_connection_of_each_worker(self):
+        self.begin(failures=ABOVE_CONNECTIONS)
         self.assertEqual(self.through.connections_to(self.near), WORKERS)
         self.near.kill()
         wait_until(lambda: self.mark().startswith("hard"), SLACK, "the killed server is marked")
