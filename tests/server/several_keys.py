@@ -2,6 +2,7 @@
 keeps its answers, and the proxy over such servers. A number of 1 is the program's default, and no option is given."""
 import collections
 import itertools
+import random
 import time
 
 from fakes import key_of
@@ -90,6 +91,18 @@ class KeysAtOnce(ServerTest):
         """A server that keeps its answers, and what it keeps."""
         keeps = Held(answer)
         return self.fake(keeps.behave), keeps
+
+    def many_clients_get_their_own_values(self, proxy, names, seed):
+        """Over the same few connections, with keys that the clients have in common, and that some name twice."""
+        choice = random.Random(seed)
+        clients = [self.client(proxy.port) for _ in range(40)]
+        for _ in range(10):
+            asked = [choice.choices(names, k=choice.choice([2, 7, 30])) for _ in clients]
+            for client, keys in zip(clients, asked):
+                client.send(get(*keys))
+            for client, keys in zip(clients, asked):
+                self.assertEqual(client.reply(), values_of(b"get", *((key, value_of(key)) for key in keys)))
+        self.assertEqual(set(proxy.marks().values()), {"up:0"})
 
     def are_waiting(self, count, *held):
         """So many requests have come to these servers together, and then no more come."""

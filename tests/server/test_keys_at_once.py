@@ -173,16 +173,6 @@ class UnderWay(KeysAtOnce):
                     self.assertEqual(client.reply(), values_of(word, *((key, value_of(key)) for key in keys)))
 
     def test_many_clients_get_their_own_values(self):
-        """Over the same few connections, with keys that they have in common."""
         servers = [self.fake(found) for _ in range(3)]
-        proxy = self.over(8, servers, threads=2)
-        choice = random.Random(48)
         names = [b"shared-%d" % number for number in range(100)]
-        clients = [self.client(proxy.port) for _ in range(40)]
-        for _ in range(10):
-            asked = [choice.choices(names, k=choice.choice([2, 7, 30])) for _ in clients]
-            for client, keys in zip(clients, asked):
-                client.send(get(*keys))
-            for client, keys in zip(clients, asked):
-                self.assertEqual(client.reply(), values(*((key, value_of(key)) for key in keys)))
-        self.assertEqual(set(proxy.marks().values()), {"up:0"})
+        self.many_clients_get_their_own_values(self.over(8, servers, threads=2), names, 48)

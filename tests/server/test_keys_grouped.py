@@ -150,19 +150,9 @@ class Requests(KeysAtOnce):
         self.assert_asked(server, get(b"a", b"b"), get(b"b", b"c"))
 
     def test_many_clients_get_their_own_values(self):
-        """Over the same few connections, with keys that they have in common, and with keys that they name twice."""
         servers = [self.fake(found) for _ in range(3)]
-        proxy = self.grouped(8, servers, threads=2)
-        choice = random.Random(51)
         names = [b"shared-%d" % number for number in range(40)]
-        clients = [self.client(proxy.port) for _ in range(40)]
-        for _ in range(10):
-            asked = [choice.choices(names, k=choice.choice([2, 7, 30])) for _ in clients]
-            for client, keys in zip(clients, asked):
-                client.send(get(*keys))
-            for client, keys in zip(clients, asked):
-                self.assertEqual(client.reply(), values_of(b"get", *((key, value_of(key)) for key in keys)))
-        self.assertEqual(set(proxy.marks().values()), {"up:0"})
+        self.many_clients_get_their_own_values(self.grouped(8, servers, threads=2), names, 51)
 
     def test_a_server_that_is_slow_with_a_line_gets_the_next_one_behind_it(self):
         quick, (slow, held) = self.fake(found), self.held()
